@@ -1,0 +1,113 @@
+-- Laws of the first index at which a test holds, and of a loop that seeks it. Assumes nothing.
+use Prim.Native.Nat.{ℕ, zero, suc, _+_, _≤_, _<_}
+use native.Mathlib.Omega.{arith}
+use native.Mathlib.Decide.{ℕ-discrete, decLt}
+use mathlib.Core.Path.{_≡_, refl, sym, _∙_, ap, subst}
+use mathlib.Core.Bool.{Bool, true, false}
+use mathlib.Core.Logic.{_⊎_, inl, inr}
+use mathlib.Core.Option.{Option, none, some, Option·some-injective, Option·some-ne-none}
+use Rattle.answers.specs.First.{found, firstFrom, firstWhere, Least}
+use Rattle.answers.proofs.Bools.{clash}
+
+-- the least of the n numbers from a on
+record LeastFrom (p : ℕ → Bool) (a n m : ℕ) : Type 0 where
+  low : a ≤ m
+  below : m < a + n
+  holds : p m ≡ true
+  first : (k : ℕ) → a ≤ k → k < m → p k ≡ false
+
+NoneFrom : (ℕ → Bool) → ℕ → ℕ → Type 0
+NoneFrom p a n = (k : ℕ) → a ≤ k → k < a + n → p k ≡ false
+
+-- one or the other, with what is then found; every law below is read off this
+from-cases : (p : ℕ → Bool) (a n : ℕ) → ((m : ℕ) × LeastFrom p a n m × (firstFrom p a n ≡ some m)) ⊎ (NoneFrom p a n × (firstFrom p a n ≡ none))
+unfolding firstFrom NoneFrom
+from-cases p a zero = inr (λ k lo hi. absurd (omega arith), refl)
+from-cases p a (suc n) = by (p a) refl (from-cases p (suc a) n)
+  where
+    split : {m : ℕ} → p a ≡ false → ((k : ℕ) → suc a ≤ k → k < m → p k ≡ false) → (k : ℕ) → a ≤ k → k < m → p k ≡ false
+    split q h k lo hi = at (ℕ-discrete k a)
+      where
+        at : Dec (k ≡ a) → p k ≡ false
+        at (yes e) = ap p e ∙ q
+        at (no e) = h k (omega arith) hi
+
+    by : (t : Bool) → p a ≡ t → ((m : ℕ) × LeastFrom p (suc a) n m × (firstFrom p (suc a) n ≡ some m)) ⊎ (NoneFrom p (suc a) n × (firstFrom p (suc a) n ≡ none)) → ((m : ℕ) × LeastFrom p a (suc n) m × (found t a (firstFrom p (suc a) n) ≡ some m)) ⊎ (NoneFrom p a (suc n) × (found t a (firstFrom p (suc a) n) ≡ none))
+    by true q r = inl (a, record { low = omega arith; below = omega arith; holds = q; first = λ k lo hi. absurd (omega arith) }, refl)
+    by false q (inl r) = let l = r .1 in inl (r .0, record { low = omega arith; below = omega arith; holds = l .holds; first = split q (l .first) }, r .2)
+    by false q (inr r) = inr (split q (λ k lo hi. r .0 k lo (omega arith)), r .1)
+
+module _ (p : ℕ → Bool) (n : ℕ) where
+  first-cases : ((m : ℕ) × Least p n m × (firstWhere p n ≡ some m)) ⊎ (((k : ℕ) → k < n → p k ≡ false) × (firstWhere p n ≡ none))
+  unfolding NoneFrom
+  first-cases = by (from-cases p 0 n)
+    where
+      by : ((m : ℕ) × LeastFrom p 0 n m × (firstFrom p 0 n ≡ some m)) ⊎ (NoneFrom p 0 n × (firstFrom p 0 n ≡ none)) → ((m : ℕ) × Least p n m × (firstWhere p n ≡ some m)) ⊎ (((k : ℕ) → k < n → p k ≡ false) × (firstWhere p n ≡ none))
+      by (inl r) = let l = r .1 in inl (r .0, record { below = omega arith; holds = l .holds; first = λ k h. l .first k (omega arith) h }, r .2)
+      by (inr r) = inr (λ k h. r .0 k (omega arith) (omega arith), r .1)
+
+  -- the least, or none
+  pub least : ((m : ℕ) × Least p n m) ⊎ ((k : ℕ) → k < n → p k ≡ false)
+  least = by first-cases
+    where
+      by : ((m : ℕ) × Least p n m × (firstWhere p n ≡ some m)) ⊎ (((k : ℕ) → k < n → p k ≡ false) × (firstWhere p n ≡ none)) → ((m : ℕ) × Least p n m) ⊎ ((k : ℕ) → k < n → p k ≡ false)
+      by (inl r) = inl (r .0, r .1)
+      by (inr r) = inr (r .0)
+
+  pub first-none : firstWhere p n ≡ none → (k : ℕ) → k < n → p k ≡ false
+  first-none e = by first-cases
+    where
+      by : ((m : ℕ) × Least p n m × (firstWhere p n ≡ some m)) ⊎ (((k : ℕ) → k < n → p k ≡ false) × (firstWhere p n ≡ none)) → (k : ℕ) → k < n → p k ≡ false
+      by (inl r) = absurd (Option·some-ne-none (r .0) (sym (r .2) ∙ e))
+      by (inr r) = r .0
+
+  pub none-first : ((k : ℕ) → k < n → p k ≡ false) → firstWhere p n ≡ none
+  none-first h = by first-cases
+    where
+      by : ((m : ℕ) × Least p n m × (firstWhere p n ≡ some m)) ⊎ (((k : ℕ) → k < n → p k ≡ false) × (firstWhere p n ≡ none)) → firstWhere p n ≡ none
+      by (inl r) = clash (r .1 .holds) (h (r .0) (r .1 .below))
+      by (inr r) = r .1
+
+  pub first-some : (m : ℕ) → firstWhere p n ≡ some m → Least p n m
+  first-some m e = by first-cases
+    where
+      by : ((m : ℕ) × Least p n m × (firstWhere p n ≡ some m)) ⊎ (((k : ℕ) → k < n → p k ≡ false) × (firstWhere p n ≡ none)) → Least p n m
+      by (inl r) = subst (Least p n) (Option·some-injective (r .0) m (sym (r .2) ∙ e)) (r .1)
+      by (inr r) = absurd (Option·some-ne-none m (sym e ∙ r .1))
+
+  pub some-first : {m : ℕ} → Least p n m → firstWhere p n ≡ some m
+  some-first {m} l = by first-cases
+    where
+      one : (i j : ℕ) → Least p n i → Least p n j → i < j → ⊥
+      one i j f g h = clash (f .holds) (g .first i h)
+
+      by : ((m : ℕ) × Least p n m × (firstWhere p n ≡ some m)) ⊎ (((k : ℕ) → k < n → p k ≡ false) × (firstWhere p n ≡ none)) → firstWhere p n ≡ some m
+      by (inr r) = clash (l .holds) (r .0 m (l .below))
+      by (inl r) = r .2 ∙ ap some (same (decLt (r .0) m) (decLt m (r .0)))
+        where
+          same : Dec (r .0 < m) → Dec (m < r .0) → r .0 ≡ m
+          same (yes h) d = absurd (one (r .0) m (r .1) l h)
+          same (no h) (yes k) = absurd (one m (r .0) l (r .1) k)
+          same (no h) (no k) = omega arith
+
+-- at the head of a loop that seeks the first: the test holds nowhere below i
+pub record Seeking (p : ℕ → Bool) (n i : ℕ) : Type 0 where
+  pub within : i ≤ n
+  pub none-yet : (k : ℕ) → k < i → p k ≡ false
+
+pub seek-start : {p : ℕ → Bool} {n : ℕ} → Seeking p n 0
+seek-start = record { within = omega arith; none-yet = λ k h. absurd (omega arith) }
+
+module _ {p : ℕ → Bool} {n i : ℕ} (s : Seeking p n i) where
+  pub seek-on : i < n → p i ≡ false → Seeking p n (i + 1)
+  seek-on h q = record { within = omega arith; none-yet = λ k l. by k l (ℕ-discrete k i) }
+    where
+      by : (k : ℕ) → k < i + 1 → Dec (k ≡ i) → p k ≡ false
+      by k l (yes e) = ap p e ∙ q
+      by k l (no e) = s .none-yet k (omega arith)
+
+  pub seek-found : i < n → p i ≡ true → some i ≡ firstWhere p n
+  seek-found h q = sym (some-first p n (record { below = h; holds = q; first = s .none-yet }))
+
+  pub seek-none : n ≤ i → none ≡ firstWhere p n
+  seek-none h = let w = s .within in sym (none-first p n (λ k l. s .none-yet k (omega arith)))

@@ -1,0 +1,4 @@
+-- Laws that the crates above share.
+pub mod Bools
+pub mod First
+pub mod Rows

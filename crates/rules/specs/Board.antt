@@ -1,0 +1,88 @@
+-- The board of a grid: all that the rules (and what stands on them) know of it.
+use Prim.Native.Nat.{ℕ, zero, suc, _+_, _*_, _-_, _%_}
+use lib.Dec.{leb, ltb}
+use mathlib.Core.Bool.{Bool, true, false, _&&_}
+use mathlib.Core.Option.{Option, none, some}
+use mathlib.Core.List.{List, [], _∷_, _++_}
+use Rattle.rules.specs.declared.Direction.{Direction}
+use Rattle.rules.specs.declared.Direction.the-variants.{North as north, East as east, South as south, West as west}
+use Rattle.rules.specs.declared.Cell.{Cell}
+use Rattle.rules.specs.declared.Cell.the-variants.{Open, Clue as Clued}
+use Rattle.rules.specs.declared.Grid.{Grid}
+use Rattle.rules.specs.Record.{Puzzle, puzzle, sides}
+
+-- a clue on the board: its cell, its number, and its line, the cell nearest the edge first
+pub record Clue : Type 0 where
+  pub cell : ℕ
+  pub number : ℕ
+  pub line : List ℕ
+
+-- the number of cells, which are open, the neighbour in a direction, and the clues in cell order
+pub record Board : Type 0 where
+  pub size : ℕ
+  pub isOpen : ℕ → Bool
+  pub next : Direction → ℕ → Option ℕ
+  pub clues : List Clue
+
+abbrev pub when : Bool → ℕ → Option ℕ
+when true x = some x
+when false x = none
+
+-- is there a cell in that direction
+abbrev pub inside : Puzzle → Direction → ℕ → Bool
+inside p north x = leb (p .columns) x
+inside p east x = ltb (x % p .columns + 1) (p .columns)
+inside p south x = ltb (x + p .columns) (p .rows * p .columns)
+inside p west x = ltb 0 (x % p .columns)
+
+abbrev pub target : Puzzle → Direction → ℕ → ℕ
+target p north x = x - p .columns
+target p east x = x + 1
+target p south x = x + p .columns
+target p west x = x - 1
+
+-- a cell's neighbour in a direction, if any
+abbrev pub neighbour : Puzzle → Direction → ℕ → Option ℕ
+neighbour p d x = when (ltb x (p .rows * p .columns) && inside p d x) (target p d x)
+
+abbrev pub openCell : Cell → Bool
+openCell Open = true
+openCell (Clued d n) = false
+
+-- no cell beyond the list is open
+abbrev pub openAt : List Cell → ℕ → Bool
+openAt [] x = false
+openAt (c ∷ cs) zero = openCell c
+openAt (c ∷ cs) (suc x) = openAt cs x
+
+abbrev pub beyond : Option ℕ → List ℕ → (ℕ → List ℕ) → List ℕ
+beyond none seen go = seen
+beyond (some y) seen go = go y
+
+-- the cells met from x on in a direction, the last met first; at most `fuel` of them
+unfoldable pub outward : Puzzle → Direction → ℕ → ℕ → List ℕ → List ℕ
+outward p d zero x seen = seen
+outward p d (suc fuel) x seen = beyond (neighbour p d x) seen (λ y. outward p d fuel y (y ∷ seen))
+
+-- the line of a clue: every cell from its neighbour in that direction to the board's edge; as many steps as cells are enough (`line-ends`)
+abbrev pub line : Puzzle → Direction → ℕ → List ℕ
+line p d x = outward p d (p .rows * p .columns) x []
+
+abbrev pub clueOf : Puzzle → ℕ → Cell → List Clue
+clueOf p x Open = []
+clueOf p x (Clued d n) = record { cell = x; number = n; line = line p d x } ∷ []
+
+-- the clues among the cells from x on, in cell order
+abbrev pub cluesFrom : Puzzle → ℕ → List Cell → List Clue
+cluesFrom p x [] = []
+cluesFrom p x (c ∷ cs) = clueOf p x c ++ cluesFrom p (suc x) cs
+
+abbrev pub board : Puzzle → Board
+board p = record { size = p .rows * p .columns; isOpen = openAt (p .cells); next = neighbour p; clues = cluesFrom p 0 (p .cells) }
+
+-- the board of a grid whose sides were read, and of a record
+abbrev pub gridBoard : Grid → List ℕ → Board
+gridBoard g s = board (puzzle g s)
+
+abbrev pub boardOf : List ℕ → Board
+boardOf s = gridBoard (sides s) s

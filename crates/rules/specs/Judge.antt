@@ -1,0 +1,138 @@
+-- What the judge tells: rows 7 and 10 to 15 of "Turned down". Each cause is sought over the whole board before the next.
+use Prim.Native.Nat.{ℕ}
+use lib.Dec.{eqb, leb, ltb}
+use lib.ListN.{length, getD}
+use mathlib.Core.Bool.{Bool, true, false, not, _&&_, _||_}
+use mathlib.Core.Option.{Option, none, some}
+use mathlib.Core.List.{List, [], _∷_, _++_}
+use Rattle.answers.specs.declared.Told.{Told}
+use Rattle.answers.specs.First.{firstWhere}
+use Rattle.answers.specs.Told.{refusal, answer, Row, row, cause, turnedDown}
+use Rattle.rules.specs.declared.Direction.{Direction}
+use Rattle.rules.specs.declared.Direction.the-variants.{North as north, East as east, South as south, West as west}
+use Rattle.rules.specs.declared.Fault.{Fault}
+use Rattle.rules.specs.declared.Fault.the-variants.{Record, DrawingLength, DrawingByte, Touching, ClueNotMet, LinkUnmatched, NotTwoLinks, NotOneLoop}
+use Rattle.rules.specs.declared.Verdict.{Verdict}
+use Rattle.rules.specs.declared.Verdict.the-variants.{Yes, No}
+use Rattle.rules.specs.Lists.{howMany}
+use Rattle.rules.specs.Directions.{opposite, degree}
+use Rattle.rules.specs.Record.{recordRows, toldRefusal}
+use Rattle.rules.specs.Board.{Clue, Board, boardOf}
+use Rattle.rules.specs.Drawing.{white, linkAt, blackAt}
+use Rattle.rules.specs.Walk.{loopCells, among}
+
+-- 0x20 and clue not together: 0x20 at an open cell, or another byte elsewhere
+abbrev pub notTogether : Bool → ℕ → Bool
+notTogether true v = eqb v 0x20
+notTogether false v = not (eqb v 0x20)
+
+abbrev pub badByte : Bool → ℕ → Bool
+badByte isOpen v = ltb 0x20 v || (leb 0x11 v && leb v 0x1F) || notTogether isOpen v
+
+abbrev pub blackThere : List ℕ → Option ℕ → Bool
+blackThere ds none = false
+blackThere ds (some y) = blackAt ds y
+
+abbrev pub matchedThere : List ℕ → Direction → Option ℕ → Bool
+matchedThere ds d none = false
+matchedThere ds d (some y) = linkAt ds y (opposite d)
+
+module _ (b : Board) (ds : List ℕ) where
+  abbrev pub badByteAt : ℕ → Bool
+  badByteAt x = badByte (b .isOpen x) (getD ds x 0)
+
+  -- black beside black to its east or south
+  abbrev pub touchingAt : ℕ → Bool
+  touchingAt x = blackAt ds x && (blackThere ds (b .next east x) || blackThere ds (b .next south x))
+
+  -- a link of x that is unmatched or off the board
+  abbrev pub loose : ℕ → Direction → Bool
+  loose x d = linkAt ds x d && not (matchedThere ds d (b .next d x))
+
+  abbrev pub looseAt : ℕ → Bool
+  looseAt x = loose x north || loose x east || loose x south || loose x west
+
+  abbrev pub whiteAt : ℕ → Bool
+  whiteAt x = white b (blackAt ds) x
+
+  abbrev pub notTwoAt : ℕ → Bool
+  notTwoAt x = whiteAt x && not (eqb (degree (linkAt ds x)) 2)
+
+  -- a white cell that is not on the loop of s
+  abbrev pub offLoopAt : ℕ → ℕ → Bool
+  offLoopAt s x = whiteAt x && not (among x (loopCells (b .size) (b .next) (linkAt ds) s))
+
+abbrev pub foundClue : Bool → ℕ → Option ℕ → Option ℕ
+foundClue true x rest = rest
+foundClue false x rest = some x
+
+-- the cell of the first clue whose line has not its number of black cells
+abbrev pub unmetClue : (ℕ → Bool) → List Clue → Option ℕ
+unmetClue black [] = none
+unmetClue black (c ∷ cs) = foundClue (eqb (howMany black (c .line)) (c .number)) (c .cell) (unmetClue black cs)
+
+abbrev pub fromFirst : Option ℕ → (ℕ → Option ℕ) → Option ℕ
+fromFirst none off = some 0
+fromFirst (some s) off = off s
+
+module _ (b : Board) (ds : List ℕ) where
+  -- 7: drawing not N bytes
+  abbrev pub wrongDrawing : Option ℕ
+  wrongDrawing = cause (not (eqb (length ds) (b .size)))
+
+  -- 10: drawing byte
+  abbrev pub wrongByte : Option ℕ
+  wrongByte = firstWhere (badByteAt b ds) (b .size)
+
+  -- 11: black beside black
+  abbrev pub touching : Option ℕ
+  touching = firstWhere (touchingAt b ds) (b .size)
+
+  -- 12: clue not met
+  abbrev pub clueNotMet : Option ℕ
+  clueNotMet = unmetClue (blackAt ds) (b .clues)
+
+  -- 13: link unmatched or off the board
+  abbrev pub linkUnmatched : Option ℕ
+  linkUnmatched = firstWhere (looseAt b ds) (b .size)
+
+  -- 14: white cell without exactly two links
+  abbrev pub notTwoLinks : Option ℕ
+  notTwoLinks = firstWhere (notTwoAt b ds) (b .size)
+
+  -- 15: no white cell, or the first white cell not on the first white cell's loop
+  abbrev pub notOneLoop : Option ℕ
+  notOneLoop = fromFirst (firstWhere (whiteAt b ds) (b .size)) (λ s. firstWhere (offLoopAt b ds s) (b .size))
+
+  abbrev pub judgeRows : List Row
+  judgeRows =
+      row 7 wrongDrawing ∷
+      row 10 wrongByte ∷
+      row 11 touching ∷
+      row 12 clueNotMet ∷
+      row 13 linkUnmatched ∷
+      row 14 notTwoLinks ∷
+      row 15 notOneLoop ∷
+      []
+
+-- yes: there is nothing to tell beside it
+abbrev pub yes : Told
+yes = answer 0 0 0
+
+-- judge 1-5, 7, 10-15
+abbrev pub judgeAnswer : List ℕ → List ℕ → Told
+judgeAnswer s ds = turnedDown (recordRows s ++ judgeRows (boardOf s) ds) yes
+
+abbrev pub toldFault : Fault → Told
+toldFault (Record r) = toldRefusal r
+toldFault DrawingLength = refusal 7 0
+toldFault (DrawingByte x) = refusal 10 x
+toldFault (Touching x) = refusal 11 x
+toldFault (ClueNotMet x) = refusal 12 x
+toldFault (LinkUnmatched x) = refusal 13 x
+toldFault (NotTwoLinks x) = refusal 14 x
+toldFault (NotOneLoop x) = refusal 15 x
+
+abbrev pub told : Verdict → Told
+told Yes = yes
+told (No f) = toldFault f

@@ -1,0 +1,32 @@
+-- Counting in a list, what holds of each of its elements, and lists without repeats.
+use Prim.Native.Nat.{ℕ, suc}
+use mathlib.Core.Bool.{Bool, true, false}
+use mathlib.Core.Path.{_≡_}
+use mathlib.Core.List.{List, [], _∷_, List·Memᴰ}
+
+abbrev pub tally : Bool → ℕ → ℕ
+tally true n = suc n
+tally false n = n
+
+-- how many pass the test
+abbrev pub howMany : {A : Type 0} → (A → Bool) → List A → ℕ
+howMany p [] = 0
+howMany p (x ∷ xs) = tally (p x) (howMany p xs)
+
+abbrev pub All : {A : Type 0} → (A → Type 0) → List A → Type 0
+All P [] = Unit
+All P (x ∷ xs) = P x × All P xs
+
+-- x is an element
+abbrev pub _∈_ : {A : Type 0} → A → List A → Type 0
+x ∈ xs = List·Memᴰ x xs
+
+infix 50 _∈_
+-- no two elements have the same key
+abbrev pub ApartBy : {A K : Type 0} → (A → K) → List A → Type 0
+ApartBy key [] = Unit
+ApartBy {A = A} key (x ∷ xs) = ((y : A) → y ∈ xs → key x ≡ key y → ⊥) × ApartBy key xs
+
+-- no element twice
+abbrev pub Apart : {A : Type 0} → List A → Type 0
+Apart xs = ApartBy (λ x. x) xs

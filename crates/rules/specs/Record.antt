@@ -1,0 +1,112 @@
+-- "The grid record" of document 01, and rows 1 to 5 of "Turned down".
+use Prim.Native.Nat.{ℕ, _+_, _*_, _/_, _%_}
+use lib.Dec.{eqb, leb, ltb}
+use lib.ListN.{length, getD, drop}
+use mathlib.Core.Bool.{Bool, true, false, not, _&&_, _||_, cond}
+use mathlib.Core.List.{List, [], _∷_, map}
+use Rattle.answers.specs.declared.Told.{Told}
+use Rattle.answers.specs.First.{firstWhere}
+use Rattle.answers.specs.Told.{refusal, answer, Row, row, cause, turnedDown}
+use Rattle.rules.specs.declared.Direction.{Direction}
+use Rattle.rules.specs.declared.Direction.the-variants.{North as north, East as east, South as south, West as west}
+use Rattle.rules.specs.declared.Cell.{Cell}
+use Rattle.rules.specs.declared.Cell.the-variants.{Open, Clue}
+use Rattle.rules.specs.declared.CellByte.{CellByte}
+use Rattle.rules.specs.declared.CellByte.the-variants.{Is, NotAllowed}
+use Rattle.rules.specs.declared.Grid.{Grid}
+use Rattle.rules.specs.declared.Refusal.{Refusal}
+use Rattle.rules.specs.declared.Refusal.the-variants.{Length, Kind, Side, Size, NotACell}
+use Rattle.rules.specs.declared.Parsed.{Parsed}
+use Rattle.rules.specs.declared.Parsed.the-variants.{Accepted, Refused}
+
+-- the inner form of a grid: its sides, and its cells row by row from the top left
+pub record Puzzle : Type 0 where
+  pub rows : ℕ
+  pub columns : ℕ
+  pub cells : List Cell
+
+-- 1 north, 2 east, 3 south, 4 west
+abbrev pub directionOf : ℕ → Direction
+directionOf n = cond (eqb n 1) north (cond (eqb n 2) east (cond (eqb n 3) south west))
+
+-- 0x00 is open; 0x10 to 0x4F is a clue: upper four bits the direction, lower four bits the number
+abbrev pub readCell : ℕ → CellByte
+readCell b = cond (eqb b 0) (Is Open) (cond (leb 0x10 b && leb b 0x4F) (Is (Clue (directionOf (b / 16)) (b % 16))) NotAllowed)
+
+abbrev pub isCell : CellByte → Cell
+isCell (Is c) = c
+isCell NotAllowed = Open
+
+abbrev pub notAllowed : CellByte → Bool
+notAllowed (Is c) = false
+notAllowed NotAllowed = true
+
+-- the cell of a byte (a byte that is not allowed stands in no accepted record)
+abbrev pub cellOf : ℕ → Cell
+cellOf b = isCell (readCell b)
+
+-- a number of two bytes, little-endian
+abbrev pub word : List ℕ → ℕ → ℕ
+word s i = getD s i 0 + 256 * getD s (i + 1) 0
+
+-- byte 4: rows, byte 5: columns
+abbrev pub sides : List ℕ → Grid
+sides s = record { rows = getD s 4 0; columns = getD s 5 0 }
+
+abbrev pub size : Grid → ℕ
+size g = g .rows * g .columns
+
+abbrev pub cellByte : List ℕ → ℕ → ℕ
+cellByte s x = getD s (6 + x) 0
+
+abbrev pub puzzle : Grid → List ℕ → Puzzle
+puzzle g s = record { rows = g .rows; columns = g .columns; cells = map cellOf (drop 6 s) }
+
+-- a side is 1 to 24
+abbrev pub isSide : ℕ → Bool
+isSide n = leb 1 n && leb n 24
+
+-- 1: record under 6 bytes, or length field not the slice's
+abbrev pub wrongLength : List ℕ → Bool
+wrongLength s = ltb (length s) 6 || not (eqb (word s 0) (length s))
+
+-- 2: kind not 1
+abbrev pub wrongKind : List ℕ → Bool
+wrongKind s = not (eqb (word s 2) 1)
+
+-- 3: a side not 1 to 24
+abbrev pub wrongSide : List ℕ → Bool
+wrongSide s = not (isSide (sides s .rows)) || not (isSide (sides s .columns))
+
+-- 4: length not 6 + N
+abbrev pub wrongSize : List ℕ → Bool
+wrongSize s = not (eqb (length s) (6 + size (sides s)))
+
+-- 5: cell byte not allowed
+abbrev pub wrongCell : List ℕ → ℕ → Bool
+wrongCell s x = notAllowed (readCell (cellByte s x))
+
+abbrev pub recordRows : List ℕ → List Row
+recordRows s =
+    row 1 (cause (wrongLength s)) ∷
+    row 2 (cause (wrongKind s)) ∷
+    row 3 (cause (wrongSide s)) ∷
+    row 4 (cause (wrongSize s)) ∷
+    row 5 (firstWhere (wrongCell s) (size (sides s))) ∷
+    []
+
+-- what the record reader tells: rows and columns of an accepted record
+abbrev pub recordAnswer : List ℕ → Told
+recordAnswer s = turnedDown (recordRows s) (answer (sides s .rows) (sides s .columns) 0)
+
+-- a grid is accepted if the record reader doesn't turn it down
+abbrev pub toldRefusal : Refusal → Told
+toldRefusal Length = refusal 1 0
+toldRefusal Kind = refusal 2 0
+toldRefusal Side = refusal 3 0
+toldRefusal Size = refusal 4 0
+toldRefusal (NotACell x) = refusal 5 x
+
+abbrev pub told : Parsed → Told
+told (Accepted g) = answer (g .rows) (g .columns) 0
+told (Refused r) = toldRefusal r

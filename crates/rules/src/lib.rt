@@ -1,0 +1,57 @@
+// What a grid is, and when a drawing is a solution: document 01's "The grid record" and "The drawing and its judge".
+pub enum Direction {
+    North,
+    East,
+    South,
+    West,
+}
+
+// A cell is open, or a clue that carries a direction and a number.
+pub enum Cell {
+    Open,
+    Clue(Direction, u8),
+}
+
+// What a cell byte is.
+pub enum CellByte {
+    Is(Cell),
+    NotAllowed,
+}
+
+// The parsed grid: its sides. The cells stay in the record.
+pub struct Grid {
+    pub rows: usize,
+    pub columns: usize,
+}
+
+// Why a record is turned down: 1 to 5 of document 01's table.
+pub enum Refusal {
+    Length,
+    Kind,
+    Side,
+    Size,
+    NotACell(usize),
+}
+
+pub enum Parsed {
+    Accepted(Grid),
+    Refused(Refusal),
+}
+
+// Why a drawing is turned down: the record's refusal, else 7 and 10 to 15 of document 01's table.
+pub enum Fault {
+    Record(Refusal),
+    DrawingLength,
+    DrawingByte(usize),
+    Touching(usize),
+    ClueNotMet(usize),
+    LinkUnmatched(usize),
+    NotTwoLinks(usize),
+    // 0 where there is no white cell.
+    NotOneLoop(usize),
+}
+
+pub enum Verdict {
+    Yes,
+    No(Fault),
+}
