@@ -27,6 +27,11 @@ pub other-half : (p q : Bool) → p && q ≡ false → p ≡ true → q ≡ fals
 other-half true q h k = h
 other-half false q h k = clash k refl
 
+-- a test is false if its second half is, wherever the first holds
+pub and-off : (p q : Bool) → (p ≡ true → q ≡ false) → p && q ≡ false
+and-off true q f = f refl
+and-off false q f = refl
+
 pub or-cases : (p q : Bool) → p || q ≡ true → (p ≡ true) ⊎ (q ≡ true)
 or-cases true q h = inl refl
 or-cases false q h = inr h

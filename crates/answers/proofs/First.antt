@@ -106,8 +106,9 @@ module _ {p : ℕ → Bool} {n i : ℕ} (s : Seeking p n i) where
       by k l (yes e) = ap p e ∙ q
       by k l (no e) = s .none-yet k (omega arith)
 
-  pub seek-found : i < n → p i ≡ true → some i ≡ firstWhere p n
-  seek-found h q = sym (some-first p n (record { below = h; holds = q; first = s .none-yet }))
+  -- n as the code counted it, m as the definition has it
+  pub seek-found : {m : ℕ} → i < n → p i ≡ true → n ≡ m → some i ≡ firstWhere p m
+  seek-found h q e = sym (some-first p n (record { below = h; holds = q; first = s .none-yet })) ∙ ap (firstWhere p) e
 
-  pub seek-none : n ≤ i → none ≡ firstWhere p n
-  seek-none h = let w = s .within in sym (none-first p n (λ k l. s .none-yet k (omega arith)))
+  pub seek-none : {m : ℕ} → n ≤ i → n ≡ m → none ≡ firstWhere p m
+  seek-none h e = let w = s .within in sym (none-first p n (λ k l. s .none-yet k (omega arith))) ∙ ap (firstWhere p) e

@@ -1,4 +1,5 @@
 -- Laws that the crates above share.
 pub mod Bools
 pub mod First
+pub mod Lent
 pub mod Rows

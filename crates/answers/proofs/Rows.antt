@@ -1,10 +1,15 @@
--- Laws of the table: which row turns a call down. Assumes nothing.
+-- Laws of the table: which row turns a call down, and that a call is answered exactly if no row has its cause. Assumes nothing.
 use Prim.Native.Nat.{ℕ}
+use native.Mathlib.Omega.{arith}
+use lib.Dec.{eqb}
+use borrow.Author.Tests.{eqb-false}
 use mathlib.Core.Path.{_≡_, refl, sym, _∙_, ap}
-use mathlib.Core.Option.{Option, none, some}
+use mathlib.Core.Bool.{Bool, true, false}
+use mathlib.Core.Option.{Option, none, some, Option·some-ne-none}
 use mathlib.Core.List.{List, [], _∷_, _++_}
 use Rattle.answers.specs.declared.Told.{Told}
-use Rattle.answers.specs.Told.{Row, row, refusal, unless, turnedDown}
+use Rattle.answers.specs.Told.{Row, row, refusal, cause, unless, turnedDown}
+use Rattle.answers.specs.Lists.{tally, howMany, All}
 
 -- how the rows are gone through: passed one by one, until one turns the call down or none is left
 pub data Tells : List Row → Told → Told → Type 0 where
@@ -22,7 +27,28 @@ pub turned-append : (rs qs : List Row) (t : Told) → turnedDown (rs ++ qs) t �
 turned-append [] qs t = refl
 turned-append (r ∷ rs) qs t = ap (unless (r .number) (r .beside)) (turned-append rs qs t)
 
--- a call that is answered passed each row
-pub passed : (n : ℕ) (o : Option ℕ) (t u : Told) → (n ≡ 0 → ⊥) → u .number ≡ 0 → unless n o t ≡ u → (o ≡ none) × (t ≡ u)
-passed n none t u p z e = (refl, e)
-passed n (some v) t u p z e = absurd (p (ap (λ (x : Told). x .number) e ∙ z))
+-- no row's cause is there
+abbrev pub Clear : List Row → Type 0
+Clear rs = All (λ (r : Row). r .beside ≡ none) rs
+
+-- how many rows have no number, that is, 0
+abbrev unnumbered : List Row → ℕ
+unnumbered rs = howMany (λ (r : Row). eqb (r .number) 0) rs
+
+pub answered-clear : (rs : List Row) (t : Told) → unnumbered rs ≡ 0 → turnedDown rs t .number ≡ 0 → Clear rs
+answered-clear [] t n e = tt
+answered-clear (r ∷ rs) t n e = by (eqb (r .number) 0) refl n (r .beside) refl e (answered-clear rs t)
+  where
+    by : (z : Bool) → eqb (r .number) 0 ≡ z → tally z (unnumbered rs) ≡ 0 → (o : Option ℕ) → r .beside ≡ o → unless (r .number) o (turnedDown rs t) .number ≡ 0
+        → (unnumbered rs ≡ 0 → turnedDown rs t .number ≡ 0 → Clear rs) → Clear (r ∷ rs)
+    by true q n o p e go = absurd (omega arith)
+    by false q n none p e go = (p, go n e)
+    by false q n (some v) p e go = absurd (eqb-false (r .number) 0 q e)
+
+pub clear-answered : (rs : List Row) (t : Told) → Clear rs → turnedDown rs t ≡ t
+clear-answered [] t c = refl
+clear-answered (r ∷ rs) t c = ap (λ (o : Option ℕ). unless (r .number) o (turnedDown rs t)) (c .0) ∙ clear-answered rs t (c .1)
+
+pub no-cause : (t : Bool) → cause t ≡ none → t ≡ false
+no-cause true e = absurd (Option·some-ne-none 0 e)
+no-cause false e = refl

@@ -16,10 +16,11 @@ use Rattle.rules.specs.declared.Direction.{Direction}
 use Rattle.rules.specs.declared.Direction.the-variants.{North as north, East as east, South as south, West as west}
 use Rattle.rules.specs.declared.Cell.{Cell}
 use Rattle.rules.specs.declared.Cell.the-variants.{Open, Clue as Clued}
-use Rattle.rules.specs.Lists.{All, _∈_, ApartBy}
+use Rattle.rules.specs.declared.Grid.{Grid}
+use Rattle.answers.specs.Lists.{All, _∈_, ApartBy}
 use Rattle.rules.specs.Directions.{opposite}
-use Rattle.rules.specs.Record.{Puzzle}
-use Rattle.rules.specs.Board.{Clue, Board, when, inside, target, neighbour, openCell, openAt, beyond, outward, line, clueOf, cluesFrom, board}
+use Rattle.rules.specs.Record.{Puzzle, size}
+use Rattle.rules.specs.Board.{Clue, Board, when, inside, target, neighbour, openCell, openAt, beyond, outward, line, nearest, clueOf, cluesFrom, board}
 
 -- where a neighbour in direction d lies in the numbering of the cells
 abbrev pub Ahead : Direction → ℕ → ℕ → Type 0
@@ -44,7 +45,7 @@ pub record Laws (b : Board) : Type 0 where
 
 -- a grid has as many cells as its sides say
 abbrev pub Filled : Puzzle → Type 0
-Filled p = length (p .cells) ≡ p .rows * p .columns
+Filled p = length (p .cells) ≡ size (p .grid)
 
 pub when-some : (p : Bool) (t y : ℕ) → when p t ≡ some y → (p ≡ true) × (t ≡ y)
 when-some true t y e = (refl, cc)
@@ -75,90 +76,90 @@ column-back x c p h = by (ltb (x % c + 1) c) refl
         let z : suc x % c ≡ 0 = suc-mod x c ∙ ap (λ k. k % c) s ∙ mod-self c in
         absurd (omega arith)
 
-module _ (p : Puzzle) where
-  columns-positive : (x : ℕ) → x < p .rows * p .columns → 0 < p .columns
-  columns-positive x h = by (p .columns) refl
+module _ (g : Grid) where
+  columns-positive : (x : ℕ) → x < size g → 0 < g .columns
+  columns-positive x h = by (g .columns) refl
     where
-      by : (c : ℕ) → p .columns ≡ c → 0 < p .columns
-      by zero e = let z : p .rows * p .columns ≡ 0 = ap (λ k. p .rows * k) e ∙ mul-zero (p .rows) in absurd (omega arith)
+      by : (c : ℕ) → g .columns ≡ c → 0 < g .columns
+      by zero e = let z : size g ≡ 0 = ap (λ k. g .rows * k) e ∙ mul-zero (g .rows) in absurd (omega arith)
       by (suc c) e = omega arith
 
   -- what it is to have a neighbour, for any direction
   pub record Has (d : Direction) (x y : ℕ) : Type 0 where
-    pub within : x < p .rows * p .columns
-    pub there : inside p d x ≡ true
-    pub is : target p d x ≡ y
+    pub within : x < size g
+    pub there : inside g d x ≡ true
+    pub is : target g d x ≡ y
 
-  pub has : (d : Direction) (x y : ℕ) → neighbour p d x ≡ some y → Has d x y
-  has d x y e = let w = when-some (ltb x (p .rows * p .columns) && inside p d x) (target p d x) y e in
-      let t = and-both (ltb x (p .rows * p .columns)) (inside p d x) (w .0) in
+  pub has : (d : Direction) (x y : ℕ) → neighbour g d x ≡ some y → Has d x y
+  has d x y e = let w = when-some (ltb x (size g) && inside g d x) (target g d x) y e in
+      let t = and-both (ltb x (size g)) (inside g d x) (w .0) in
       record { within = ltb-true _ _ (t .0); there = t .1; is = w .1 }
 
-  pub has-of : (d : Direction) (x y : ℕ) → Has d x y → neighbour p d x ≡ some y
-  has-of d x y h = when-true (ltb x (p .rows * p .columns) && inside p d x) (target p d x) y (both-and _ _ (lt-ltb _ _ (h .within)) (h .there)) (h .is)
+  pub has-of : (d : Direction) (x y : ℕ) → Has d x y → neighbour g d x ≡ some y
+  has-of d x y h = when-true (ltb x (size g) && inside g d x) (target g d x) y (both-and _ _ (lt-ltb _ _ (h .within)) (h .there)) (h .is)
 
-  back-inside : (d : Direction) (x : ℕ) → x < p .rows * p .columns → inside p d x ≡ true → inside p (opposite d) (target p d x) ≡ true
+  back-inside : (d : Direction) (x : ℕ) → x < size g → inside g d x ≡ true → inside g (opposite d) (target g d x) ≡ true
   back-inside north x h e =
-      let a : p .columns ≤ x = leb-true _ _ e in
-      let r : x - p .columns + p .columns < p .rows * p .columns = omega arith in
+      let a : g .columns ≤ x = leb-true _ _ e in
+      let r : x - g .columns + g .columns < size g = omega arith in
       lt-ltb _ _ r
   back-inside east x h e =
-      let a : x % p .columns + 1 < p .columns = ltb-true _ _ e in
-      let r : 0 < (x + 1) % p .columns = rw (column-on x (p .columns) a) (omega arith) in
+      let a : x % g .columns + 1 < g .columns = ltb-true _ _ e in
+      let r : 0 < (x + 1) % g .columns = rw (column-on x (g .columns) a) (omega arith) in
       lt-ltb _ _ r
-  back-inside south x h e = let r : p .columns ≤ x + p .columns = omega arith in le-leb _ _ r
-  back-inside west x h e = by x h (ltb-true 0 (x % p .columns) e)
+  back-inside south x h e = let r : g .columns ≤ x + g .columns = omega arith in le-leb _ _ r
+  back-inside west x h e = by x h (ltb-true 0 (x % g .columns) e)
     where
-      by : (x : ℕ) → x < p .rows * p .columns → 0 < x % p .columns → ltb ((x - 1) % p .columns + 1) (p .columns) ≡ true
-      by zero h a = let z : 0 % p .columns ≡ 0 = zero-mod (p .columns) in absurd (omega arith)
+      by : (x : ℕ) → x < size g → 0 < x % g .columns → ltb ((x - 1) % g .columns + 1) (g .columns) ≡ true
+      by zero h a = let z : 0 % g .columns ≡ 0 = zero-mod (g .columns) in absurd (omega arith)
       by (suc x) h a =
           let e : suc x - 1 ≡ x = omega arith in
-          rw e (lt-ltb _ _ (column-back x (p .columns) (columns-positive (suc x) h) a))
+          rw e (lt-ltb _ _ (column-back x (g .columns) (columns-positive (suc x) h) a))
 
-  back-target : (d : Direction) (x : ℕ) → inside p d x ≡ true → target p (opposite d) (target p d x) ≡ x
-  back-target north x e = let a : p .columns ≤ x = leb-true _ _ e in omega arith
+  back-target : (d : Direction) (x : ℕ) → inside g d x ≡ true → target g (opposite d) (target g d x) ≡ x
+  back-target north x e = let a : g .columns ≤ x = leb-true _ _ e in omega arith
   back-target east x e = omega arith
   back-target south x e = omega arith
-  back-target west x e = by x (ltb-true 0 (x % p .columns) e)
+  back-target west x e = by x (ltb-true 0 (x % g .columns) e)
     where
-      by : (x : ℕ) → 0 < x % p .columns → x - 1 + 1 ≡ x
-      by zero a = let z : 0 % p .columns ≡ 0 = zero-mod (p .columns) in absurd (omega arith)
+      by : (x : ℕ) → 0 < x % g .columns → x - 1 + 1 ≡ x
+      by zero a = let z : 0 % g .columns ≡ 0 = zero-mod (g .columns) in absurd (omega arith)
       by (suc x) a = omega arith
 
-  target-stays : (d : Direction) (x : ℕ) → x < p .rows * p .columns → inside p d x ≡ true → target p d x < p .rows * p .columns
+  target-stays : (d : Direction) (x : ℕ) → x < size g → inside g d x ≡ true → target g d x < size g
   target-stays north x h e = omega arith
   target-stays east x h e =
-      let a : x % p .columns + 1 < p .columns = ltb-true _ _ e in
-      let c : 0 < p .columns = omega arith in
-      let q : x / p .columns < p .rows = div-lt-iff-lt-mul c .1 h in
-      let m : suc (x / p .columns) * p .columns ≤ p .rows * p .columns = mul-le-mul-right (p .columns) q in
-      let w : x / p .columns * p .columns + x % p .columns ≡ x = div-add-mod' x (p .columns) in
+      let a : x % g .columns + 1 < g .columns = ltb-true _ _ e in
+      let c : 0 < g .columns = omega arith in
+      let q : x / g .columns < g .rows = div-lt-iff-lt-mul c .1 h in
+      let m : suc (x / g .columns) * g .columns ≤ size g = mul-le-mul-right (g .columns) q in
+      let w : x / g .columns * g .columns + x % g .columns ≡ x = div-add-mod' x (g .columns) in
       omega arith
   target-stays south x h e = ltb-true _ _ e
   target-stays west x h e = omega arith
 
   -- where the neighbour lies, as an equation of numbers
   pub Leads : Direction → ℕ → ℕ → Type 0
-  Leads north x y = (y + p .columns ≡ x) × (0 < p .columns)
-  Leads east x y = (y ≡ x + 1) × (1 < p .columns)
-  Leads south x y = (y ≡ x + p .columns) × (0 < p .columns)
-  Leads west x y = (y + 1 ≡ x) × (1 < p .columns)
+  Leads north x y = (y + g .columns ≡ x) × (0 < g .columns)
+  Leads east x y = (y ≡ x + 1) × (1 < g .columns)
+  Leads south x y = (y ≡ x + g .columns) × (0 < g .columns)
+  Leads west x y = (y + 1 ≡ x) × (1 < g .columns)
 
   pub leads : (d : Direction) (x y : ℕ) → Has d x y → Leads d x y
   unfolding Leads
   leads d x y h = by d (h .there) (h .is)
     where
-      c : 0 < p .columns
+      c : 0 < g .columns
       c = columns-positive x (h .within)
 
-      m : x % p .columns < p .columns
+      m : x % g .columns < g .columns
       m = mod-lt x c
 
-      by : (d : Direction) → inside p d x ≡ true → target p d x ≡ y → Leads d x y
-      by north i t = let a : p .columns ≤ x = leb-true _ _ i in (omega arith, c)
-      by east i t = let a : x % p .columns + 1 < p .columns = ltb-true _ _ i in (sym t, omega arith)
+      by : (d : Direction) → inside g d x ≡ true → target g d x ≡ y → Leads d x y
+      by north i t = let a : g .columns ≤ x = leb-true _ _ i in (omega arith, c)
+      by east i t = let a : x % g .columns + 1 < g .columns = ltb-true _ _ i in (sym t, omega arith)
       by south i t = (sym t, c)
-      by west i t = let a : 0 < x % p .columns = ltb-true _ _ i in let l : x % p .columns ≤ x = mod-le x (p .columns) in (omega (arith, t), omega (arith, m))
+      by west i t = let a : 0 < x % g .columns = ltb-true _ _ i in let l : x % g .columns ≤ x = mod-le x (g .columns) in (omega (arith, t), omega (arith, m))
 
   differ : (d e : Direction) (x y : ℕ) → Leads d x y → Leads e x y → d ≡ e
   unfolding Leads
@@ -189,6 +190,61 @@ module _ (p : Puzzle) where
   goes-back : (d : Direction) (x y : ℕ) → Has d x y → Has (opposite d) y x
   goes-back d x y h = rw (← h .is) (record { within = target-stays d x (h .within) (h .there); there = back-inside d x (h .within) (h .there); is = back-target d x (h .there) })
 
+  line-stays : (d : Direction) (fuel x : ℕ) (seen : List ℕ) → x < size g → All (λ y. y < size g) seen → All (λ y. y < size g) (outward g d fuel x seen)
+  unfolding outward
+  line-stays d zero x seen h k = k
+  line-stays d (suc fuel) x seen h k = by (neighbour g d x) refl (λ y l. line-stays d fuel y (y ∷ seen) l (l, k))
+    where
+      by : (o : Option ℕ) → neighbour g d x ≡ o → ((y : ℕ) → y < size g → All (λ y. y < size g) (outward g d fuel y (y ∷ seen))) → All (λ y. y < size g) (beyond o seen (λ y. outward g d fuel y (y ∷ seen)))
+      by none e go = k
+      by (some y) e go = go y (goes-back d x y (has d x y e) .within)
+
+  -- a line ends where there is no neighbour: each step leads nearer to the end of the numbers
+  pub far : Direction → ℕ → ℕ
+  far north x = x
+  far east x = size g - x
+  far south x = size g - x
+  far west x = x
+
+  pub nearer : (d : Direction) (x y : ℕ) → Has d x y → far d y < far d x
+  unfolding far
+  nearer d x y h = by d (ahead d x y (leads d x y h)) (goes-back d x y h .within)
+    where
+      by : (d : Direction) → Ahead d x y → y < size g → far d y < far d x
+      by north a l = a
+      by east a l = omega arith
+      by south a l = omega arith
+      by west a l = omega arith
+
+  not-far : (d : Direction) (x : ℕ) → x < size g → far d x ≤ size g
+  unfolding far
+  not-far north x h = omega arith
+  not-far east x h = omega arith
+  not-far south x h = omega arith
+  not-far west x h = omega arith
+
+  outward-ends : (d : Direction) (fuel x : ℕ) (seen : List ℕ) (from : ℕ) → nearest seen from ≡ x → far d x ≤ fuel → neighbour g d (nearest (outward g d fuel x seen) from) ≡ none
+  unfolding outward
+  outward-ends d zero x seen from e h = rw e (by (neighbour g d x) refl)
+    where
+      by : (o : Option ℕ) → neighbour g d x ≡ o → neighbour g d x ≡ none
+      by none q = q
+      by (some y) q = let n : far d y < far d x = nearer d x y (has d x y q) in absurd (omega arith)
+  outward-ends d (suc fuel) x seen from e h = by (neighbour g d x) refl (λ y. outward-ends d fuel y (y ∷ seen) from refl)
+    where
+      by : (o : Option ℕ) → neighbour g d x ≡ o → ((y : ℕ) → far d y ≤ fuel → neighbour g d (nearest (outward g d fuel y (y ∷ seen)) from) ≡ none) → neighbour g d (nearest (beyond o seen (λ y. outward g d fuel y (y ∷ seen))) from) ≡ none
+      by none q go = rw e q
+      by (some y) q go = let n : far d y < far d x = nearer d x y (has d x y q) in go y (omega arith)
+
+  pub wired : Wired (size g) (neighbour g)
+  wired = record {
+    inside = λ d x y e. (has d x y e .within, goes-back d x y (has d x y e) .within);
+    back = λ d x y e. has-of (opposite d) y x (goes-back d x y (has d x y e));
+    apart = λ d e x y p q. differ d e x y (leads d x y (has d x y p)) (leads e x y (has e x y q));
+    ahead = λ d x y e. ahead d x y (leads d x y (has d x y e));
+  }
+
+module _ (p : Puzzle) where
   -- the clues from x on lie at x or after it
   clue-after : (cs : List Cell) (x : ℕ) (c : Clue) → c ∈ cluesFrom p x cs → x ≤ c .cell
   clue-after [] x c m = absurd (List·Memᴰ·not-nil m)
@@ -207,76 +263,17 @@ module _ (p : Puzzle) where
       off : (c : Clue) → x ≡ c .cell → suc x ≤ c .cell → ⊥
       off c e h = omega arith
 
-  line-stays : (d : Direction) (fuel x : ℕ) (seen : List ℕ) → x < p .rows * p .columns → All (λ y. y < p .rows * p .columns) seen → All (λ y. y < p .rows * p .columns) (outward p d fuel x seen)
-  unfolding outward
-  line-stays d zero x seen h k = k
-  line-stays d (suc fuel) x seen h k = by (neighbour p d x) refl (λ y l. line-stays d fuel y (y ∷ seen) l (l, k))
-    where
-      by : (o : Option ℕ) → neighbour p d x ≡ o → ((y : ℕ) → y < p .rows * p .columns → All (λ y. y < p .rows * p .columns) (outward p d fuel y (y ∷ seen))) → All (λ y. y < p .rows * p .columns) (beyond o seen (λ y. outward p d fuel y (y ∷ seen)))
-      by none e go = k
-      by (some y) e go = go y (goes-back d x y (has d x y e) .within)
+  pub line-ends : (d : Direction) (x : ℕ) → x < size (p .grid) → neighbour (p .grid) d (nearest (line p d x) x) ≡ none
+  line-ends d x h = outward-ends (p .grid) d (size (p .grid)) x [] x refl (not-far (p .grid) d x h)
 
-  -- a line ends where there is no neighbour: each step leads nearer to the end of the numbers
-  far : Direction → ℕ → ℕ
-  far north x = x
-  far east x = p .rows * p .columns - x
-  far south x = p .rows * p .columns - x
-  far west x = x
-
-  nearer : (d : Direction) (x y : ℕ) → Has d x y → far d y < far d x
-  unfolding far
-  nearer d x y h = by d (ahead d x y (leads d x y h)) (goes-back d x y h .within)
-    where
-      by : (d : Direction) → Ahead d x y → y < p .rows * p .columns → far d y < far d x
-      by north a l = a
-      by east a l = omega arith
-      by south a l = omega arith
-      by west a l = omega arith
-
-  not-far : (d : Direction) (x : ℕ) → x < p .rows * p .columns → far d x ≤ p .rows * p .columns
-  unfolding far
-  not-far north x h = omega arith
-  not-far east x h = omega arith
-  not-far south x h = omega arith
-  not-far west x h = omega arith
-
-  -- the last cell met, the one nearest the edge; x itself if none was
-  abbrev pub lastMet : List ℕ → ℕ → ℕ
-  lastMet [] x = x
-  lastMet (y ∷ ys) x = y
-
-  outward-ends : (d : Direction) (fuel x : ℕ) (seen : List ℕ) (from : ℕ) → lastMet seen from ≡ x → far d x ≤ fuel → neighbour p d (lastMet (outward p d fuel x seen) from) ≡ none
-  unfolding outward
-  outward-ends d zero x seen from e h = rw e (by (neighbour p d x) refl)
-    where
-      by : (o : Option ℕ) → neighbour p d x ≡ o → neighbour p d x ≡ none
-      by none q = q
-      by (some y) q = let n : far d y < far d x = nearer d x y (has d x y q) in absurd (omega arith)
-  outward-ends d (suc fuel) x seen from e h = by (neighbour p d x) refl (λ y. outward-ends d fuel y (y ∷ seen) from refl)
-    where
-      by : (o : Option ℕ) → neighbour p d x ≡ o → ((y : ℕ) → far d y ≤ fuel → neighbour p d (lastMet (outward p d fuel y (y ∷ seen)) from) ≡ none) → neighbour p d (lastMet (beyond o seen (λ y. outward p d fuel y (y ∷ seen))) from) ≡ none
-      by none q go = rw e q
-      by (some y) q go = let n : far d y < far d x = nearer d x y (has d x y q) in go y (omega arith)
-
-  pub line-ends : (d : Direction) (x : ℕ) → x < p .rows * p .columns → neighbour p d (lastMet (line p d x) x) ≡ none
-  line-ends d x h = outward-ends d (p .rows * p .columns) x [] x refl (not-far d x h)
-
-  clue-stays : (cs : List Cell) (x : ℕ) → x + length cs ≤ p .rows * p .columns → All (λ (c : Clue). (c .cell < p .rows * p .columns) × All (λ y. y < p .rows * p .columns) (c .line)) (cluesFrom p x cs)
+  clue-stays : (cs : List Cell) (x : ℕ) → x + length cs ≤ size (p .grid) → All (λ (c : Clue). (c .cell < size (p .grid)) × All (λ y. y < size (p .grid)) (c .line)) (cluesFrom p x cs)
   clue-stays [] x h = tt
   clue-stays (Open ∷ cs) x h = clue-stays cs (suc x) (omega arith)
-  clue-stays (Clued d n ∷ cs) x h = let l : x < p .rows * p .columns = omega arith in ((l, line-stays d (p .rows * p .columns) x [] l tt), clue-stays cs (suc x) (omega arith))
-
-  wired : Wired (p .rows * p .columns) (neighbour p)
-  wired = record {
-    inside = λ d x y e. (has d x y e .within, goes-back d x y (has d x y e) .within);
-    back = λ d x y e. has-of (opposite d) y x (goes-back d x y (has d x y e));
-    apart = λ d e x y p q. differ d e x y (leads d x y (has d x y p)) (leads e x y (has e x y q));
-    ahead = λ d x y e. ahead d x y (leads d x y (has d x y e));
-  }
+  clue-stays (Clued d n ∷ cs) x h = let l : x < size (p .grid) = omega arith in ((l, line-stays (p .grid) d (size (p .grid)) x [] l tt), clue-stays cs (suc x) (omega arith))
 
   pub laws : Filled p → Laws (board p)
   laws w = record {
-    wired = wired;
+    wired = wired (p .grid);
     open-stays = λ x e. rw w at (open-below (p .cells) x e);
     clues-apart = clue-apart (p .cells) 0;
     clue-stays = clue-stays (p .cells) 0 (omega (arith, w));

@@ -9,7 +9,7 @@ use Rattle.rules.specs.declared.Direction.the-variants.{North as north, 
 use Rattle.rules.specs.declared.Cell.{Cell}
 use Rattle.rules.specs.declared.Cell.the-variants.{Open, Clue as Clued}
 use Rattle.rules.specs.declared.Grid.{Grid}
-use Rattle.rules.specs.Record.{Puzzle, puzzle, sides}
+use Rattle.rules.specs.Record.{Puzzle, puzzle, sides, size}
 
 -- a clue on the board: its cell, its number, and its line, the cell nearest the edge first
 pub record Clue : Type 0 where
@@ -29,21 +29,21 @@ when true x = some x
 when false x = none
 
 -- is there a cell in that direction
-abbrev pub inside : Puzzle → Direction → ℕ → Bool
-inside p north x = leb (p .columns) x
-inside p east x = ltb (x % p .columns + 1) (p .columns)
-inside p south x = ltb (x + p .columns) (p .rows * p .columns)
-inside p west x = ltb 0 (x % p .columns)
+abbrev pub inside : Grid → Direction → ℕ → Bool
+inside g north x = leb (g .columns) x
+inside g east x = ltb (x % g .columns + 1) (g .columns)
+inside g south x = ltb (x + g .columns) (size g)
+inside g west x = ltb 0 (x % g .columns)
 
-abbrev pub target : Puzzle → Direction → ℕ → ℕ
-target p north x = x - p .columns
-target p east x = x + 1
-target p south x = x + p .columns
-target p west x = x - 1
+abbrev pub target : Grid → Direction → ℕ → ℕ
+target g north x = x - g .columns
+target g east x = x + 1
+target g south x = x + g .columns
+target g west x = x - 1
 
 -- a cell's neighbour in a direction, if any
-abbrev pub neighbour : Puzzle → Direction → ℕ → Option ℕ
-neighbour p d x = when (ltb x (p .rows * p .columns) && inside p d x) (target p d x)
+abbrev pub neighbour : Grid → Direction → ℕ → Option ℕ
+neighbour g d x = when (ltb x (size g) && inside g d x) (target g d x)
 
 abbrev pub openCell : Cell → Bool
 openCell Open = true
@@ -60,13 +60,18 @@ beyond none seen go = seen
 beyond (some y) seen go = go y
 
 -- the cells met from x on in a direction, the last met first; at most `fuel` of them
-unfoldable pub outward : Puzzle → Direction → ℕ → ℕ → List ℕ → List ℕ
-outward p d zero x seen = seen
-outward p d (suc fuel) x seen = beyond (neighbour p d x) seen (λ y. outward p d fuel y (y ∷ seen))
+unfoldable pub outward : Grid → Direction → ℕ → ℕ → List ℕ → List ℕ
+outward g d zero x seen = seen
+outward g d (suc fuel) x seen = beyond (neighbour g d x) seen (λ y. outward g d fuel y (y ∷ seen))
 
 -- the line of a clue: every cell from its neighbour in that direction to the board's edge; as many steps as cells are enough (`line-ends`)
 abbrev pub line : Puzzle → Direction → ℕ → List ℕ
-line p d x = outward p d (p .rows * p .columns) x []
+line p d x = outward (p .grid) d (size (p .grid)) x []
+
+-- the cell of a clue's line that is nearest the edge; the clue's own cell x if the line is empty
+abbrev pub nearest : List ℕ → ℕ → ℕ
+nearest [] x = x
+nearest (y ∷ ys) x = y
 
 abbrev pub clueOf : Puzzle → ℕ → Cell → List Clue
 clueOf p x Open = []
@@ -78,7 +83,7 @@ cluesFrom p x [] = []
 cluesFrom p x (c ∷ cs) = clueOf p x c ++ cluesFrom p (suc x) cs
 
 abbrev pub board : Puzzle → Board
-board p = record { size = p .rows * p .columns; isOpen = openAt (p .cells); next = neighbour p; clues = cluesFrom p 0 (p .cells) }
+board p = record { size = size (p .grid); isOpen = openAt (p .cells); next = neighbour (p .grid); clues = cluesFrom p 0 (p .cells) }
 
 -- the board of a grid whose sides were read, and of a record
 abbrev pub gridBoard : Grid → List ℕ → Board

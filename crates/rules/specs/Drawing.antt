@@ -9,7 +9,7 @@ use mathlib.Core.Option.{Option, some}
 use mathlib.Core.List.{List}
 use Rattle.rules.specs.declared.Direction.{Direction}
 use Rattle.rules.specs.declared.Direction.the-variants.{North as north, East as east, South as south, West as west}
-use Rattle.rules.specs.Lists.{howMany, All}
+use Rattle.answers.specs.Lists.{howMany, All}
 use Rattle.rules.specs.Directions.{opposite, bit, degree}
 use Rattle.rules.specs.Board.{Clue, Board}
 

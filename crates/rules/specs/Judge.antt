@@ -14,7 +14,7 @@ use Rattle.rules.specs.declared.Fault.{Fault}
 use Rattle.rules.specs.declared.Fault.the-variants.{Record, DrawingLength, DrawingByte, Touching, ClueNotMet, LinkUnmatched, NotTwoLinks, NotOneLoop}
 use Rattle.rules.specs.declared.Verdict.{Verdict}
 use Rattle.rules.specs.declared.Verdict.the-variants.{Yes, No}
-use Rattle.rules.specs.Lists.{howMany}
+use Rattle.answers.specs.Lists.{howMany}
 use Rattle.rules.specs.Directions.{opposite, degree}
 use Rattle.rules.specs.Record.{recordRows, toldRefusal}
 use Rattle.rules.specs.Board.{Clue, Board, boardOf}
@@ -29,13 +29,10 @@ notTogether false v = not (eqb v 0x20)
 abbrev pub badByte : Bool → ℕ → Bool
 badByte isOpen v = ltb 0x20 v || (leb 0x11 v && leb v 0x1F) || notTogether isOpen v
 
-abbrev pub blackThere : List ℕ → Option ℕ → Bool
-blackThere ds none = false
-blackThere ds (some y) = blackAt ds y
-
-abbrev pub matchedThere : List ℕ → Direction → Option ℕ → Bool
-matchedThere ds d none = false
-matchedThere ds d (some y) = linkAt ds y (opposite d)
+-- there is a neighbour, and the test holds of it
+abbrev pub there : (ℕ → Bool) → Option ℕ → Bool
+there test none = false
+there test (some y) = test y
 
 module _ (b : Board) (ds : List ℕ) where
   abbrev pub badByteAt : ℕ → Bool
@@ -43,11 +40,11 @@ module _ (b : Board) (ds : List ℕ) where
 
   -- black beside black to its east or south
   abbrev pub touchingAt : ℕ → Bool
-  touchingAt x = blackAt ds x && (blackThere ds (b .next east x) || blackThere ds (b .next south x))
+  touchingAt x = blackAt ds x && (there (blackAt ds) (b .next east x) || there (blackAt ds) (b .next south x))
 
   -- a link of x that is unmatched or off the board
   abbrev pub loose : ℕ → Direction → Bool
-  loose x d = linkAt ds x d && not (matchedThere ds d (b .next d x))
+  loose x d = linkAt ds x d && not (there (λ y. linkAt ds y (opposite d)) (b .next d x))
 
   abbrev pub looseAt : ℕ → Bool
   looseAt x = loose x north || loose x east || loose x south || loose x west
@@ -116,12 +113,12 @@ module _ (b : Board) (ds : List ℕ) where
       []
 
 -- yes: there is nothing to tell beside it
-abbrev pub yes : Told
-yes = answer 0 0 0
+abbrev pub saysYes : Told
+saysYes = answer 0 0 0
 
 -- judge 1-5, 7, 10-15
 abbrev pub judgeAnswer : List ℕ → List ℕ → Told
-judgeAnswer s ds = turnedDown (recordRows s ++ judgeRows (boardOf s) ds) yes
+judgeAnswer s ds = turnedDown (recordRows s ++ judgeRows (boardOf s) ds) saysYes
 
 abbrev pub toldFault : Fault → Told
 toldFault (Record r) = toldRefusal r
@@ -133,6 +130,6 @@ toldFault (LinkUnmatched x) = refusal 13 x
 toldFault (NotTwoLinks x) = refusal 14 x
 toldFault (NotOneLoop x) = refusal 15 x
 
-abbrev pub told : Verdict → Told
-told Yes = yes
-told (No f) = toldFault f
+abbrev pub toldVerdict : Verdict → Told
+toldVerdict Yes = saysYes
+toldVerdict (No f) = toldFault f

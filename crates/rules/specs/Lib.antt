@@ -1,5 +1,4 @@
 -- What a grid is, and when a drawing is a solution. Read Record, Board, Drawing and Judge: document 01's sections in its order.
-pub mod Lists
 pub mod Directions
 pub mod Record
 pub mod Board

@@ -1,5 +1,6 @@
 -- "The grid record" of document 01, and rows 1 to 5 of "Turned down".
-use Prim.Native.Nat.{ℕ, _+_, _*_, _/_, _%_}
+use Prim.Native.Nat.{ℕ, _+_, _*_, _/_, _%_, _≤_, _<_}
+use mathlib.Core.Path.{_≡_}
 use lib.Dec.{eqb, leb, ltb}
 use lib.ListN.{length, getD, drop}
 use mathlib.Core.Bool.{Bool, true, false, not, _&&_, _||_, cond}
@@ -21,8 +22,7 @@ use Rattle.rules.specs.declared.Parsed.the-variants.{Accepted, Refused}
 
 -- the inner form of a grid: its sides, and its cells row by row from the top left
 pub record Puzzle : Type 0 where
-  pub rows : ℕ
-  pub columns : ℕ
+  pub grid : Grid
   pub cells : List Cell
 
 -- 1 north, 2 east, 3 south, 4 west
@@ -53,6 +53,7 @@ word s i = getD s i 0 + 256 * getD s (i + 1) 0
 abbrev pub sides : List ℕ → Grid
 sides s = record { rows = getD s 4 0; columns = getD s 5 0 }
 
+-- N, the number of cells
 abbrev pub size : Grid → ℕ
 size g = g .rows * g .columns
 
@@ -60,11 +61,36 @@ abbrev pub cellByte : List ℕ → ℕ → ℕ
 cellByte s x = getD s (6 + x) 0
 
 abbrev pub puzzle : Grid → List ℕ → Puzzle
-puzzle g s = record { rows = g .rows; columns = g .columns; cells = map cellOf (drop 6 s) }
+puzzle g s = record { grid = g; cells = map cellOf (drop 6 s) }
 
 -- a side is 1 to 24
 abbrev pub isSide : ℕ → Bool
 isSide n = leb 1 n && leb n 24
+
+-- the most cells that a grid has: 24 times 24
+abbrev pub mostCells : ℕ
+mostCells = 576
+
+-- what the functions over a grid ask of it, and the reader sees to: the sides of an accepted grid,
+pub record Sides (g : Grid) : Type 0 where
+  pub wide : 0 < g .columns
+  pub narrow : g .columns ≤ mostCells
+  pub few : size g ≤ mostCells
+
+-- with a cell of it,
+pub record On (g : Grid) (x : ℕ) : Type 0 where
+  pub sides : Sides g
+  pub inside : x < size g
+
+-- with its record,
+pub record Held (g : Grid) (s : List ℕ) : Type 0 where
+  pub sides : Sides g
+  pub long : length s ≡ 6 + size g
+
+-- and with a drawing of its size
+pub record Drawn (g : Grid) (s ds : List ℕ) : Type 0 where
+  pub held : Held g s
+  pub drawn : length ds ≡ size g
 
 -- 1: record under 6 bytes, or length field not the slice's
 abbrev pub wrongLength : List ℕ → Bool
@@ -100,6 +126,9 @@ abbrev pub recordAnswer : List ℕ → Told
 recordAnswer s = turnedDown (recordRows s) (answer (sides s .rows) (sides s .columns) 0)
 
 -- a grid is accepted if the record reader doesn't turn it down
+abbrev pub IsAccepted : List ℕ → Type 0
+IsAccepted s = recordAnswer s .number ≡ 0
+
 abbrev pub toldRefusal : Refusal → Told
 toldRefusal Length = refusal 1 0
 toldRefusal Kind = refusal 2 0
@@ -107,6 +136,6 @@ toldRefusal Side = refusal 3 0
 toldRefusal Size = refusal 4 0
 toldRefusal (NotACell x) = refusal 5 x
 
-abbrev pub told : Parsed → Told
-told (Accepted g) = answer (g .rows) (g .columns) 0
-told (Refused r) = toldRefusal r
+abbrev pub toldParsed : Parsed → Told
+toldParsed (Accepted g) = answer (g .rows) (g .columns) 0
+toldParsed (Refused r) = toldRefusal r

@@ -55,3 +55,5 @@ pub enum Verdict {
     Yes,
     No(Fault),
 }
+
+pub mod record; // the reader of a grid record

@@ -1,7 +1,8 @@
--- Counting in a list, what holds of each of its elements, and lists without repeats.
+-- Counting in a list, what holds of each or of some of its elements, and lists without repeats.
 use Prim.Native.Nat.{ℕ, suc}
-use mathlib.Core.Bool.{Bool, true, false}
 use mathlib.Core.Path.{_≡_}
+use mathlib.Core.Bool.{Bool, true, false}
+use mathlib.Core.Logic.{_⊎_}
 use mathlib.Core.List.{List, [], _∷_, List·Memᴰ}
 
 abbrev pub tally : Bool → ℕ → ℕ
@@ -16,6 +17,10 @@ howMany p (x ∷ xs) = tally (p x) (howMany p xs)
 abbrev pub All : {A : Type 0} → (A → Type 0) → List A → Type 0
 All P [] = Unit
 All P (x ∷ xs) = P x × All P xs
+
+abbrev pub Some : {A : Type 0} → (A → Type 0) → List A → Type 0
+Some P [] = ⊥
+Some P (x ∷ xs) = P x ⊎ Some P xs
 
 -- x is an element
 abbrev pub _∈_ : {A : Type 0} → A → List A → Type 0

@@ -1,0 +1,139 @@
+-- Cell bytes, and what an accepted record is. Assumes nothing.
+use Prim.Native.Nat.{ℕ, _+_, _-_, _*_, _/_, _%_, _≤_, _<_}
+use native.Mathlib.Omega.{arith}
+use native.Mathlib.Nat.{mul-le-mul}
+use lib.Dec.{eqb, leb, ltb}
+use lib.ListN.{length, getD, drop, length-map, length-drop, List·getD-map}
+use lib.Seq.{getD-drop}
+use borrow.Author.Tests.{eqb-true, leb-true, lt-ltb, le-ltb, eq-eqb, ne-eqb, le-leb, lt-leb, not-false}
+use mathlib.Core.Path.{_≡_, refl, sym, _∙_, ap}
+use mathlib.Core.Bool.{Bool, true, false, not, _&&_, _||_}
+use mathlib.Core.Option.{Option, none, some}
+use mathlib.Core.List.{List, map}
+use Rattle.answers.proofs.Bools.{and-both, or-left, or-right, or-neither}
+use Rattle.answers.proofs.Rows.{Tells, tells, turns, passes, answers, Clear, answered-clear, no-cause}
+use Rattle.answers.specs.declared.Told.{Told}
+use Rattle.answers.specs.Told.{refusal, answer, Row, cause}
+use Rattle.answers.specs.First.{firstWhere}
+use Rattle.rules.specs.declared.Cell.{Cell}
+use Rattle.rules.specs.declared.Cell.the-variants.{Open, Clue}
+use Rattle.rules.specs.declared.CellByte.the-variants.{Is, NotAllowed}
+use Rattle.rules.specs.declared.Grid.{Grid}
+use Rattle.rules.specs.Board.{boardOf}
+use Rattle.rules.proofs.Boards.{Laws, Filled, laws}
+use Rattle.rules.specs.Record.{directionOf, readCell, cellOf, word, sides, size, cellByte, puzzle, isSide, wrongLength, wrongKind, wrongSide, wrongSize, wrongCell, Sides, Held, recordRows, recordAnswer, IsAccepted}
+
+-- the bytes of clues, once for every direction
+pub clue-byte : (d b : ℕ) → 1 ≤ d → d ≤ 4 → 16 * d ≤ b → b < 16 * d + 16 → Is (Clue (directionOf d) (b - 16 * d)) ≡ readCell b
+clue-byte d b low high from to =
+    let q : b / 16 ≡ d = omega arith in
+    let m : b % 16 ≡ b - 16 * d = omega arith in
+    simp (ne-eqb b 0 (λ e. omega arith), le-leb 0x10 b (omega arith), le-leb b 0x4f (omega arith), q, m)
+
+pub under-clues : (b : ℕ) → (b ≡ 0 → ⊥) → b < 0x10 → NotAllowed ≡ readCell b
+under-clues b n h = simp (ne-eqb b 0 n, lt-leb 0x10 b h)
+
+pub over-clues : (b : ℕ) → 0x50 ≤ b → NotAllowed ≡ readCell b
+over-clues b h = simp (ne-eqb b 0 (λ e. omega arith), le-leb 0x10 b (omega arith), lt-leb b 0x4f (omega arith))
+
+-- the cell numbered x is that of the record's byte
+pub cell-at : (g : Grid) (s : List ℕ) (x : ℕ) → cellOf (cellByte s x) ≡ getD (puzzle g s .cells) x Open
+cell-at g s x = sym (List·getD-map cellOf (drop 6 s) x 0 ∙ ap cellOf (getD-drop 6 s x 0))
+
+-- sides of 1 to 24
+pub sides-small : (g : Grid) → isSide (g .rows) ≡ true → isSide (g .columns) ≡ true → Sides g
+sides-small g h k =
+    let r = and-both (leb 1 (g .rows)) (leb (g .rows) 24) h in
+    let c = and-both (leb 1 (g .columns)) (leb (g .columns) 24) k in
+    let lo : 1 ≤ g .columns = leb-true _ _ (c .0) in
+    let hi : g .columns ≤ 24 = leb-true _ _ (c .1) in
+    let m : g .rows * g .columns ≤ 24 * 24 = mul-le-mul (leb-true _ _ (r .1)) hi in
+    record { wide = omega arith; narrow = omega arith; few = omega arith }
+
+-- a grid with its record has as many cells as its sides say
+pub held-filled : {g : Grid} {s : List ℕ} → Held g s → Filled (puzzle g s)
+held-filled {g} {s} h = let l = h .long in length-map (drop 6 s) cellOf ∙ omega (arith, length-drop 6 s)
+
+module _ (s : List ℕ) (acc : IsAccepted s) where
+  pub accepted-clear : Clear (recordRows s)
+  accepted-clear = answered-clear (recordRows s) _ refl acc
+
+  -- an accepted record is as long as its sides say, and these are small
+  pub accepted-held : Held (sides s) s
+  accepted-held =
+      let (c1, (c2, (c3, (c4, c)))) = accepted-clear in
+      let w = or-neither (not (isSide (sides s .rows))) (not (isSide (sides s .columns))) (no-cause _ c3) in
+      record { sides = sides-small (sides s) (not-false _ (w .0)) (not-false _ (w .1)); long = eqb-true _ _ (not-false _ (no-cause _ c4)) }
+
+  pub accepted-laws : Laws (boardOf s)
+  accepted-laws = laws (puzzle (sides s) s) (held-filled accepted-held)
+
+-- The reader goes through the rows in order. Each record says which are passed.
+pub record LengthRight (s : List ℕ) : Type 0 where
+  pub right : wrongLength s ≡ false
+
+pub record KindRight (s : List ℕ) : Type 0 where
+  pub before : LengthRight s
+  pub right : wrongKind s ≡ false
+
+pub record SidesRight (s : List ℕ) : Type 0 where
+  pub before : KindRight s
+  pub right : wrongSide s ≡ false
+  pub held : Sides (sides s)
+
+pub record SizeRight (s : List ℕ) : Type 0 where
+  pub before : SidesRight s
+  pub right : wrongSize s ≡ false
+
+module _ (s : List ℕ) where
+  abbrev Goes : List Row → Told → Type 0
+  Goes rows u = Tells rows (answer (sides s .rows) (sides s .columns) 0) u
+
+  pub short-record : length s < 6 → refusal 1 0 ≡ recordAnswer s
+  short-record h = let t : Goes (recordRows s) (refusal 1 0) = turns (ap cause (or-left _ _ (lt-ltb _ _ h))) in tells t
+
+  pub other-length : (word s 0 ≡ length s → ⊥) → refusal 1 0 ≡ recordAnswer s
+  other-length h = let t : Goes (recordRows s) (refusal 1 0) = turns (ap cause (or-right (ltb (length s) 6) _ (ap not (ne-eqb _ _ h)))) in tells t
+
+  pub right-length : 6 ≤ length s → word s 0 ≡ length s → LengthRight s
+  right-length h e = record { right = rw (le-ltb _ _ h, eq-eqb _ _ e) }
+
+module _ {s : List ℕ} where
+  past-length : {u : Told} → LengthRight s → Goes s (drop 1 (recordRows s)) u → u ≡ recordAnswer s
+  past-length p h = let t : Goes s (recordRows s) _ = passes (ap cause (p .right)) h in tells t
+
+  past-kind : {u : Told} → KindRight s → Goes s (drop 2 (recordRows s)) u → u ≡ recordAnswer s
+  past-kind p h = past-length (p .before) (passes (ap cause (p .right)) h)
+
+  past-sides : {u : Told} → SidesRight s → Goes s (drop 3 (recordRows s)) u → u ≡ recordAnswer s
+  past-sides p h = past-kind (p .before) (passes (ap cause (p .right)) h)
+
+  past-size : {u : Told} → SizeRight s → Goes s (drop 4 (recordRows s)) u → u ≡ recordAnswer s
+  past-size p h = past-sides (p .before) (passes (ap cause (p .right)) h)
+
+  pub other-kind : LengthRight s → (word s 2 ≡ 1 → ⊥) → refusal 2 0 ≡ recordAnswer s
+  other-kind p h = past-length p (turns (ap cause (ap not (ne-eqb _ _ h))))
+
+  pub right-kind : LengthRight s → word s 2 ≡ 1 → KindRight s
+  right-kind p e = record { before = p; right = rw (eq-eqb _ _ e) }
+
+  pub rows-wrong : KindRight s → isSide (sides s .rows) ≡ false → refusal 3 0 ≡ recordAnswer s
+  rows-wrong p h = past-kind p (turns (ap cause (or-left (not (isSide (sides s .rows))) _ (ap not h))))
+
+  pub columns-wrong : KindRight s → isSide (sides s .columns) ≡ false → refusal 3 0 ≡ recordAnswer s
+  columns-wrong p h = past-kind p (turns (ap cause (or-right (not (isSide (sides s .rows))) _ (ap not h))))
+
+  pub right-sides : KindRight s → isSide (sides s .rows) ≡ true → isSide (sides s .columns) ≡ true → SidesRight s
+  right-sides p h k = record { before = p; right = rw (h, k); held = sides-small (sides s) h k }
+
+  pub other-size : SidesRight s → (length s ≡ 6 + size (sides s) → ⊥) → refusal 4 0 ≡ recordAnswer s
+  other-size p h = past-sides p (turns (ap cause (ap not (ne-eqb _ _ h))))
+
+  pub right-size : SidesRight s → length s ≡ 6 + size (sides s) → SizeRight s
+  right-size p e = record { before = p; right = rw (eq-eqb _ _ e) }
+
+  pub cell-wrong : {x : ℕ} → SizeRight s → some x ≡ firstWhere (wrongCell s) (size (sides s)) → refusal 5 x ≡ recordAnswer s
+  cell-wrong p e = past-size p (turns (sym e))
+
+  pub all-right : SizeRight s → none ≡ firstWhere (wrongCell s) (size (sides s)) → answer (sides s .rows) (sides s .columns) 0 ≡ recordAnswer s
+  all-right p e = past-size p (passes (sym e) answers)

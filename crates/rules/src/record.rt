@@ -1,0 +1,135 @@
+// The reader of a grid record: document 01's "The grid record".
+ghost use mathlib.Core.Path.{_≡_};
+ghost use Prim.Native.Nat.{_+_, _<_};
+ghost use lib.ListN.{length, getD};
+ghost use Rattle.answers.specs.First.{firstWhere, placed};
+ghost use Rattle.rules.specs.declared.Cell.the-variants.{Open};
+ghost use Rattle.rules.specs.Record.{readCell, notAllowed, word, size, puzzle, isSide, wrongCell, Sides, Held, recordAnswer, toldParsed};
+use super::Cell;
+use super::CellByte;
+use super::Direction;
+use super::Grid;
+use super::Parsed;
+use super::Refusal;
+use answers::Place;
+
+// The cell of a byte: 0 is open; the upper four bits of a clue tell the direction, the lower four the number.
+pub fn read_cell(b: u8) -> CellByte
+    ensures { λ r. ⌜ r ≡ readCell b ⌝ }
+{
+    match b {
+        0 => CellByte::Is(Cell::Open),
+        0x10..=0x1f => CellByte::Is(Cell::Clue(Direction::North, b - 0x10)),
+        0x20..=0x2f => CellByte::Is(Cell::Clue(Direction::East, b - 0x20)),
+        0x30..=0x3f => CellByte::Is(Cell::Clue(Direction::South, b - 0x30)),
+        0x40..=0x4f => CellByte::Is(Cell::Clue(Direction::West, b - 0x40)),
+        _ => CellByte::NotAllowed,
+    }
+}
+
+impl Grid {
+    // N, the number of cells.
+    pub fn size(self) -> usize
+        requires { ⌜ Sides self ⌝ }
+        ensures { λ r. ⌜ r ≡ size self ⌝ }
+    {
+        let rows = self.rows;
+        let columns = self.columns;
+        rows * columns
+    }
+
+    // The cell numbered x.
+    pub fn cell(self, record: &[u8], x: usize) -> Cell
+        requires { ⌜ Held self (now «record») ⌝ }
+        requires { ⌜ x < size self ⌝ }
+        ensures { λ r. ⌜ r ≡ getD (puzzle self (now («record» .entry)) .cells) x Open ⌝ }
+    {
+        let c = read_cell(record[6 + x]);
+        let CellByte::Is(cell) = c else {
+            return Cell::Open;
+        };
+        cell
+    }
+}
+
+fn not_allowed(b: u8) -> bool
+    ensures { λ r. ⌜ r ≡ notAllowed (readCell b) ⌝ }
+{
+    let c = read_cell(b);
+    let CellByte::Is(_) = c else {
+        return true;
+    };
+    false
+}
+
+// The first cell whose byte is not allowed.
+fn wrong_cell(g: Grid, record: &[u8]) -> Place
+    requires { ⌜ Held g (now «record») ⌝ }
+    ensures { λ r. ⌜ placed r ≡ firstWhere (wrongCell (now («record» .entry))) (size g) ⌝ }
+{
+    let n = g.size();
+    let mut x = 0;
+    while x < n {
+        let bad = not_allowed(record[6 + x]);
+        if bad {
+            return Place::At(x);
+        }
+        x += 1;
+    }
+    Place::Nowhere
+}
+
+// Two bytes, little-endian.
+fn word_at(record: &[u8], i: usize) -> usize
+    requires { ⌜ i + 1 < length (now «record») ⌝ }
+    ensures { λ r. ⌜ r ≡ word (now («record» .entry)) i ⌝ }
+{
+    let low = record[i] as usize;
+    let high = record[i + 1] as usize;
+    low + 256 * high
+}
+
+fn is_side(n: usize) -> bool
+    ensures { λ r. ⌜ r ≡ isSide n ⌝ }
+{
+    if n < 1 {
+        return false;
+    }
+    n <= 24
+}
+
+// Refusals 1 to 5, in order.
+pub fn read(record: &[u8]) -> Parsed
+    ensures { λ r. ⌜ toldParsed r ≡ recordAnswer (now («record» .entry)) ⌝ }
+{
+    if record.len() < 6 {
+        return Parsed::Refused(Refusal::Length);
+    }
+    let length = word_at(record, 0);
+    if length != record.len() {
+        return Parsed::Refused(Refusal::Length);
+    }
+    let kind = word_at(record, 2);
+    if kind != 1 {
+        return Parsed::Refused(Refusal::Kind);
+    }
+    let rows = record[4] as usize;
+    let columns = record[5] as usize;
+    let tall = is_side(rows);
+    if !tall {
+        return Parsed::Refused(Refusal::Side);
+    }
+    let wide = is_side(columns);
+    if !wide {
+        return Parsed::Refused(Refusal::Side);
+    }
+    if record.len() != 6 + rows * columns {
+        return Parsed::Refused(Refusal::Size);
+    }
+    let g = Grid { rows, columns };
+    let p = wrong_cell(g, record);
+    let Place::At(x) = p else {
+        return Parsed::Accepted(g);
+    };
+    Parsed::Refused(Refusal::NotACell(x))
+}

@@ -1,0 +1,13 @@
+-- Theorems about grids, drawings and the judge. Read Theorems.antt: it states the results. The others are in the order of the proofs.
+pub mod Theorems
+pub mod Finite
+pub mod Directions
+pub mod Ring
+pub mod Round
+pub mod Listing
+pub mod Around
+pub mod Loop
+pub mod Whole
+pub mod Bytes
+pub mod Judging
+pub mod Telling

@@ -1,0 +1,74 @@
+-- What is true of grids, drawings and the judge, each result in one statement. The proofs stand in the files beside this one.
+-- Nothing is assumed but what a statement says.
+use Prim.Native.Nat.{ℕ}
+use mathlib.Core.Path.{_≡_, refl, sym, _∙_, ap}
+use mathlib.Core.Bool.{Bool, true, false}
+use mathlib.Core.Logic.{_↔_}
+use mathlib.Core.Option.{Option}
+use mathlib.Core.List.{List}
+use Rattle.answers.specs.declared.Told.{Told}
+use Rattle.answers.specs.First.{Least}
+use Rattle.answers.specs.Told.{turnedDown}
+use Rattle.answers.proofs.Rows.{turned-append}
+use Rattle.rules.specs.declared.Direction.{Direction}
+use Rattle.rules.specs.declared.Direction.the-variants.{North as north, East as east, South as south, West as west}
+use Rattle.rules.specs.declared.Parsed.{Parsed}
+use Rattle.rules.specs.declared.Verdict.{Verdict}
+use Rattle.rules.specs.Record.{recordRows, IsAccepted, toldParsed}
+use Rattle.rules.specs.Board.{Board, boardOf}
+use Rattle.rules.specs.Drawing.{Drawing, white, Links, Solution, SolutionBytes}
+use Rattle.rules.specs.Judge.{judgeRows, judgeAnswer, saysYes, toldVerdict}
+use Rattle.rules.proofs.Boards.{Wired, Laws}
+use Rattle.rules_theory.specs.Loop.{WholeLoop, Looped}
+use Rattle.answers.proofs.Rows.{answered-clear, clear-answered}
+use Rattle.rules.proofs.Records as records
+use Rattle.rules_theory.proofs.Judging.{clear-solution, solution-clear}
+use Rattle.rules_theory.proofs.Loop.{first-north, first-east, first-south, first-west}
+use Rattle.rules_theory.proofs.Whole as whole
+use Rattle.rules_theory.proofs.Telling as telling
+
+-- An accepted record's board has the laws of a board: a step stays inside and leads back, open cells and lines are on it, and so on.
+pub accepted-laws : (s : List ℕ) → IsAccepted s → Laws (boardOf s)
+accepted-laws = records.accepted-laws
+
+-- The judge says yes exactly of a solution. First of any board with the laws ..
+pub judge-right-on : {b : Board} → Laws b → (ds : List ℕ) → turnedDown (judgeRows b ds) saysYes ≡ saysYes ↔ SolutionBytes b ds
+judge-right-on {b} law ds = (
+  λ e. clear-solution law ds (answered-clear (judgeRows b ds) saysYes refl (ap (λ (t : Told). t .number) e)),
+  λ S. clear-answered (judgeRows b ds) saysYes (solution-clear law ds S),
+)
+
+-- .. and so of an accepted record, whatever numbers are handed in as its drawing.
+pub judge-right : (s : List ℕ) → IsAccepted s → (ds : List ℕ) → judgeAnswer s ds ≡ saysYes ↔ SolutionBytes (boardOf s) ds
+judge-right s a ds = (λ e. right .0 (sym passed ∙ e), λ S. passed ∙ right .1 S)
+  where
+    right : turnedDown (judgeRows (boardOf s) ds) saysYes ≡ saysYes ↔ SolutionBytes (boardOf s) ds
+    right = judge-right-on (accepted-laws s a) ds
+
+    -- the record's rows turn nothing down
+    passed : judgeAnswer s ds ≡ turnedDown (judgeRows (boardOf s) ds) saysYes
+    passed = turned-append (recordRows s) (judgeRows (boardOf s) ds) saysYes ∙ clear-answered (recordRows s) _ (records.accepted-clear s a)
+
+-- The first white cell has its links to the east and the south, and none to the north or west.
+module _ {size : ℕ} {next : Direction → ℕ → Option ℕ} {white : ℕ → Bool} {link : ℕ → Direction → Bool} {s : ℕ} where
+  pub first-links : Wired size next → Links size next white link → Least white size s → (link s east ≡ true) × (link s south ≡ true) × (link s north ≡ false) × (link s west ≡ false)
+  first-links B L F = (first-east B L F, first-south B L F, first-north B L F, first-west B L F)
+
+-- A solution's links are one loop.
+module _ {b : Board} (law : Laws b) {D : Drawing} (sol : Solution b D) where
+  -- There is a first white cell.
+  pub lead : (s : ℕ) × Least (white b (D .black)) (b .size) s
+  lead = whole.lead (law .wired) (sol .links) (sol .whole)
+
+  module _ {s : ℕ} (first : Least (white b (D .black)) (b .size) s) where
+    -- The cells that the walk from it passes are the white cells, each once, each linked to the next one and the last to the first.
+    pub walk-whole : WholeLoop (b .size) (b .next) (white b (D .black)) (D .link) s
+    walk-whole = whole.whole-loop (law .wired) (sol .links) first (whole.lead-reaches (law .wired) (sol .links) (sol .whole) first)
+
+    -- The walk step by step: eastward at first, back from the south after as many steps as there are white cells.
+    pub walk-steps : (m : ℕ) × Looped (b .size) (b .next) (D .link) s m
+    walk-steps = whole.looped (law .wired) (sol .links) first
+
+-- Document 01's numbers and values tell the answers apart: two verdicts that are told the same are the same, and two readings of a record likewise.
+pub told-one-to-one : ((v w : Verdict) → toldVerdict v ≡ toldVerdict w → v ≡ w) × ((p q : Parsed) → toldParsed p ≡ toldParsed q → p ≡ q)
+told-one-to-one = (telling.verdict-one-to-one, telling.parsed-one-to-one)

@@ -1,0 +1,2 @@
+-- What the theorems say, where `rules` has no word for it.
+pub mod Loop
