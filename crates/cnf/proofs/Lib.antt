@@ -1,0 +1,3 @@
+-- Laws of literals and lists.
+pub mod Signed
+pub mod Lists
