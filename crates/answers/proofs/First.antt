@@ -6,7 +6,9 @@ use mathlib.Core.Path.{_≡_, refl, sym, _∙_, ap, subst}
 use mathlib.Core.Bool.{Bool, true, false}
 use mathlib.Core.Logic.{_⊎_, inl, inr}
 use mathlib.Core.Option.{Option, none, some, Option·some-injective, Option·some-ne-none}
-use Rattle.answers.specs.First.{found, firstFrom, firstWhere, Least}
+use Rattle.answers.specs.declared.Place.{Place}
+use Rattle.answers.specs.declared.Place.the-variants.{At, Nowhere}
+use Rattle.answers.specs.First.{found, firstFrom, firstWhere, Least, placed}
 use Rattle.answers.proofs.Bools.{clash}
 
 -- the least of the n numbers from a on
@@ -90,6 +92,19 @@ module _ (p : ℕ → Bool) (n : ℕ) where
           same (no h) (yes k) = absurd (one m (r .0) l (r .1) k)
           same (no h) (no k) = omega arith
 
+pub first-below : (p : ℕ → Bool) (n : ℕ) {m : ℕ} → some m ≡ firstWhere p n → m < n
+first-below p n {m} e = first-some p n m (sym e) .below
+
+-- tests that agree below n
+pub first-same : (p q : ℕ → Bool) (n : ℕ) → ((k : ℕ) → k < n → p k ≡ q k) → firstWhere p n ≡ firstWhere q n
+first-same p q n h = by (firstWhere p n) refl
+  where
+    by : (o : Option ℕ) → firstWhere p n ≡ o → firstWhere p n ≡ firstWhere q n
+    by none e = e ∙ sym (none-first q n (λ k l. sym (h k l) ∙ first-none p n e k l))
+    by (some m) e =
+        let l = first-some p n m e in
+        e ∙ sym (some-first q n (record { below = l .below; holds = sym (h m (l .below)) ∙ l .holds; first = λ k b. sym (h k (let z = l .below in omega arith)) ∙ l .first k b }))
+
 -- at the head of a loop that seeks the first: the test holds nowhere below i
 pub record Seeking (p : ℕ → Bool) (n i : ℕ) : Type 0 where
   pub within : i ≤ n
@@ -112,3 +127,10 @@ module _ {p : ℕ → Bool} {n i : ℕ} (s : Seeking p n i) where
 
   pub seek-none : {m : ℕ} → n ≤ i → n ≡ m → none ≡ firstWhere p m
   seek-none h e = let w = s .within in sym (none-first p n (λ k l. s .none-yet k (omega arith))) ∙ ap (firstWhere p) e
+
+-- what a search answered, as the definition has it
+pub found-at : {q : Place} {x : ℕ} {o : Option ℕ} → q ≡ At x → placed q ≡ o → some x ≡ o
+found-at e h = sym (ap placed e) ∙ h
+
+pub found-none : {q : Place} {o : Option ℕ} → q ≡ Nowhere → placed q ≡ o → none ≡ o
+found-none e h = sym (ap placed e) ∙ h

@@ -22,6 +22,23 @@ tells answers = refl
 tells (turns {n = n} {rs = rs} {t = t} e) = sym (ap (λ (o : Option ℕ). unless n o (turnedDown rs t)) e)
 tells (passes {n = n} {rs = rs} {t = t} e h) = tells h ∙ sym (ap (λ (o : Option ℕ). unless n o (turnedDown rs t)) e)
 
+-- what is left of a table's rows, those before being passed: what the rest tells is what the whole tells
+pub record Left (whole : List Row) (t : Told) (rows : List Row) : Type 0 where
+  pub leads : {u : Told} → Tells rows t u → u ≡ turnedDown whole t
+
+pub left-all : (whole : List Row) (t : Told) → Left whole t whole
+left-all whole t = record { leads = λ h. tells h }
+
+module _ {whole rows : List Row} {t : Told} {n : ℕ} {o : Option ℕ} (l : Left whole t (row n o ∷ rows)) where
+  pub left-next : none ≡ o → Left whole t rows
+  left-next e = record { leads = λ h. l .leads (passes (sym e) h) }
+
+  pub left-turn : {v : ℕ} → some v ≡ o → refusal n v ≡ turnedDown whole t
+  left-turn e = l .leads (turns (sym e))
+
+pub left-done : {whole : List Row} {t : Told} → Left whole t [] → t ≡ turnedDown whole t
+left-done l = l .leads answers
+
 -- rows in two parts
 pub turned-append : (rs qs : List Row) (t : Told) → turnedDown (rs ++ qs) t ≡ turnedDown rs (turnedDown qs t)
 turned-append [] qs t = refl
@@ -52,3 +69,13 @@ clear-answered (r ∷ rs) t c = ap (λ (o : Option ℕ). unless (r .number) o (t
 pub no-cause : (t : Bool) → cause t ≡ none → t ≡ false
 no-cause true e = absurd (Option·some-ne-none 0 e)
 no-cause false e = refl
+
+-- a call that the first rows turn down is turned down whatever comes after them
+pub still-turned : (rs qs : List Row) (t u : Told) → t .number ≡ 0 → (turnedDown rs t .number ≡ 0 → ⊥) → turnedDown rs t ≡ turnedDown (rs ++ qs) u
+still-turned [] qs t u z n = absurd (n z)
+still-turned (r ∷ rs) qs t u z n = by (r .beside) n (still-turned rs qs t u z)
+  where
+    by : (o : Option ℕ) → (unless (r .number) o (turnedDown rs t) .number ≡ 0 → ⊥) → ((turnedDown rs t .number ≡ 0 → ⊥) → turnedDown rs t ≡ turnedDown (rs ++ qs) u)
+        → unless (r .number) o (turnedDown rs t) ≡ unless (r .number) o (turnedDown (rs ++ qs) u)
+    by none n go = go n
+    by (some v) n go = refl

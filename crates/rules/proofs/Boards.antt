@@ -216,7 +216,7 @@ module _ (g : Grid) where
       by south a l = omega arith
       by west a l = omega arith
 
-  not-far : (d : Direction) (x : ℕ) → x < size g → far d x ≤ size g
+  pub not-far : (d : Direction) (x : ℕ) → x < size g → far d x ≤ size g
   unfolding far
   not-far north x h = omega arith
   not-far east x h = omega arith

@@ -1,3 +1,4 @@
 -- Laws that the proofs of this crate and of those above share.
 pub mod Boards
 pub mod Records
+pub mod Steps

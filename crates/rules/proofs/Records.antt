@@ -9,19 +9,23 @@ use borrow.Author.Tests.{eqb-true, leb-true, lt-ltb, le-ltb, eq-eqb, ne-eqb, le-
 use mathlib.Core.Path.{_≡_, refl, sym, _∙_, ap}
 use mathlib.Core.Bool.{Bool, true, false, not, _&&_, _||_}
 use mathlib.Core.Option.{Option, none, some}
-use mathlib.Core.List.{List, map}
+use mathlib.Core.List.{List, _++_}
 use Rattle.answers.proofs.Bools.{and-both, or-left, or-right, or-neither}
-use Rattle.answers.proofs.Rows.{Tells, tells, turns, passes, answers, Clear, answered-clear, no-cause}
+use Rattle.answers.proofs.Rows.{Tells, tells, turns, passes, answers, Clear, answered-clear, clear-answered, no-cause, still-turned, turned-append}
 use Rattle.answers.specs.declared.Told.{Told}
-use Rattle.answers.specs.Told.{refusal, answer, Row, cause}
+use Rattle.answers.specs.Told.{refusal, answer, Row, cause, turnedDown}
 use Rattle.answers.specs.First.{firstWhere}
 use Rattle.rules.specs.declared.Cell.{Cell}
 use Rattle.rules.specs.declared.Cell.the-variants.{Open, Clue}
 use Rattle.rules.specs.declared.CellByte.the-variants.{Is, NotAllowed}
 use Rattle.rules.specs.declared.Grid.{Grid}
+use Rattle.rules.specs.declared.Refusal.{Refusal}
+use Rattle.rules.specs.declared.Refusal.the-variants.{Length, Kind, Side, Size, NotACell}
+use Rattle.rules.specs.declared.Parsed.{Parsed}
+use Rattle.rules.specs.declared.Parsed.the-variants.{Accepted, Refused}
 use Rattle.rules.specs.Board.{boardOf}
 use Rattle.rules.proofs.Boards.{Laws, Filled, laws}
-use Rattle.rules.specs.Record.{directionOf, readCell, cellOf, word, sides, size, cellByte, puzzle, isSide, wrongLength, wrongKind, wrongSide, wrongSize, wrongCell, Sides, Held, recordRows, recordAnswer, IsAccepted}
+use Rattle.rules.specs.Record.{directionOf, readCell, cellOf, word, sides, size, cellByte, puzzle, isSide, wrongLength, wrongKind, wrongSide, wrongSize, wrongCell, Sides, Held, recordRows, recordAnswer, IsAccepted, toldRefusal, toldParsed}
 
 -- the bytes of clues, once for every direction
 pub clue-byte : (d b : ℕ) → 1 ≤ d → d ≤ 4 → 16 * d ≤ b → b < 16 * d + 16 → Is (Clue (directionOf d) (b - 16 * d)) ≡ readCell b
@@ -137,3 +141,37 @@ module _ {s : List ℕ} where
 
   pub all-right : SizeRight s → none ≡ firstWhere (wrongCell s) (size (sides s)) → answer (sides s .rows) (sides s .columns) 0 ≡ recordAnswer s
   all-right p e = past-size p (passes (sym e) answers)
+
+-- What the reader told, for the calls that go on after it.
+refusal-number : (r : Refusal) → toldRefusal r .number ≡ 0 → ⊥
+refusal-number Length e = omega arith
+refusal-number Kind e = omega arith
+refusal-number Side e = omega arith
+refusal-number Size e = omega arith
+refusal-number (NotACell x) e = omega arith
+
+-- a refusal is passed up unchanged, whatever rows come after the reader's
+pub passes-up : (s : List ℕ) (qs : List Row) (t : Told) {p : Parsed} {r : Refusal} → p ≡ Refused r → toldParsed p ≡ recordAnswer s → toldRefusal r ≡ turnedDown (recordRows s ++ qs) t
+passes-up s qs t {p} {r} q e =
+    let told : toldRefusal r ≡ recordAnswer s = sym (ap toldParsed q) ∙ e in
+    told ∙ still-turned (recordRows s) qs _ t refl (λ z. refusal-number r (ap (λ (u : Told). u .number) told ∙ z))
+
+module _ (s : List ℕ) {p : Parsed} {g : Grid} (q : p ≡ Accepted g) (e : toldParsed p ≡ recordAnswer s) where
+  told : toldParsed (Accepted g) ≡ recordAnswer s
+  told = sym (ap toldParsed q) ∙ e
+
+  is-accepted : IsAccepted s
+  is-accepted = sym (ap (λ (u : Told). u .number) told)
+
+  pub read-sides : g ≡ sides s
+  read-sides =
+      let all : toldParsed (Accepted g) ≡ toldParsed (Accepted (sides s)) = told ∙ clear-answered (recordRows s) _ (accepted-clear s is-accepted) in
+      λ i. record { rows = all i .first; columns = all i .second }
+
+  pub read-held : Held g s
+  read-held = rw read-sides (accepted-held s is-accepted)
+
+  -- the call is left to the rows after the reader's, over the grid that was read
+  pub goes-on : (rows : Grid → List Row) (t : Told) → turnedDown (rows g) t ≡ turnedDown (recordRows s ++ rows (sides s)) t
+  goes-on rows t =
+      ap (λ (g : Grid). turnedDown (rows g) t) read-sides ∙ sym (turned-append (recordRows s) (rows (sides s)) t ∙ clear-answered (recordRows s) _ (accepted-clear s is-accepted))

@@ -1,7 +1,6 @@
 -- The walk along the links: the cells that it passes until it is where it began.
 use Prim.Native.Nat.{ℕ, zero, suc}
 use lib.Dec.{eqb}
-use lib.ListN.{set}
 use mathlib.Core.Bool.{Bool, true, false, _||_}
 use mathlib.Core.Option.{Option, Option·getD}
 use mathlib.Core.List.{List, [], _∷_}
@@ -46,8 +45,3 @@ loopCells size next link s = around (go next) (onto link) s size (start s)
 unfoldable pub among : ℕ → List ℕ → Bool
 among x [] = false
 among x (y ∷ l) = eqb x y || among x l
-
--- 1 at each of the cells
-unfoldable pub marked : List ℕ → List ℕ → List ℕ
-marked [] ms = ms
-marked (x ∷ l) ms = marked l (set ms x 1)

@@ -57,3 +57,5 @@ pub enum Verdict {
 }
 
 pub mod record; // the reader of a grid record
+pub mod board; // steps from cell to cell
+pub mod told; // what the answers tell

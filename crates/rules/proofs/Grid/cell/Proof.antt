@@ -4,35 +4,25 @@ use Rattle.rules.proofs.Records.{cell-at}
 use borrow.Author.Needs.{needs}
 use Rattle.rules.proofs.Grid.cell.Statement.{statement}
 use Rattle.rules.proofs.Grid.cell.Tie as tie
-use Rattle.rules.proofs.Grid.cell.Reads as reads
-use Rattle.rules.proofs.Grid.cell.Lts as lts
-use Rattle.rules.proofs.record.read_cell.Reads as read-cell-reads
 
--- src/record.rt:47:34
 add-read-cell : tie.Need-add-read-cell
 add-read-cell c = search needs
 
--- src/record.rt:47:27
 shared-slice-read-read-cell : tie.Need-shared-slice-read-read-cell
 shared-slice-read-read-cell c = search needs
 
--- src/record.rt:47:13
 read-cell-requires : tie.Need-read-cell-requires
 read-cell-requires c κs = search needs
 
--- src/record.rt:48:26
 enum-known-c : tie.Need-enum-known-c
 enum-known-c c = search needs
 
--- src/record.rt:49:13
 enum-told : tie.Need-enum-told
 enum-told c = search needs
 
--- src/record.rt:49:13
 returns : tie.Need-returns
 returns c = sym (ap isCell (sym (c .before .before .read-cell .ensures) ∙ c .enum-told .given .1)) ∙ cell-at (c .before .before .before .before .before .args .self) (c .before .before .before .before .before .args .«record» .now) (c .before .before .before .before .before .args .x)
 
--- src/record.rt:42:5
 returns-2 : tie.Need-returns-2
 returns-2 c = sym (ap isCell (sym (c .before .before .before .read-cell .ensures) ∙ c .before .c .given .1)) ∙ cell-at (c .before .before .before .before .before .before .args .self) (c .before .before .before .before .before .before .args .«record» .now) (c .before .before .before .before .before .before .args .x)
 

@@ -3,38 +3,28 @@ use native.Mathlib.Omega.{arith}
 use borrow.Author.Needs.{needs}
 use Rattle.rules.proofs.record.word_at.Statement.{statement}
 use Rattle.rules.proofs.record.word_at.Tie as tie
-use Rattle.rules.proofs.record.word_at.Reads as reads
-use Rattle.rules.proofs.record.word_at.Lts as lts
 
--- src/record.rt:87:15
 shared-slice-read-low : tie.Need-shared-slice-read-low
 shared-slice-read-low c = search needs
 
--- src/record.rt:87:15
 cast-low : tie.Need-cast-low
 cast-low c = omega (arith, c .shared-slice-known .given (c .before .args .i))
 
--- src/record.rt:88:23
 add-high : tie.Need-add-high
 add-high c = search needs
 
--- src/record.rt:88:16
 shared-slice-read-high : tie.Need-shared-slice-read-high
 shared-slice-read-high c = search needs
 
--- src/record.rt:88:16
 cast-high : tie.Need-cast-high
 cast-high c = omega (arith, c .shared-slice-known2 .given (c .before .before .args .i + 1))
 
--- src/record.rt:89:11
 mul-result : tie.Need-mul-result
 mul-result c = omega (arith, c .shared-slice-known2 .given (c .before .before .args .i + 1))
 
--- src/record.rt:89:5
 add-result : tie.Need-add-result
 add-result c = omega (arith, c .shared-slice-known2 .given (c .before .before .args .i), c .shared-slice-known2 .given (c .before .before .args .i + 1))
 
--- src/record.rt:83:1
 returns : tie.Need-returns
 returns c = search needs
 

@@ -8,8 +8,6 @@ use Rattle.answers.proofs.First.{Seeking, seek-start, seek-on, seek-found, seek
 use Rattle.rules.specs.Record.{wrongCell}
 use Rattle.rules.proofs.record.wrong_cell.Statement.{statement}
 use Rattle.rules.proofs.record.wrong_cell.Tie as tie
-use Rattle.rules.proofs.record.wrong_cell.Reads as reads
-use Rattle.rules.proofs.record.wrong_cell.Lts as lts
 
 abbrev Inv-loop : tie.InvT-loop
 Inv-loop «record» n x₀ x = Seeking (wrongCell «record») n x

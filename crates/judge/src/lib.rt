@@ -1,0 +1,210 @@
+// The judge of a drawing: document 01's "The drawing and its judge". Each cause is sought over the whole board before the next.
+ghost use mathlib.Core.Path.{_≡_};
+ghost use Prim.Native.Nat.{_<_, _≤_};
+ghost use lib.ListN.{length};
+ghost use Rattle.answers.specs.First.{firstWhere, placed};
+ghost use Rattle.answers.specs.Told.{cause, turnedDown};
+ghost use Rattle.rules.specs.Record.{size, On, Held, Drawn};
+ghost use Rattle.rules.specs.Board.{neighbour, gridBoard};
+ghost use Rattle.rules.specs.Drawing.{linkAt};
+ghost use Rattle.rules.specs.Walk.{loopCells};
+ghost use Rattle.rules.specs.Judge.{wrongDrawing, wrongByte, touching, clueNotMet, linkUnmatched, notTwoLinks, notOneLoop, judgeRows, judgeAnswer, saysYes, toldVerdict};
+ghost use Rattle.judge.specs.Walking.{marked, leftAfter, unseenAt, passedUp};
+use answers::Place;
+use checks::Test;
+use checks::cells::first;
+use checks::cells::white_at;
+use checks::drawing::other;
+use rules::Direction;
+use rules::Fault;
+use rules::Grid;
+use rules::Parsed;
+use rules::Verdict;
+use rules::board::go;
+use rules::board::opposite;
+use rules::record::read;
+
+// The most cells that a grid has.
+const MOST_CELLS: usize = 576;
+
+// The steps left after one that leads to y: none if the walk is back at s.
+fn left_after(y: usize, s: usize, left: usize) -> usize
+    requires { ⌜ 0 < left ⌝ }
+    ensures { λ r. ⌜ r ≡ leftAfter y s left ⌝ }
+{
+    if y == s {
+        return 0;
+    }
+    left - 1
+}
+
+// Marks the cells that the walk from s eastward passes until it is at s again.
+fn trace(g: Grid, drawing: &[u8], s: usize, seen: &mut [u8])
+    requires { ⌜ On g s ⌝ }
+    requires { ⌜ length (now drawing) ≡ size g ⌝ }
+    requires { ⌜ size g ≤ length (now seen) ⌝ }
+    ensures { λ r. ⌜ now (seen .exit) ≡ marked (loopCells (size g) (neighbour g) (linkAt (now (drawing .entry))) s) (now (seen .entry)) ⌝ }
+{
+    let mut x = s;
+    let mut d = Direction::East;
+    let mut left = g.size();
+    while left > 0 {
+        seen[x] = 1;
+        let y = go(g, x, d);
+        let b = drawing[y];
+        let back = opposite(d);
+        let e = other(b, back);
+        left = left_after(y, s, left);
+        x = y;
+        d = e;
+    }
+}
+
+fn unseen_at(g: Grid, record: &[u8], drawing: &[u8], seen: &[u8], x: usize) -> bool
+    requires { ⌜ Drawn g (now «record») (now drawing) ⌝ }
+    requires { ⌜ size g ≤ length (now seen) ⌝ }
+    requires { ⌜ x < size g ⌝ }
+    ensures { λ r. ⌜ r ≡ unseenAt (gridBoard g (now («record» .entry))) (now (drawing .entry)) (now (seen .entry)) x ⌝ }
+{
+    if seen[x] != 0 {
+        return false;
+    }
+    white_at(g, record, drawing, x)
+}
+
+// The first white cell that is not marked.
+fn first_unseen(g: Grid, record: &[u8], drawing: &[u8], seen: &[u8]) -> Place
+    requires { ⌜ Drawn g (now «record») (now drawing) ⌝ }
+    requires { ⌜ size g ≤ length (now seen) ⌝ }
+    ensures { λ r. ⌜ placed r ≡ firstWhere (unseenAt (gridBoard g (now («record» .entry))) (now (drawing .entry)) (now (seen .entry))) (size g) ⌝ }
+{
+    let n = g.size();
+    let mut x = 0;
+    while x < n {
+        let found = unseen_at(g, record, drawing, seen, x);
+        if found {
+            return Place::At(x);
+        }
+        x += 1;
+    }
+    Place::Nowhere
+}
+
+// 7: drawing not N bytes.
+fn wrong_length(g: Grid, record: &[u8], drawing: &[u8]) -> bool
+    requires { ⌜ Held g (now «record») ⌝ }
+    ensures { λ r. ⌜ cause r ≡ wrongDrawing (gridBoard g (now («record» .entry))) (now (drawing .entry)) ⌝ }
+{
+    drawing.len() != g.size()
+}
+
+// 10: a byte that its cell doesn't allow.
+fn wrong_byte(g: Grid, record: &[u8], drawing: &[u8]) -> Place
+    requires { ⌜ Drawn g (now «record») (now drawing) ⌝ }
+    ensures { λ r. ⌜ placed r ≡ wrongByte (gridBoard g (now («record» .entry))) (now (drawing .entry)) ⌝ }
+{
+    first(Test::DrawingByte, g, record, drawing)
+}
+
+// 11: black beside black to its east or south.
+fn touching(g: Grid, record: &[u8], drawing: &[u8]) -> Place
+    requires { ⌜ Drawn g (now «record») (now drawing) ⌝ }
+    ensures { λ r. ⌜ placed r ≡ touching (gridBoard g (now («record» .entry))) (now (drawing .entry)) ⌝ }
+{
+    first(Test::Touching, g, record, drawing)
+}
+
+// 12: a clue that is not met.
+fn clue_not_met(g: Grid, record: &[u8], drawing: &[u8]) -> Place
+    requires { ⌜ Drawn g (now «record») (now drawing) ⌝ }
+    ensures { λ r. ⌜ placed r ≡ clueNotMet (gridBoard g (now («record» .entry))) (now (drawing .entry)) ⌝ }
+{
+    first(Test::ClueNotMet, g, record, drawing)
+}
+
+// 13: a link that is unmatched or leads off the board.
+fn link_unmatched(g: Grid, record: &[u8], drawing: &[u8]) -> Place
+    requires { ⌜ Drawn g (now «record») (now drawing) ⌝ }
+    ensures { λ r. ⌜ placed r ≡ linkUnmatched (gridBoard g (now («record» .entry))) (now (drawing .entry)) ⌝ }
+{
+    first(Test::LinkUnmatched, g, record, drawing)
+}
+
+// 14: a white cell without exactly two links.
+fn not_two_links(g: Grid, record: &[u8], drawing: &[u8]) -> Place
+    requires { ⌜ Drawn g (now «record») (now drawing) ⌝ }
+    ensures { λ r. ⌜ placed r ≡ notTwoLinks (gridBoard g (now («record» .entry))) (now (drawing .entry)) ⌝ }
+{
+    first(Test::NotTwoLinks, g, record, drawing)
+}
+
+// 15: no white cell, or the first white cell not on the first white cell's loop.
+fn not_one_loop(g: Grid, record: &[u8], drawing: &[u8]) -> Place
+    requires { ⌜ Drawn g (now «record») (now drawing) ⌝ }
+    ensures { λ r. ⌜ placed r ≡ notOneLoop (gridBoard g (now («record» .entry))) (now (drawing .entry)) ⌝ }
+{
+    let p = first(Test::White, g, record, drawing);
+    let Place::At(s) = p else {
+        return Place::At(0);
+    };
+    let mut seen = [0u8; MOST_CELLS];
+    trace(g, drawing, s, &mut seen);
+    first_unseen(g, record, drawing, &seen)
+}
+
+// 7 and 10 to 15, in order.
+fn judge_grid(g: Grid, record: &[u8], drawing: &[u8]) -> Verdict
+    requires { ⌜ Held g (now «record») ⌝ }
+    ensures { λ r. ⌜ toldVerdict r ≡ turnedDown (judgeRows (gridBoard g (now («record» .entry))) (now (drawing .entry))) saysYes ⌝ }
+{
+    let wrong = wrong_length(g, record, drawing);
+    if wrong {
+        return Verdict::No(Fault::DrawingLength);
+    }
+    let p = wrong_byte(g, record, drawing);
+    if let Place::At(x) = p {
+        return Verdict::No(Fault::DrawingByte(x));
+    }
+    let p = touching(g, record, drawing);
+    if let Place::At(x) = p {
+        return Verdict::No(Fault::Touching(x));
+    }
+    let p = clue_not_met(g, record, drawing);
+    if let Place::At(x) = p {
+        return Verdict::No(Fault::ClueNotMet(x));
+    }
+    let p = link_unmatched(g, record, drawing);
+    if let Place::At(x) = p {
+        return Verdict::No(Fault::LinkUnmatched(x));
+    }
+    let p = not_two_links(g, record, drawing);
+    if let Place::At(x) = p {
+        return Verdict::No(Fault::NotTwoLinks(x));
+    }
+    let p = not_one_loop(g, record, drawing);
+    if let Place::At(x) = p {
+        return Verdict::No(Fault::NotOneLoop(x));
+    }
+    Verdict::Yes
+}
+
+// A refusal of the record reader, passed up unchanged.
+fn passed_up(p: Parsed) -> Verdict
+    ensures { λ r. ⌜ r ≡ passedUp p ⌝ }
+{
+    let Parsed::Refused(r) = p else {
+        return Verdict::Yes;
+    };
+    Verdict::No(Fault::Record(r))
+}
+
+// The judge says yes, or names the first cause against it.
+pub fn judge(record: &[u8], drawing: &[u8]) -> Verdict
+    ensures { λ r. ⌜ toldVerdict r ≡ judgeAnswer (now («record» .entry)) (now (drawing .entry)) ⌝ }
+{
+    let p = read(record);
+    let Parsed::Accepted(g) = p else {
+        return passed_up(p);
+    };
+    judge_grid(g, record, drawing)
+}

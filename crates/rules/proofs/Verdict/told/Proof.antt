@@ -1,0 +1,28 @@
+use mathlib.Core.Path.{_≡_, sym, _∙_, ap}
+use Rattle.rules.specs.Judge.{toldVerdict}
+use borrow.Author.Needs.{needs}
+use Rattle.rules.proofs.Verdict.told.Statement.{statement}
+use Rattle.rules.proofs.Verdict.told.Tie as tie
+
+enum-told : tie.Need-enum-told
+enum-told c = search needs
+
+answered-requires : tie.Need-answered-requires
+answered-requires c κs = search needs
+
+enum-known-self : tie.Need-enum-known-self
+enum-known-self c = search needs
+
+told-requires : tie.Need-told-requires
+told-requires c κs = search needs
+
+returns : tie.Need-returns
+returns c = c .answered .ensures ∙ sym (ap toldVerdict (c .before .enum-told .given .1))
+
+returns-2 : tie.Need-returns-2
+returns-2 c = c .told .ensures ∙ sym (ap toldVerdict (c .before .before .self .given .1))
+
+pub told-spec : {M : Type 1} → statement M
+told-spec =
+    tie.close
+    (tie.spec enum-told answered-requires enum-known-self told-requires returns returns-2)

@@ -1,0 +1,51 @@
+use Rattle.answers.proofs.First.{found-at, found-none}
+use borrow.Author.Needs.{needs}
+use Rattle.rules.proofs.Boards.{far}
+use Rattle.rules.proofs.Steps.{Outgoing, out-start, out-end, out-count, out-less, out-on}
+use Rattle.rules.proofs.board.line_end.Statement.{statement}
+use Rattle.rules.proofs.board.line_end.Tie as tie
+
+abbrev Inv-loop : tie.InvT-loop
+Inv-loop g «record» x d y₀ cells₀ y cells = Outgoing g d x y cells
+
+abbrev μ-loop : tie.MeasureT-loop
+μ-loop g «record» x d y₀ cells₀ y cells = far g d y
+
+loop-holds : tie.Need-loop-holds Inv-loop μ-loop
+loop-holds c = out-start (c .before .args .d) (c .before .pre)
+
+neighbour-requires : tie.Need-neighbour-requires Inv-loop μ-loop
+neighbour-requires c κs = search needs
+
+enum-known-p : tie.Need-enum-known-p Inv-loop μ-loop
+enum-known-p c = search needs
+
+enum-told : tie.Need-enum-told Inv-loop μ-loop
+enum-told c = search needs
+
+returns : tie.Need-returns Inv-loop μ-loop
+returns c = let e = found-none (c .enum-told .given .1) (c .before .before .neighbour .ensures) in (out-end (c .before .before .before .loop .inv) e, out-count (c .before .before .before .loop .inv) e)
+
+add-cells : tie.Need-add-cells Inv-loop μ-loop
+add-cells c = search needs
+
+loop-less : tie.Need-loop-less Inv-loop μ-loop
+loop-less c = out-less (c .before .before .before .before .loop .inv) (found-at (c .before .p .given .1) (c .before .before .before .neighbour .ensures))
+
+loop-again : tie.Need-loop-again Inv-loop μ-loop
+loop-again c = out-on (c .before .before .before .before .loop .inv) (found-at (c .before .p .given .1) (c .before .before .before .neighbour .ensures))
+
+pub line-end-spec : {M : Type 1} → statement M
+line-end-spec =
+    tie.close
+    (tie.spec
+    Inv-loop
+    μ-loop
+    loop-holds
+    neighbour-requires
+    enum-known-p
+    enum-told
+    returns
+    add-cells
+    loop-less
+    loop-again)

@@ -1,0 +1,95 @@
+// Steps on a grid's board: neighbours, and the way to the end of a clue's line.
+ghost use mathlib.Core.Path.{_≡_};
+ghost use lib.ListN.{length};
+ghost use Rattle.answers.specs.First.{placed};
+ghost use Rattle.rules.specs.Directions.{opposite};
+ghost use Rattle.rules.specs.Record.{On, puzzle};
+ghost use Rattle.rules.specs.Board.{neighbour, line, nearest};
+ghost use Rattle.rules.specs.Walk.{go};
+use super::Direction;
+use super::Grid;
+use answers::Place;
+
+pub fn opposite(d: Direction) -> Direction
+    ensures { λ r. ⌜ r ≡ opposite d ⌝ }
+{
+    match d {
+        Direction::North => Direction::South,
+        Direction::East => Direction::West,
+        Direction::South => Direction::North,
+        Direction::West => Direction::East,
+    }
+}
+
+// The neighbour of a cell, if there is one.
+pub fn neighbour(g: Grid, x: usize, d: Direction) -> Place
+    requires { ⌜ On g x ⌝ }
+    ensures { λ r. ⌜ placed r ≡ neighbour g d x ⌝ }
+{
+    let rows = g.rows;
+    let columns = g.columns;
+    match d {
+        Direction::North => {
+            if x < columns {
+                return Place::Nowhere;
+            }
+            Place::At(x - columns)
+        }
+        Direction::East => {
+            if x % columns + 1 >= columns {
+                return Place::Nowhere;
+            }
+            Place::At(x + 1)
+        }
+        Direction::South => {
+            if x + columns >= rows * columns {
+                return Place::Nowhere;
+            }
+            Place::At(x + columns)
+        }
+        Direction::West => {
+            if x % columns == 0 {
+                return Place::Nowhere;
+            }
+            Place::At(x - 1)
+        }
+    }
+}
+
+// The neighbour, or the cell itself where there is none.
+pub fn go(g: Grid, x: usize, d: Direction) -> usize
+    requires { ⌜ On g x ⌝ }
+    ensures { λ r. ⌜ r ≡ go (neighbour g) d x ⌝ }
+{
+    let p = neighbour(g, x, d);
+    let Place::At(y) = p else {
+        return x;
+    };
+    y
+}
+
+// Where a line ends.
+pub struct End {
+    // The cell nearest the edge; the clue's own where the line is empty.
+    pub cell: usize,
+    // The number of cells on the line.
+    pub cells: usize,
+}
+
+// The end of the line that leaves x in a direction.
+pub fn line_end(g: Grid, record: &[u8], x: usize, d: Direction) -> End
+    requires { ⌜ On g x ⌝ }
+    ensures { λ r. ⌜ r .cell ≡ nearest (line (puzzle g (now («record» .entry))) d x) x ⌝ }
+    ensures { λ r. ⌜ r .cells ≡ length (line (puzzle g (now («record» .entry))) d x) ⌝ }
+{
+    let mut y = x;
+    let mut cells = 0;
+    loop {
+        let p = neighbour(g, y, d);
+        let Place::At(z) = p else {
+            return End { cell: y, cells };
+        };
+        y = z;
+        cells += 1;
+    }
+}
