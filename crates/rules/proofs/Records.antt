@@ -2,20 +2,19 @@
 use Prim.Native.Nat.{ℕ, _+_, _-_, _*_, _/_, _%_, _≤_, _<_}
 use native.Mathlib.Omega.{arith}
 use native.Mathlib.Nat.{mul-le-mul}
-use lib.Dec.{eqb, leb, ltb}
+use lib.Dec.{leb, ltb}
 use lib.ListN.{length, getD, drop, length-map, length-drop, List·getD-map}
 use lib.Seq.{getD-drop}
 use borrow.Author.Tests.{eqb-true, leb-true, lt-ltb, le-ltb, eq-eqb, ne-eqb, le-leb, lt-leb, not-false}
 use mathlib.Core.Path.{_≡_, refl, sym, _∙_, ap}
-use mathlib.Core.Bool.{Bool, true, false, not, _&&_, _||_}
-use mathlib.Core.Option.{Option, none, some}
+use mathlib.Core.Bool.{true, false, not}
+use mathlib.Core.Option.{none, some}
 use mathlib.Core.List.{List, _++_}
 use Rattle.answers.proofs.Bools.{and-both, or-left, or-right, or-neither}
 use Rattle.answers.proofs.Rows.{Tells, tells, turns, passes, answers, Clear, answered-clear, clear-answered, no-cause, still-turned, turned-append}
 use Rattle.answers.specs.declared.Told.{Told}
 use Rattle.answers.specs.Told.{refusal, answer, Row, cause, turnedDown}
 use Rattle.answers.specs.First.{firstWhere}
-use Rattle.rules.specs.declared.Cell.{Cell}
 use Rattle.rules.specs.declared.Cell.the-variants.{Open, Clue}
 use Rattle.rules.specs.declared.CellByte.the-variants.{Is, NotAllowed}
 use Rattle.rules.specs.declared.Grid.{Grid}

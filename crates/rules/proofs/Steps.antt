@@ -1,5 +1,5 @@
 -- Steps on the board by the code's tests, and the way out to the end of a line. Assumes nothing.
-use Prim.Native.Nat.{ℕ, zero, suc, _+_, _-_, _*_, _%_, _≤_, _<_}
+use Prim.Native.Nat.{ℕ, zero, suc, _+_, _-_, _%_, _≤_, _<_}
 use native.Mathlib.Omega.{arith}
 use native.Mathlib.Nat.{mod-lt, div-add-mod'}
 use native.Mathlib.Numerals.{add-one}
@@ -8,15 +8,13 @@ use lib.ListN.{length}
 use borrow.Author.Tests.{lt-ltb}
 use mathlib.Core.Path.{_≡_, refl, sym, _∙_, ap}
 use mathlib.Core.Bool.{Bool, true, false, _&&_}
-use mathlib.Core.Option.{Option, none, some, Option·getD, Option·some-ne-none}
+use mathlib.Core.Option.{Option, none, some}
 use mathlib.Core.List.{List, [], _∷_}
 use Rattle.answers.proofs.Bools.{both-and}
 use Rattle.rules.specs.declared.Direction.{Direction}
 use Rattle.rules.specs.declared.Grid.{Grid}
-use Rattle.rules.specs.Directions.{opposite}
-use Rattle.rules.specs.Record.{size, On, puzzle}
-use Rattle.rules.specs.Board.{when, inside, target, neighbour, beyond, outward, line, nearest}
-use Rattle.rules.specs.Walk.{go}
+use Rattle.rules.specs.Record.{size, On}
+use Rattle.rules.specs.Board.{when, inside, target, neighbour, beyond, outward, nearest}
 use Rattle.rules.proofs.Boards.{when-true, wired, far, nearer, has, not-far}
 
 module _ {g : Grid} {x : ℕ} (o : On g x) where

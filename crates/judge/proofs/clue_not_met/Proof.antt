@@ -1,3 +1,4 @@
+-- `judge::clue_not_met` meets its contract. Assumes nothing.
 use mathlib.Core.Path.{_∙_}
 use Rattle.rules.specs.Record.{puzzle}
 use Rattle.rules.proofs.Records.{held-filled}

@@ -1,9 +1,10 @@
+-- `judge::first_unseen` meets its contract. Assumes nothing.
 use borrow.Author.Needs.{needs}
 use Prim.Native.Nat.{_-_}
 use Rattle.answers.proofs.First.{Seeking, seek-start, seek-on, seek-found, seek-none}
 use Rattle.rules.specs.Board.{gridBoard}
 use Rattle.judge.specs.Walking.{unseenAt}
-use mathlib.Core.Path.{_≡_, sym, _∙_}
+use mathlib.Core.Path.{sym, _∙_}
 use Rattle.judge.proofs.first_unseen.Statement.{statement}
 use Rattle.judge.proofs.first_unseen.Tie as tie
 

@@ -1,3 +1,4 @@
+-- `judge::judge` meets its contract. Assumes nothing.
 use mathlib.Core.Path.{_∙_, ap}
 use Rattle.rules.specs.Board.{gridBoard, boardOf}
 use Rattle.rules.specs.Judge.{judgeRows, saysYes, toldVerdict}

@@ -1,3 +1,4 @@
+-- `judge::left_after` meets its contract. Assumes nothing.
 use borrow.Author.Tests.{eq-eqb, ne-eqb}
 use borrow.Author.Needs.{needs}
 use Rattle.judge.proofs.left_after.Statement.{statement}

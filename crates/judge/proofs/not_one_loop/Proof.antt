@@ -1,3 +1,4 @@
+-- `judge::not_one_loop` meets its contract. Assumes nothing.
 use mathlib.Core.Path.{_∙_}
 use Rattle.answers.proofs.First.{found-at, found-none, first-below}
 use Rattle.rules.specs.Record.{size}

@@ -1,3 +1,4 @@
+-- `judge::passed_up` meets its contract. Assumes nothing.
 use mathlib.Core.Path.{sym, ap}
 use Rattle.judge.specs.Walking.{passedUp}
 use borrow.Author.Needs.{needs}

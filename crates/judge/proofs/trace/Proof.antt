@@ -1,3 +1,4 @@
+-- `judge::trace` meets its contract. Assumes nothing.
 use borrow.Author.Needs.{needs}
 use native.Mathlib.Omega.{arith}
 use Rattle.judge.proofs.Tracing.{Tracing, gone-on, trace-start, trace-on, trace-end, left-less}

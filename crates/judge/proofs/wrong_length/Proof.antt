@@ -1,3 +1,4 @@
+-- `judge::wrong_length` meets its contract. Assumes nothing.
 use borrow.Author.Needs.{needs}
 use Rattle.judge.proofs.wrong_length.Statement.{statement}
 use Rattle.judge.proofs.wrong_length.Tie as tie

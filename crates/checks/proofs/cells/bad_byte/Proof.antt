@@ -1,3 +1,4 @@
+-- `checks::cells::bad_byte` meets its contract. Assumes nothing.
 use native.Mathlib.Omega.{arith}
 use mathlib.Core.Path.{_≡_}
 use Rattle.checks.proofs.Checks.{clue-or-not, low-byte, middle-byte, over-byte}

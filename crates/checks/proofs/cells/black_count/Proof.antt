@@ -1,3 +1,4 @@
+-- `checks::cells::black_count` meets its contract. Assumes nothing.
 use Rattle.checks.proofs.Checks.{bit-small}
 use borrow.Author.Needs.{needs}
 use native.Mathlib.Omega.{arith}

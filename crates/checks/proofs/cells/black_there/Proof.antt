@@ -1,3 +1,4 @@
+-- `checks::cells::black_there` meets its contract. Assumes nothing.
 use native.Mathlib.Omega.{arith}
 use mathlib.Core.Path.{ap}
 use Rattle.answers.proofs.First.{found-at, found-none}

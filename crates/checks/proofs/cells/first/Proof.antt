@@ -1,6 +1,7 @@
+-- `checks::cells::first` meets its contract. Assumes nothing.
 use borrow.Author.Needs.{needs}
 use Prim.Native.Nat.{_-_}
-use mathlib.Core.Path.{_≡_, sym, _∙_}
+use mathlib.Core.Path.{sym, _∙_}
 use Rattle.answers.proofs.First.{Seeking, seek-start, seek-on, seek-found, seek-none}
 use Rattle.rules.specs.Record.{puzzle}
 use Rattle.checks.specs.Tests.{testAt}

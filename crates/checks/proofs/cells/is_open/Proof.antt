@@ -1,4 +1,5 @@
-use mathlib.Core.Path.{_≡_, sym, _∙_, ap}
+-- `checks::cells::is_open` meets its contract. Assumes nothing.
+use mathlib.Core.Path.{sym, _∙_, ap}
 use Rattle.rules.specs.Board.{openCell}
 use Rattle.checks.proofs.Checks.{is-opened}
 use borrow.Author.Needs.{needs}

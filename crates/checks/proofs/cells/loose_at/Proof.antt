@@ -1,4 +1,5 @@
-use mathlib.Core.Path.{_≡_, sym, _∙_, ap}
+-- `checks::cells::loose_at` meets its contract. Assumes nothing.
+use mathlib.Core.Path.{sym, _∙_}
 use borrow.Author.Needs.{needs}
 use Rattle.checks.proofs.cells.loose_at.Statement.{statement}
 use Rattle.checks.proofs.cells.loose_at.Tie as tie

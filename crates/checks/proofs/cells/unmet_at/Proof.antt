@@ -1,4 +1,5 @@
-use mathlib.Core.Path.{_≡_, sym, _∙_, ap}
+-- `checks::cells::unmet_at` meets its contract. Assumes nothing.
+use mathlib.Core.Path.{sym, _∙_, ap}
 use Rattle.rules.specs.Record.{puzzle}
 use Rattle.rules.specs.Drawing.{blackAt}
 use Rattle.checks.specs.Tests.{unmetCell}

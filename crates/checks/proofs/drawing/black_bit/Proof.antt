@@ -1,3 +1,4 @@
+-- `checks::drawing::black_bit` meets its contract. Assumes nothing.
 use borrow.Author.Tests.{eq-eqb, ne-eqb}
 use mathlib.Core.Path.{sym, ap}
 use Rattle.rules.specs.Directions.{bit}

@@ -1,3 +1,4 @@
+-- `checks::drawing::degree` meets its contract. Assumes nothing.
 use Prim.Native.Nat.{_≤_}
 use native.Mathlib.Omega.{arith}
 use Rattle.rules.specs.declared.Direction.{Direction}

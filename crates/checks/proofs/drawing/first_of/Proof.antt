@@ -1,5 +1,6 @@
+-- `checks::drawing::first_of` meets its contract. Assumes nothing.
 use borrow.Author.Needs.{needs}
-use mathlib.Core.Path.{_≡_, sym, _∙_}
+use mathlib.Core.Path.{sym, _∙_}
 use Rattle.checks.proofs.drawing.first_of.Statement.{statement}
 use Rattle.checks.proofs.drawing.first_of.Tie as tie
 

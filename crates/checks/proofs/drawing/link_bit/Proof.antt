@@ -1,3 +1,4 @@
+-- `checks::drawing::link_bit` meets its contract. Assumes nothing.
 use mathlib.Core.Path.{sym, ap, _∙_}
 use Rattle.rules.specs.Directions.{bit}
 use borrow.Author.Needs.{needs}

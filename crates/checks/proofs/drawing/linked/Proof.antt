@@ -1,3 +1,4 @@
+-- `checks::drawing::linked` meets its contract. Assumes nothing.
 use borrow.Author.Needs.{needs}
 use Rattle.checks.proofs.Checks.{weight-positive}
 use Rattle.checks.proofs.drawing.linked.Statement.{statement}

@@ -1,5 +1,6 @@
+-- `checks::drawing::other` meets its contract. Assumes nothing.
 use borrow.Author.Needs.{needs}
-use mathlib.Core.Path.{_≡_, sym, _∙_}
+use mathlib.Core.Path.{_∙_}
 use Rattle.checks.proofs.drawing.other.Statement.{statement}
 use Rattle.checks.proofs.drawing.other.Tie as tie
 

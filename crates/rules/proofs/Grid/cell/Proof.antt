@@ -1,4 +1,5 @@
-use mathlib.Core.Path.{_≡_, sym, _∙_, ap}
+-- `rules::Grid::cell` meets its contract. Assumes nothing.
+use mathlib.Core.Path.{sym, _∙_, ap}
 use Rattle.rules.specs.Record.{isCell}
 use Rattle.rules.proofs.Records.{cell-at}
 use borrow.Author.Needs.{needs}

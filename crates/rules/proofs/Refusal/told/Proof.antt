@@ -1,4 +1,5 @@
-use mathlib.Core.Path.{_≡_, sym, _∙_, ap}
+-- `rules::Refusal::told` meets its contract. Assumes nothing.
+use mathlib.Core.Path.{sym, _∙_, ap}
 use Rattle.rules.specs.Record.{toldRefusal}
 use borrow.Author.Needs.{needs}
 use Rattle.rules.proofs.Refusal.told.Statement.{statement}

@@ -1,3 +1,4 @@
+-- `rules::board::go` meets its contract. Assumes nothing.
 use Prim.Native.Nat.{ℕ}
 use mathlib.Core.Path.{ap}
 use mathlib.Core.Option.{Option, Option·getD}

@@ -1,3 +1,4 @@
+-- `rules::board::line_end` meets its contract. Assumes nothing.
 use Rattle.answers.proofs.First.{found-at, found-none}
 use borrow.Author.Needs.{needs}
 use Rattle.rules.proofs.Boards.{far}

@@ -1,3 +1,4 @@
+-- `rules::board::neighbour` meets its contract. Assumes nothing.
 use Prim.Native.Nat.{_%_, _≤_, _<_}
 use native.Mathlib.Omega.{arith}
 use borrow.Author.Tests.{lt-ltb, le-ltb, le-leb, lt-leb}

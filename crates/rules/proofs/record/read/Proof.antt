@@ -2,7 +2,7 @@
 use native.Mathlib.Omega.{arith}
 use borrow.Author.Needs.{needs}
 use borrow.Author.Tests.{not-true, not-false}
-use mathlib.Core.Path.{_≡_, sym, _∙_, ap}
+use mathlib.Core.Path.{sym, _∙_, ap}
 use Rattle.answers.specs.First.{placed}
 use Rattle.rules.proofs.Records.{LengthRight, KindRight, SidesRight, SizeRight, short-record, other-length, right-length, other-kind, right-kind, rows-wrong, columns-wrong, right-sides, other-size, right-size, cell-wrong, all-right}
 use Rattle.rules.proofs.record.read.Statement.{statement}

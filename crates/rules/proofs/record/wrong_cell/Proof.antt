@@ -1,9 +1,7 @@
 -- `rules::record::wrong_cell` meets its contract: a loop that seeks the first cell. Assumes nothing.
 use Prim.Native.Nat.{_-_}
 use borrow.Author.Needs.{needs}
-use native.Mathlib.Omega.{arith}
-use mathlib.Core.Path.{_≡_, sym, _∙_, ap}
-use Rattle.answers.specs.First.{firstWhere}
+use mathlib.Core.Path.{sym, _∙_}
 use Rattle.answers.proofs.First.{Seeking, seek-start, seek-on, seek-found, seek-none}
 use Rattle.rules.specs.Record.{wrongCell}
 use Rattle.rules.proofs.record.wrong_cell.Statement.{statement}

@@ -1,0 +1,41 @@
+-- What the text writer and the text reader tell, and what they leave in the lent buffer.
+use Prim.Native.Nat.{ℕ}
+use lib.IntN.{ℤ}
+use lib.ListN.{length}
+use mathlib.Core.List.{List, [], _∷_}
+use Rattle.answers.specs.declared.Told.{Told}
+use Rattle.answers.specs.Told.{answer, Row, row, cause, turnedDown}
+use Rattle.answers.specs.Lent.{tooShort, filled, leaves}
+use Rattle.cnf.specs.Literals.{tooManyVariables, wrongList}
+use Rattle.dimacs.specs.Text.{textOf}
+use Rattle.dimacs.specs.Reader.{refusedAt, listOf, headerOf}
+
+-- writer 17 (for V alone), 16, 6
+abbrev pub writerRows : ℕ → List ℤ → ℕ → List Row
+writerRows v ls room =
+    row 17 (cause (tooManyVariables v)) ∷
+    row 16 (wrongList v ls) ∷
+    row 6 (tooShort room (length (textOf v ls))) ∷
+    []
+
+-- V, a list, a lent buffer: the count of bytes
+abbrev pub writerAnswer : ℕ → List ℤ → List ℕ → Told
+writerAnswer v ls buf = turnedDown (writerRows v ls (length buf)) (answer (length (textOf v ls)) 0 0)
+
+abbrev pub writerLeaves : ℕ → List ℤ → List ℕ → List ℕ
+writerLeaves v ls buf = leaves (writerAnswer v ls buf) buf (filled buf (textOf v ls))
+
+-- text reader 19, 6
+abbrev pub readerRows : List ℕ → ℕ → List Row
+readerRows text room =
+    row 19 (refusedAt text) ∷
+    row 6 (tooShort room (length (listOf text))) ∷
+    []
+
+-- a text, a lent buffer: the count of elements, V and the number of clauses
+abbrev pub readerAnswer : List ℕ → List ℤ → Told
+readerAnswer text buf =
+    turnedDown (readerRows text (length buf)) (answer (length (listOf text)) (headerOf text .variables) (headerOf text .clauses))
+
+abbrev pub readerLeaves : List ℕ → List ℤ → List ℤ
+readerLeaves text buf = leaves (readerAnswer text buf) buf (filled buf (listOf text))

@@ -1,0 +1,144 @@
+-- The text reader: "DIMACS text" byte by byte, and row 19 of "Turned down".
+use Prim.Native.Nat.{ℕ, suc, _+_, _*_, _-_, _^_}
+use lib.Dec.{eqb, leb, ltb}
+use lib.IntN.{ℤ, pos, negℤ}
+use mathlib.Core.Bool.{Bool, true, false, not, _&&_, _||_, cond}
+use mathlib.Core.Option.{Option, none, some}
+use mathlib.Core.List.{List, [], _∷_, _++_}
+use Rattle.cnf.specs.Literals.{mostVariables}
+use Rattle.dimacs.specs.Text.{lineFeed, space, minus, preamble}
+use Rattle.dimacs.specs.Automaton.{next, endFrom, refusedFrom}
+
+-- V and C
+pub record Header : Type 0 where
+  pub variables : ℕ
+  pub clauses : ℕ
+
+-- which number is read: V; C, once V is read; or an element of the list, after so many clauses, with or without a minus before it
+pub data Number : Type 0 where
+  ofVariables : Number
+  ofClauses : ℕ → Number
+  element : Header → ℕ → Bool → Number
+
+-- line: before the header, at a line's first byte. comment: in a comment line. word: in `p cnf `, with the bytes that are to come.
+-- first: before a number's first digit. digits: after a digit, with the number so far.
+-- clause: after the header, before an element; so many clauses are closed; whether the next is begun.
+pub data State : Type 0 where
+  line : State
+  comment : State
+  word : List ℕ → State
+  first : Number → State
+  digits : Number → ℕ → State
+  clause : Header → ℕ → Bool → State
+
+abbrev pub when : Bool → State → Option State
+when true s = some s
+when false s = none
+
+-- V is at most 16,777,216, C below 2^64, no literal is beyond V
+abbrev pub most : Number → ℕ
+most ofVariables = mostVariables
+most (ofClauses v) = 2 ^ 64 - 1
+most (element h k negative) = h .variables
+
+-- no −0
+abbrev pub zeroAllowed : Number → Bool
+zeroAllowed ofVariables = true
+zeroAllowed (ofClauses v) = true
+zeroAllowed (element h k negative) = not negative
+
+abbrev pub isDigit : ℕ → Bool
+isDigit b = leb 48 b && leb b 57
+
+abbrev pub firstDigit : Number → ℕ → Option State
+firstDigit n b = when (isDigit b && (zeroAllowed n || not (eqb b 48)) && leb (b - 48) (most n)) (digits n (b - 48))
+
+-- no leading zero
+abbrev pub nextDigit : Number → ℕ → ℕ → Option State
+nextDigit n x b = when (not (eqb x 0) && leb (x * 10 + (b - 48)) (most n)) (digits n (x * 10 + (b - 48)))
+
+-- LF after a closing 0, a space after a literal
+abbrev pub afterElement : Header → ℕ → Bool → ℕ → Option State
+afterElement h k true b = when (eqb b lineFeed) (clause h (suc k) false)
+afterElement h k false b = when (eqb b space) (clause h k true)
+
+-- a space after V, LF after C
+abbrev pub afterNumber : Number → ℕ → ℕ → Option State
+afterNumber ofVariables x b = when (eqb b space) (first (ofClauses x))
+afterNumber (ofClauses v) x b = when (eqb b lineFeed) (clause (record { variables = v; clauses = x }) 0 false)
+afterNumber (element h k negative) x b = afterElement h k (eqb x 0) b
+
+-- the bytes of `p cnf `, then V
+abbrev pub afterWord : List ℕ → State
+afterWord [] = first ofVariables
+afterWord (w ∷ ws) = word (w ∷ ws)
+
+abbrev pub wordStep : List ℕ → ℕ → Option State
+wordStep [] b = none
+wordStep (w ∷ ws) b = when (eqb b w) (afterWord ws)
+
+-- no byte after the C-th clause; a minus only if there is a variable
+abbrev pub clauseStep : Header → ℕ → ℕ → Option State
+clauseStep h k b =
+    cond (eqb k (h .clauses)) none
+    (cond (eqb b minus) (when (not (eqb (h .variables) 0)) (first (element h k true)))
+    (firstDigit (element h k false) b))
+
+abbrev pub stepByte : State → ℕ → Option State
+stepByte line b = cond (eqb b 99) (some comment) (wordStep preamble b)
+stepByte comment b = cond (eqb b lineFeed) (some line) (when (ltb b 256) comment)
+stepByte (word ws) b = wordStep ws b
+stepByte (first n) b = firstDigit n b
+stepByte (digits n x) b = cond (isDigit b) (nextDigit n x b) (afterNumber n x b)
+stepByte (clause h k begun) b = clauseStep h k b
+
+-- C clauses are read, and no other is begun
+abbrev pub accepts : State → Bool
+accepts line = false
+accepts comment = false
+accepts (word ws) = false
+accepts (first n) = false
+accepts (digits n x) = false
+accepts (clause h k begun) = not begun && eqb k (h .clauses)
+
+-- the element that the number is
+abbrev pub readElement : Number → ℕ → List ℤ
+readElement ofVariables x = []
+readElement (ofClauses v) x = []
+readElement (element h k negative) x = cond negative (negℤ (pos x)) (pos x) ∷ []
+
+-- the element that a byte ends
+abbrev pub ended : State → ℕ → List ℤ
+ended line b = []
+ended comment b = []
+ended (word ws) b = []
+ended (first n) b = []
+ended (digits n x) b = cond (isDigit b) [] (readElement n x)
+ended (clause h k begun) b = []
+
+unfoldable pub listFrom : State → List ℕ → List ℤ
+listFrom s [] = []
+listFrom s (b ∷ bs) = next (stepByte s b) [] (λ t. ended s b ++ listFrom t bs)
+
+abbrev pub noHeader : Header
+noHeader = record { variables = 0; clauses = 0 }
+
+abbrev pub headerIn : State → Header
+headerIn line = noHeader
+headerIn comment = noHeader
+headerIn (word ws) = noHeader
+headerIn (first n) = noHeader
+headerIn (digits n x) = noHeader
+headerIn (clause h k begun) = h
+
+-- 19: first byte where no accepted text can go on, or the text's length if it ends too soon
+abbrev pub refusedAt : List ℕ → Option ℕ
+refusedAt text = refusedFrom stepByte accepts line text 0
+
+-- the list that is read
+abbrev pub listOf : List ℕ → List ℤ
+listOf text = listFrom line text
+
+-- V and the number of clauses that are read
+abbrev pub headerOf : List ℕ → Header
+headerOf text = next (endFrom stepByte line text) noHeader headerIn

@@ -1,0 +1,1 @@
+// "DIMACS text" of document 01.

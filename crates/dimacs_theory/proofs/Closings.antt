@@ -1,0 +1,75 @@
+-- Lists that refusal 16 lets pass, element by element. Assumes nothing.
+use Prim.Native.Nat.{ℕ, zero, suc, _-_, _≤_, _<_}
+use native.Mathlib.Omega.{arith}
+use borrow.Author.Tests.{le-ltb, ltb-false}
+use lib.IntN.{ℤ, pos, natAbs}
+use lib.ListN.{length, getD}
+use mathlib.Core.Path.{_≡_, refl, sym, _∙_, ap}
+use mathlib.Core.Bool.{Bool, true, false, not}
+use mathlib.Core.Option.{Option, none, some, Option·some-ne-none}
+use mathlib.Core.List.{List, [], _∷_}
+use Rattle.answers.specs.First.{found, firstWhere}
+use Rattle.answers.specs.Lists.{tally}
+use Rattle.answers.proofs.First.{first-none, none-first}
+use Rattle.cnf.specs.Literals.{closes, beyondAt, unclosed, orElse, wrongList}
+use Rattle.cnf.specs.Clauses.{clauseCount}
+
+-- a list from inside a clause, or from between two, to its end: no literal is beyond v, and the last clause is closed
+pub data Closing (v : ℕ) : Bool → List ℤ → Type 0 where
+  done : Closing v false []
+  more : {begun : Bool} {l : ℤ} {ls : List ℤ} → natAbs l ≤ v → Closing v (not (closes l)) ls → Closing v begun (l ∷ ls)
+
+-- where a clause is begun one is still to be closed
+pub closing-counts : {v : ℕ} {begun : Bool} {ls : List ℤ} → Closing v begun ls → tally begun 0 ≤ clauseCount ls
+closing-counts done = omega arith
+closing-counts (more {begun = begun} {l = l} {ls = ls} w c) = by (closes l) begun (closing-counts c)
+  where
+    by : (t begun : Bool) → tally (not t) 0 ≤ clauseCount ls → tally begun 0 ≤ tally t (clauseCount ls)
+    by true true h = omega arith
+    by true false h = omega arith
+    by false true h = h
+    by false false h = omega arith
+
+-- the end of a list is the end of its tail
+unclosed-tail : (l m : ℤ) (ls : List ℤ) → unclosed (l ∷ m ∷ ls) ≡ unclosed (m ∷ ls)
+unclosed-tail l m ls =
+    let e : suc (suc (length ls)) - 1 ≡ suc (suc (length ls) - 1) = omega arith in
+    ap (λ i. not (closes (getD (l ∷ m ∷ ls) i (pos 0)))) e
+
+neither : (first second : Option ℕ) → orElse first second ≡ none → (first ≡ none) × (second ≡ none)
+neither none second e = (refl, e)
+neither (some i) second e = absurd (Option·some-ne-none i e)
+
+pub found-none : (t : Bool) (i : ℕ) → found t i none ≡ none → t ≡ false
+found-none true i e = absurd (Option·some-ne-none i e)
+found-none false i e = refl
+
+-- a list that passes ..
+module _ (v : ℕ) where
+  closing-on : {begun : Bool} (l : ℤ) (ls : List ℤ) → ((i : ℕ) → i < suc (length ls) → beyondAt v (l ∷ ls) i ≡ false) → unclosed (l ∷ ls) ≡ false → Closing v begun (l ∷ ls)
+  closing-on l [] h e = more {l = l} {ls = []} (ltb-false v (natAbs l) (h 0 (omega arith))) (rw e done)
+  closing-on l (m ∷ ls) h e =
+      more (ltb-false v (natAbs l) (h 0 (omega arith))) (closing-on m ls (λ i k. h (suc i) (omega arith)) (sym (unclosed-tail l m ls) ∙ e))
+
+  pub closing : (ls : List ℤ) → wrongList v ls ≡ none → Closing v false ls
+  closing [] e = done
+  closing (l ∷ ls) e =
+      let n = neither (firstWhere (beyondAt v (l ∷ ls)) (length (l ∷ ls))) (found (unclosed (l ∷ ls)) (length (l ∷ ls)) none) e in
+      closing-on l ls (first-none (beyondAt v (l ∷ ls)) (length (l ∷ ls)) (n .0)) (found-none (unclosed (l ∷ ls)) (length (l ∷ ls)) (n .1))
+
+  -- .. and back
+  within : {begun : Bool} {ls : List ℤ} → Closing v begun ls → (i : ℕ) → i < length ls → beyondAt v ls i ≡ false
+  within done i h = absurd (omega arith)
+  within (more {l = l} w c) zero h = le-ltb v (natAbs l) w
+  within (more w c) (suc i) h = within c i (omega arith)
+
+  end : {begun : Bool} → Closing v begun [] → begun ≡ false
+  end done = refl
+
+  closed : {begun : Bool} {ls : List ℤ} → Closing v begun ls → unclosed ls ≡ false
+  closed done = refl
+  closed (more {l = l} {ls = []} w c) = end c
+  closed (more {l = l} {ls = m ∷ ls} w c) = unclosed-tail l m ls ∙ closed c
+
+  pub closing-right : (ls : List ℤ) → Closing v false ls → wrongList v ls ≡ none
+  closing-right ls c = rw (none-first (beyondAt v ls) (length ls) (within c), closed c)

@@ -1,0 +1,12 @@
+-- Theorems about DIMACS text. Read Theorems.antt: it states the results. The others are in the order of the proofs.
+pub mod Theorems
+pub mod Places
+pub mod Automata
+pub mod Decimals
+pub mod Closings
+pub mod Running
+pub mod Shapes
+pub mod Reading
+pub mod Completing
+pub mod Exactly
+pub mod Calling

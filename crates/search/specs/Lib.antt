@@ -1,0 +1,5 @@
+-- The search. Trail: the trail, its image in the lent buffers, the values it gives, what is open at it.
+-- Step: one step and its choices. Run: steps under a budget, and the whole call with its refusals.
+pub mod Trail
+pub mod Step
+pub mod Run

@@ -1,0 +1,1 @@
+// The search: so far its definitions.

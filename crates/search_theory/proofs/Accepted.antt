@@ -1,0 +1,67 @@
+-- An accepted list and trail: what their rows say, and that what a search leaves is accepted again. Assumes nothing.
+use Prim.Native.Nat.{ℕ, _-_, _<_}
+use native.Mathlib.Omega.{arith}
+use lib.Dec.{eqb, ltb}
+use lib.IntN.{ℤ, pos}
+use lib.ListN.{length, replicate, length-replicate}
+use borrow.Author.Tests.{eq-eqb, le-ltb}
+use mathlib.Core.Path.{_≡_, refl, sym, ap, subst}
+use mathlib.Core.Bool.{false, not}
+use mathlib.Core.Option.{Option, none, some, Option·some-ne-none}
+use mathlib.Core.List.{List}
+use Rattle.answers.specs.First.{firstWhere}
+use Rattle.answers.specs.Lists.{All}
+use Rattle.answers.specs.Told.{cause}
+use Rattle.answers.proofs.Bools.{or-neither}
+use Rattle.answers.proofs.First.{first-none, none-first}
+use Rattle.answers.proofs.Rows.{no-cause}
+use Rattle.cnf.specs.Literals.{tooManyVariables, beyondAt, unclosed, orElse}
+use Rattle.cnf.specs.Clauses.{split}
+use Rattle.search.specs.Trail.{Entry, Trail, laid, trailImage, marksImage, trailOf}
+use Rattle.search.specs.Run.{wrongLengths, wrongEntryAt, IsAccepted}
+use Rattle.search.proofs.Trails.{length-laid, read-image}
+use Rattle.search_theory.proofs.Lists.{found-none, Proper, proper-clauses}
+use Rattle.search_theory.proofs.Legal.{Legal, read-legal, legal-read}
+use Rattle.search_theory.proofs.Full.{legal-length}
+
+neither : (o p : Option ℕ) → orElse o p ≡ none → (o ≡ none) × (p ≡ none)
+neither none p h = (refl, h)
+neither (some i) p h = absurd (Option·some-ne-none i h)
+
+-- the image of a legal trail has V elements
+length-image : {A : Type 0} (f : Entry → A) (d : A) (v : ℕ) (t : Trail) → Legal v t → length (laid f t (replicate (v - length t) d)) ≡ v
+length-image f d v t l =
+    let h = legal-length v t l in
+    let n = length-replicate (v - length t) d in
+    omega (arith, length-laid f t (replicate (v - length t) d))
+
+module _ {v : ℕ} {ls ts : List ℤ} {ms : List ℕ} {used : ℕ} (ok : IsAccepted v ls ts ms used) where
+  list-right : ((i : ℕ) → i < length ls → beyondAt v ls i ≡ false) × (unclosed ls ≡ false)
+  list-right =
+      let n = neither (firstWhere (beyondAt v ls) (length ls)) _ (ok .clear .1 .0) in
+      (first-none (beyondAt v ls) (length ls) (n .0), found-none (unclosed ls) (length ls) (n .1))
+
+  pub accepted-closed : unclosed ls ≡ false
+  accepted-closed = list-right .1
+
+  pub accepted-proper : All (All (Proper v)) (split ls)
+  accepted-proper = proper-clauses v ls (list-right .0)
+
+  pub accepted-legal : Legal v (trailOf ts ms used)
+  accepted-legal = read-legal v ts ms used (first-none (wrongEntryAt v ts ms) used (ok .clear .1 .1 .0))
+
+  -- the same list with another legal trail
+  pub accepted-image : (t : Trail) → Legal v t → IsAccepted v ls (trailImage v t) (marksImage v t) (length t)
+  accepted-image t l = record { clear = (ap cause lengths, (ok .clear .1 .0, (none-first _ (length t) entries, tt))) }
+    where
+      entries : (i : ℕ) → i < length t → wrongEntryAt v (trailImage v t) (marksImage v t) i ≡ false
+      entries = legal-read v (trailImage v t) (marksImage v t) (length t) (subst (Legal v) (sym (read-image v t)) l)
+
+      few : tooManyVariables v ≡ false
+      few =
+          let h = or-neither _ (ltb v used) (no-cause (wrongLengths v ts ms used) (ok .clear .0)) in
+          let k = or-neither _ (not (eqb (length ms) v)) (h .0) in
+          or-neither (tooManyVariables v) (not (eqb (length ts) v)) (k .0) .0
+
+      lengths : wrongLengths v (trailImage v t) (marksImage v t) (length t) ≡ false
+      lengths = rw (few, length-image (λ e. e .literal) (pos 0) v t l, length-image (λ e. e .mark) 0 v t l, eq-eqb v v refl, le-ltb v (length t) (legal-length v t l))

@@ -1,0 +1,113 @@
+-- What a step does, from the laws of its choices: the open satisfying assignments stay, the number falls, and an answer is right. Assumes nothing.
+use Prim.Native.Nat.{ℕ, suc, _<_}
+use native.Mathlib.Omega.{arith}
+use lib.IntN.{ℤ, pos, negsuc, natAbs}
+use lib.ListN.{getD}
+use borrow.Author.Tests.{le-ltb}
+use mathlib.Core.Path.{_≡_, refl, sym, _∙_, ap, subst}
+use mathlib.Core.Bool.{Bool, true, false}
+use mathlib.Core.Logic.{inl, inr, _↔_, ⊎-elim}
+use mathlib.Core.Option.{Option, none, some}
+use mathlib.Core.List.{List, _∷_}
+use Rattle.answers.specs.Lists.{All, Some}
+use Rattle.answers.proofs.Bools.{clash}
+use Rattle.cnf.specs.Clauses.{split, value, Satisfies}
+use Rattle.search.specs.Trail.{Entry, entry, Trail, Value, True, False, Unassigned, opposite, isUnassigned, variableValue, literalValue, Agrees, Open, valuesOf}
+use Rattle.search.specs.Step.{failedClause, forcedPlace, lowestUnassigned, undo, Next, Moved, AnsweredFound, AnsweredNone, undone, onFailed, onForced, onUnassigned, step}
+use Rattle.search_theory.proofs.Lists.{Proper, all-zip, some-zip, meet}
+use Rattle.search_theory.proofs.Values.{literal-false}
+use Rattle.search_theory.proofs.Legal.{Right, Legal, AllAssigned, unassigned}
+use Rattle.search_theory.proofs.Choices.{Forces, Laws}
+use Rattle.search_theory.proofs.Full.{legal-length, literal-true}
+use Rattle.search_theory.proofs.Falling.{number, number-more, number-append}
+use Rattle.search_theory.proofs.Undoing.{undo-some, undo-none}
+
+-- a step's outcome
+pub data Stepped (v : ℕ) (ls : List ℤ) (t : Trail) : Next → Type 0 where
+  moved : {u : Trail} → Legal v u → number v u < number v t → ((a : List Bool) → Satisfies a ls → Open a t ↔ Open a u) → Stepped v ls t (Moved u)
+  exhausted : ((a : List Bool) → Satisfies a ls → Open a t → ⊥) → Stepped v ls t AnsweredNone
+  full : AllAssigned v (variableValue t) → Satisfies (valuesOf v t) ls → Stepped v ls t AnsweredFound
+
+-- an entry more: nothing is lost if it is marked 1, or if no assignment that agrees so far differs at it
+opened : (a : List Bool) (e : Entry) (t : Trail) → (Agrees a t → value a (e .literal) ≡ false → e .mark ≡ 1) → Open a t ↔ Open a (e ∷ t)
+opened a e t h = (⊎-elim (λ g. by (value a (e .literal)) refl g) (λ o. inr (inr o)), back)
+  where
+    by : (b : Bool) → value a (e .literal) ≡ b → Agrees a t → Open a (e ∷ t)
+    by true q g = inl (q, g)
+    by false q g = inr (inl (h g q, q, g))
+
+    back : Open a (e ∷ t) → Open a t
+    back (inl o) = inl (o .1)
+    back (inr (inl o)) = inl (o .2)
+    back (inr (inr o)) = inr o
+
+variable-free : (t : Trail) (l : ℤ) → literalValue (variableValue t) l ≡ Unassigned → variableValue t (natAbs l) ≡ Unassigned
+variable-free t (pos n) h = h
+variable-free t (negsuc n) h = by (variableValue t (suc n)) h
+  where
+    by : (w : Value) → opposite w ≡ Unassigned → w ≡ Unassigned
+    by True h = clash refl (ap isUnassigned (sym h))
+    by False h = clash refl (ap isUnassigned (sym h))
+    by Unassigned h = refl
+
+module _ {v : ℕ} {ls : List ℤ} (t : Trail) (law : Laws v ls (variableValue t)) (proper : All (All (Proper v)) (split ls)) (legal : Legal v t) where
+  -- the trail goes on by an entry
+  append : (e : Entry) → Right v t e → ((a : List Bool) → Satisfies a ls → Agrees a t → value a (e .literal) ≡ false → e .mark ≡ 1)
+      → Stepped v ls t (Moved (e ∷ t))
+  append e r h = moved {u = e ∷ t} (r, legal) (number-append v e t (legal-length v (e ∷ t) (r, legal))) (λ a s. opened a e t (h a s))
+
+  -- a literal that a clause forces is true wherever the rest agrees
+  forced-true : (l : ℤ) → Some (Forces (variableValue t) l) (split ls) → (a : List Bool) → Satisfies a ls → Agrees a t → value a l ≡ true
+  forced-true l f a s g =
+      meet (λ c k o. meet (λ x q. ⊎-elim (λ e. ap (value a) (sym e) ∙ q) (λ h. clash q (literal-false a t g x h))) c o (k .others)) (split ls) f s
+
+  -- none that satisfies the list agrees with a trail under which a clause fails
+  refuted : {i : ℕ} → failedClause (variableValue t) ls ≡ some i → (a : List Bool) → Satisfies a ls → Agrees a t → ⊥
+  refuted h a s g = meet (λ c k o. meet (λ x q w. clash q (literal-false a t g x w)) c o k) (split ls) (law .failed h) s
+
+  on-forced : (l : ℤ) → Some (Forces (variableValue t) l) (split ls) → Stepped v ls t (Moved (entry l 0 ∷ t))
+  on-forced l f = append (entry l 0) (meet right (split ls) f proper) (λ a s g w. clash (forced-true l f a s g) w)
+    where
+      right : (c : List ℤ) → Forces (variableValue t) l c → All (Proper v) c → Right v t (entry l 0)
+      right c k ps =
+          record {
+            proper = meet (λ x e p. subst (Proper v) e p) c (k .holds) ps;
+            free = variable-free t l (k .unassigned);
+            marked = omega arith;
+          }
+
+  on-unassigned : (o : Option ℕ) → lowestUnassigned v (variableValue t) ≡ o → failedClause (variableValue t) ls ≡ none → Stepped v ls t (onUnassigned o t)
+  on-unassigned none h f =
+      let all = law .none-free h in
+      full all (all-zip (some-zip (literal-true v t all)) (split ls) (law .none-failed f) proper)
+  on-unassigned (some n) h f = append (entry (negsuc n) 1) right (λ a s g w. refl)
+    where
+      right : Right v t (entry (negsuc n) 1)
+      right =
+          record {
+            proper = record { nonzero = refl; within = le-ltb v (suc n) (law .free h .0) };
+            free = unassigned _ (law .free h .1);
+            marked = omega arith;
+          }
+
+  on-failed : {i : ℕ} → failedClause (variableValue t) ls ≡ some i → (o : Option Trail) → undo t ≡ o → Stepped v ls t (undone o)
+  on-failed f none h = exhausted (λ a s. ⊎-elim (refuted f a s) (undo-none a t h))
+  on-failed f (some u) h =
+      let r = undo-some v t u legal h in
+      let m = number-more v t in
+      let w = r .falls in
+      moved {u = u} (r .legal) (omega arith) (λ a s. (⊎-elim (λ g. absurd (refuted f a s g)) (r .opens a), λ o. inr (r .was-open a o)))
+
+  pub stepped : Stepped v ls t (step v ls t)
+  unfolding step
+  stepped = by (failedClause (variableValue t) ls) refl
+    where
+      on : (o : Option ℕ) → forcedPlace (variableValue t) ls ≡ o → failedClause (variableValue t) ls ≡ none
+          → Stepped v ls t (onForced o ls t (onUnassigned (lowestUnassigned v (variableValue t)) t))
+      on (some i) h f = on-forced (getD ls i (pos 0)) (law .forced h)
+      on none h f = on-unassigned (lowestUnassigned v (variableValue t)) refl f
+
+      by : (o : Option ℕ) → failedClause (variableValue t) ls ≡ o
+          → Stepped v ls t (onFailed o t (onForced (forcedPlace (variableValue t) ls) ls t (onUnassigned (lowestUnassigned v (variableValue t)) t)))
+      by (some i) f = on-failed f (undo t) refl
+      by none f = on (forcedPlace (variableValue t) ls) refl f
