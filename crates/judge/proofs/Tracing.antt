@@ -7,7 +7,6 @@ use lib.Seq.{getD-set-same, getD-set-other}
 use borrow.Author.Tests.{eqb-true, eqb-false}
 use mathlib.Core.Path.{_≡_, refl, sym, _∙_, ap}
 use mathlib.Core.Bool.{Bool, true, false, not, _&&_, _||_, cond, and-comm}
-use mathlib.Core.Option.{Option, none, some, Option·getD}
 use mathlib.Core.List.{List, [], _∷_}
 use Rattle.answers.specs.First.{firstWhere}
 use Rattle.answers.proofs.First.{first-same}
@@ -21,15 +20,7 @@ use Rattle.rules.specs.Drawing.{byteLink, linkAt}
 use Rattle.rules.specs.Walk.{State, go, onto, step, onward, around, loopCells, among}
 use Rattle.judge.specs.Walking.{marked, leftAfter, unseenAt}
 use Rattle.rules.specs.Judge.{whiteAt, offLoopAt}
-use Rattle.rules.proofs.Steps.{stays-on}
-
--- the walk stays on the board
-pub gone-on : {g : Grid} {x y : ℕ} (d : Direction) → On g x → y ≡ go (neighbour g) d x → On g y
-gone-on {g} {x} {y} d o e = by (neighbour g d x) refl (e ∙ refl)
-  where
-    by : (p : Option ℕ) → neighbour g d x ≡ p → y ≡ Option·getD p x → On g y
-    by none q e = rw e o
-    by (some z) q e = rw e (stays-on o d (sym q))
+use Rattle.rules.proofs.Steps.{gone-on}
 
 -- to mark what is left of the walk gives the whole
 pub record Tracing (g : Grid) (ds : List ℕ) (s : ℕ) (seen₀ seen : List ℕ) (x : ℕ) (d : Direction) (left : ℕ) : Type 0 where

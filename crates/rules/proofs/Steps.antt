@@ -8,13 +8,14 @@ use lib.ListN.{length}
 use borrow.Author.Tests.{lt-ltb}
 use mathlib.Core.Path.{_≡_, refl, sym, _∙_, ap}
 use mathlib.Core.Bool.{Bool, true, false, _&&_}
-use mathlib.Core.Option.{Option, none, some}
+use mathlib.Core.Option.{Option, none, some, Option·getD}
 use mathlib.Core.List.{List, [], _∷_}
 use Rattle.answers.proofs.Bools.{both-and}
 use Rattle.rules.specs.declared.Direction.{Direction}
 use Rattle.rules.specs.declared.Grid.{Grid}
 use Rattle.rules.specs.Record.{size, On}
 use Rattle.rules.specs.Board.{when, inside, target, neighbour, beyond, outward, nearest}
+use Rattle.rules.specs.Walk.{go}
 use Rattle.rules.proofs.Boards.{when-true, wired, far, nearer, has, not-far}
 
 module _ {g : Grid} {x : ℕ} (o : On g x) where
@@ -35,6 +36,14 @@ module _ {g : Grid} {x : ℕ} (o : On g x) where
 
   pub stays-on : (d : Direction) {y : ℕ} → some y ≡ neighbour g d x → On g y
   stays-on d {y} e = record { sides = o .sides; inside = wired g .inside d x y (sym e) .1 }
+
+-- the walk stays on the board
+pub gone-on : {g : Grid} {x y : ℕ} (d : Direction) → On g x → y ≡ go (neighbour g) d x → On g y
+gone-on {g} {x} {y} d o e = by (neighbour g d x) refl e
+  where
+    by : (p : Option ℕ) → neighbour g d x ≡ p → y ≡ Option·getD p x → On g y
+    by none q e = rw e o
+    by (some z) q e = rw e (stays-on o d (sym q))
 
 -- on the way out along a line that leaves x: at y, after so many cells
 pub record Outgoing (g : Grid) (d : Direction) (x y cells : ℕ) : Type 0 where

@@ -1,0 +1,2 @@
+pub mod Cases  -- what a case hands back
+pub mod Small  -- the grids that are enumerated
