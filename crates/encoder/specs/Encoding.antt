@@ -1,0 +1,23 @@
+-- The encoder's call: what it tells, and what it leaves in the lent list.
+use Prim.Native.Nat.{ℕ}
+use lib.ListN.{length}
+use lib.IntN.{ℤ}
+use mathlib.Core.List.{List, [], _∷_, _++_}
+use Rattle.answers.specs.declared.Told.{Told}
+use Rattle.answers.specs.Told.{answer, Row, row, turnedDown}
+use Rattle.answers.specs.Lent.{tooShort, filled, leaves}
+use Rattle.rules.specs.Record.{recordRows}
+use Rattle.rules.specs.Board.{boardOf}
+use Rattle.encoder.specs.Variables.{variableCount}
+use Rattle.encoder.specs.Clauses.{clauses, clauseList}
+
+-- encoder 1-5, 6
+abbrev pub encoderRows : List ℕ → List ℤ → List Row
+encoderRows s out = recordRows s ++ (row 6 (tooShort (length out) (length (clauseList (boardOf s)))) ∷ [])
+
+-- the count of elements written, V and the number of clauses
+abbrev pub encoderAnswer : List ℕ → List ℤ → Told
+encoderAnswer s out = turnedDown (encoderRows s out) (answer (length (clauseList (boardOf s))) (variableCount (boardOf s)) (length (clauses (boardOf s))))
+
+abbrev pub encoderLeaves : List ℕ → List ℤ → List ℤ
+encoderLeaves s out = leaves (encoderAnswer s out) out (filled out (clauseList (boardOf s)))

@@ -1,0 +1,7 @@
+-- The variables and clauses of a grid, the encoder's and the decoder's answers. Read Variables, Clauses, Encoding and Decoding: document 01's sections in its order.
+pub mod Lists
+pub mod Variables
+pub mod Clauses
+pub mod Encoding
+pub mod Decoding
+pub mod Small

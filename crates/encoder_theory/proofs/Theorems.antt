@@ -1,0 +1,67 @@
+-- What is true of a grid's variables, clauses and assignments, each result in one statement. The proofs stand in the files beside this one and in
+-- `encoder`. Nothing is assumed but what a statement says.
+use Prim.Native.Nat.{ℕ, _≤_}
+use lib.ListN.{length}
+use borrow.Author.Tests.{le-ltb}
+use mathlib.Core.Path.{_≡_, sym, _∙_, subst}
+use mathlib.Core.Bool.{Bool, false}
+use mathlib.Core.Option.{none}
+use mathlib.Core.List.{List}
+use Rattle.answers.specs.Lists.{All}
+use Rattle.rules.specs.Record.{Puzzle, IsAccepted}
+use Rattle.rules.specs.Board.{Board, board, boardOf}
+use Rattle.rules.specs.Drawing.{SolutionBytes}
+use Rattle.rules.proofs.Boards.{Laws, Filled}
+use Rattle.rules.proofs.Records.{accepted-laws}
+use Rattle.cnf.specs.Literals.{mostVariables, tooManyVariables, wrongList}
+use Rattle.cnf.specs.Clauses.{clauseCount}
+use Rattle.encoder.specs.Variables.{variableCount}
+use Rattle.encoder.specs.Clauses.{clauses, clauseList}
+use Rattle.encoder.specs.Decoding.{drawn, Satisfying, DecodesTo}
+use Rattle.encoder.specs.Small.{Small}
+use Rattle.encoder.proofs.Bounds as bounds
+use Rattle.encoder.proofs.Sizes as sizes
+use Rattle.encoder_theory.specs.Valuations.{valuation}
+use Rattle.encoder_theory.proofs.Exactly as exactly
+use Rattle.encoder_theory.proofs.Decoder.{decodes, handed}
+
+-- 1. Each assignment that satisfies the grid's clauses decodes to a solution.
+pub decodes-to-solution : (s : List ℕ) → IsAccepted s → (a : List Bool) → Satisfying s a → (ds : List ℕ) × DecodesTo s a ds × SolutionBytes (boardOf s) ds
+decodes-to-solution s acc a h =
+    let S = exactly.draws-solution (boardOf s) (accepted-laws s acc) a (h .gives) (h .satisfies) in
+    (drawn (boardOf s) (valuation (boardOf s) a), decodes s acc a (h .gives) S, S)
+
+-- 2. Each solution comes from exactly one of those assignments. It comes from one ..
+pub comes-from-one : (s : List ℕ) → IsAccepted s → (ds : List ℕ) → SolutionBytes (boardOf s) ds → (a : List Bool) × Satisfying s a × DecodesTo s a ds
+comes-from-one s acc ds S =
+    let law = accepted-laws s acc in
+    let draws = exactly.the-draws (boardOf s) law ds S in
+    let long = exactly.the-long (boardOf s) law ds S in (
+      exactly.the (boardOf s) law ds S,
+      record { gives = long; satisfies = exactly.the-satisfies (boardOf s) law ds S },
+      subst (DecodesTo s (exactly.the (boardOf s) law ds S)) draws (decodes s acc (exactly.the (boardOf s) law ds S) long (subst (SolutionBytes (boardOf s)) (sym draws) S)),
+    )
+
+-- .. and from no other: two of them that decode to the same drawing are the same.
+pub comes-from-only-one : (s : List ℕ) → IsAccepted s → (ds : List ℕ) (a c : List Bool) → Satisfying s a → DecodesTo s a ds → Satisfying s c → DecodesTo s c ds → a ≡ c
+comes-from-only-one s acc ds a c h d k e =
+    let law = accepted-laws s acc in
+    let p = handed s acc a (h .gives) d in
+    let S : SolutionBytes (boardOf s) ds = subst (SolutionBytes (boardOf s)) p (exactly.draws-solution (boardOf s) law a (h .gives) (h .satisfies)) in
+    exactly.the-only (boardOf s) law ds S a (h .gives) (h .satisfies) p ∙ sym (exactly.the-only (boardOf s) law ds S c (k .gives) (k .satisfies) (handed s acc c (k .gives) e))
+
+-- 3. V is at most 16,777,216 and the list gets no 16 for that V: search and writer never turn a grid's clauses down. First of any small board ..
+pub never-turned-down-on : {b : Board} → Laws b → Small b → (variableCount b ≤ mostVariables) × (tooManyVariables (variableCount b) ≡ false) × (wrongList (variableCount b) (clauseList b) ≡ none)
+never-turned-down-on {b} law small = let h = bounds.few-variables small in (h, le-ltb mostVariables (variableCount b) h, bounds.list-right b law)
+
+-- .. as is that of each grid with sides to 45 and numbers to 44 ..
+pub small-board : (p : Puzzle) → p .grid .rows ≤ 45 → p .grid .columns ≤ 45 → Filled p → All (λ c. sizes.numberOf c ≤ 44) (p .cells) → Small (board p)
+small-board = sizes.small-board
+
+-- .. and so of an accepted record.
+pub never-turned-down : (s : List ℕ) → IsAccepted s → (variableCount (boardOf s) ≤ mostVariables) × (tooManyVariables (variableCount (boardOf s)) ≡ false) × (wrongList (variableCount (boardOf s)) (clauseList (boardOf s)) ≡ none)
+never-turned-down s acc = never-turned-down-on (accepted-laws s acc) (sizes.accepted-small s acc)
+
+-- The number of clauses that the encoder tells is the number of those that its list has.
+pub clauses-told : (b : Board) → clauseCount (clauseList b) ≡ length (clauses b)
+clauses-told = bounds.count-clauses
