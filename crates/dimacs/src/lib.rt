@@ -1,1 +1,110 @@
 // "DIMACS text" of document 01.
+ghost use mathlib.Core.Path.{_≡_};
+ghost use Rattle.dimacs.specs.Answers.{toldWritten, toldReading};
+use answers::Told;
+
+// Why the writer turns a list down: 17 (for V alone), 16 and 6 of document 01's table.
+pub enum WriteRefusal {
+    Variables,
+    List(usize),
+    Room(usize),
+}
+
+pub enum Written {
+    Bytes(usize),
+    Refused(WriteRefusal),
+}
+
+impl Written {
+    // Document 01's number and values.
+    pub fn told(self) -> Told
+        ensures { λ r. ⌜ r ≡ toldWritten self ⌝ }
+    {
+        match self {
+            Written::Bytes(n) => answers::answered(n as u64, 0, 0),
+            Written::Refused(why) => match why {
+                WriteRefusal::Variables => answers::refused(17, 0),
+                WriteRefusal::List(i) => answers::refused(16, i as u64),
+                WriteRefusal::Room(needed) => answers::refused(6, needed as u64),
+            },
+        }
+    }
+}
+
+// Why the reader turns a text down: 19 and 6 of document 01's table.
+pub enum ReadRefusal {
+    Text(usize),
+    Room(usize),
+}
+
+pub enum Reading {
+    List {
+        elements: usize,
+        variables: usize,
+        clauses: usize,
+    },
+    Refused(ReadRefusal),
+}
+
+impl Reading {
+    // Document 01's number and values.
+    pub fn told(self) -> Told
+        ensures { λ r. ⌜ r ≡ toldReading self ⌝ }
+    {
+        match self {
+            Reading::List {
+                elements,
+                variables,
+                clauses,
+            } => answers::answered(elements as u64, variables as u64, clauses as u64),
+            Reading::Refused(why) => match why {
+                ReadRefusal::Text(at) => answers::refused(19, at as u64),
+                ReadRefusal::Room(needed) => answers::refused(6, needed as u64),
+            },
+        }
+    }
+}
+
+// The bytes that a text needs.
+pub enum Needed {
+    Bytes(usize),
+    TooMany,
+}
+
+// A place in a text.
+pub struct Cursor {
+    pub at: usize,
+}
+
+// What is passed over at a place: the place after it, or the place of the refusal.
+pub enum Passed {
+    To(Cursor),
+    Refused(usize),
+}
+
+// A number at a place: the number and the place after it, or the place of the refusal.
+pub enum Token {
+    Number(usize, Cursor),
+    Refused(usize),
+}
+
+// The header: V, C and the place after it, or the place of the refusal.
+pub enum Head {
+    Is(usize, usize, Cursor),
+    Refused(usize),
+}
+
+// An element: whether a minus is before it, its number and the place after it, or the place of the refusal.
+pub enum Element {
+    Is(bool, usize, Cursor),
+    Refused(usize),
+}
+
+// The list: the count of its elements, or the place of the refusal.
+pub enum Listed {
+    Elements(usize),
+    Refused(usize),
+}
+
+pub mod reader; // the list of a text
+pub mod writer; // the text of a list

@@ -3,6 +3,7 @@
 ghost use mathlib.Core.Path.{_≡_};
 ghost use Rattle.answers.specs.Told.{words};
 ghost use Rattle.rules.specs.Judge.{judgeAnswer};
+ghost use Rattle.dimacs.specs.Calls.{writerAnswer, writerLeaves, readerAnswer, readerLeaves};
 
 // Is the drawing a solution of the record's grid? Answered: yes, four zeros.
 #[no_mangle]
@@ -12,4 +13,31 @@ pub extern "C" fn yajilin_judge(record: &[u8], drawing: &[u8], answer: &mut [u64
 {
     let verdict = judge::judge(record, drawing);
     verdict.told().write(answer)
+}
+
+// The DIMACS text of V and a clause list. Answered: the count of bytes written.
+#[no_mangle]
+pub extern "C" fn yajilin_write(
+    variables: u64,
+    list: &[i32],
+    text: &mut [u8],
+    answer: &mut [u64; 4],
+) -> u64
+    ensures { λ r. ⌜ r ≡ writerAnswer variables (now (list .entry)) (now (text .entry)) .number ⌝ }
+    ensures { λ r. ⌜ now (answer .exit) ≡ words (writerAnswer variables (now (list .entry)) (now (text .entry))) ⌝ }
+    ensures { λ r. ⌜ now (text .exit) ≡ writerLeaves variables (now (list .entry)) (now (text .entry)) ⌝ }
+{
+    let written = dimacs::writer::write(variables as usize, list, text);
+    written.told().write(answer)
+}
+
+// The clause list of a DIMACS text. Answered: the count of elements written, V, the number of clauses.
+#[no_mangle]
+pub extern "C" fn yajilin_read(text: &[u8], list: &mut [i32], answer: &mut [u64; 4]) -> u64
+    ensures { λ r. ⌜ r ≡ readerAnswer (now (text .entry)) (now (list .entry)) .number ⌝ }
+    ensures { λ r. ⌜ now (answer .exit) ≡ words (readerAnswer (now (text .entry)) (now (list .entry))) ⌝ }
+    ensures { λ r. ⌜ now (list .exit) ≡ readerLeaves (now (text .entry)) (now (list .entry)) ⌝ }
+{
+    let reading = dimacs::reader::read(text, list);
+    reading.told().write(answer)
 }

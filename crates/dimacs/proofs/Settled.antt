@@ -1,0 +1,26 @@
+-- Row 6, and what a call with a lent buffer tells and leaves once the rows are gone through. Assumes nothing.
+use Prim.Native.Nat.{ℕ, _≤_, _<_, _^_}
+use native.Mathlib.Omega.{arith}
+use borrow.Author.Tests.{lt-ltb, le-ltb}
+use mathlib.Core.Path.{_≡_, _∙_, ap}
+use mathlib.Core.Option.{none, some}
+use mathlib.Core.List.{List}
+use Rattle.answers.specs.declared.Told.{Told}
+use Rattle.answers.specs.Told.{Row, turnedDown}
+use Rattle.answers.specs.Lent.{tooShort, leaves}
+use Rattle.answers.proofs.Rows.{Tells, tells}
+
+-- a count below 2^64 against the room
+module _ (room : ℕ) {needed : ℕ} where
+  pub short-over : room < 18446744073709551616 → 18446744073709551616 ≤ needed → tooShort room needed ≡ some 18446744073709551615
+  short-over r h = let l : room < needed = omega arith in rw (lt-ltb room needed l, le-ltb needed (2 ^ 64) h)
+
+  pub short-by : room < needed → needed < 18446744073709551616 → tooShort room needed ≡ some needed
+  short-by l h = rw (lt-ltb room needed l, lt-ltb needed (2 ^ 64) h)
+
+  pub long-enough : needed ≤ room → tooShort room needed ≡ none
+  long-enough l = rw (le-ltb room needed l)
+
+-- what it tells, and what it leaves in the buffer
+pub settled : {A : Type 0} (rows : List Row) (t : Told) (before after : A) {new : A} {u : Told} → Tells rows t u → new ≡ leaves u before after → (u ≡ turnedDown rows t) × (new ≡ leaves (turnedDown rows t) before after)
+settled rows t before after g l = let e = tells g in (e, l ∙ ap (λ s. leaves s before after) e)
