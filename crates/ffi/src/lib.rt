@@ -27,7 +27,7 @@ pub extern "C" fn yajilin_write(
     ensures { λ r. ⌜ now (answer .exit) ≡ words (writerAnswer variables (now (list .entry)) (now (text .entry))) ⌝ }
     ensures { λ r. ⌜ now (text .exit) ≡ writerLeaves variables (now (list .entry)) (now (text .entry)) ⌝ }
 {
-    let written = dimacs::writer::write(variables as usize, list, text);
+    let written = dimacs_writer::write(variables as usize, list, text);
     written.told().write(answer)
 }
 
@@ -38,6 +38,6 @@ pub extern "C" fn yajilin_read(text: &[u8], list: &mut [i32], answer: &mut [u64;
     ensures { λ r. ⌜ now (answer .exit) ≡ words (readerAnswer (now (text .entry)) (now (list .entry))) ⌝ }
     ensures { λ r. ⌜ now (list .exit) ≡ readerLeaves (now (text .entry)) (now (list .entry)) ⌝ }
 {
-    let reading = dimacs::reader::read(text, list);
+    let reading = dimacs_reader::read(text, list);
     reading.told().write(answer)
 }

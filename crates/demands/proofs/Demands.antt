@@ -1,0 +1,86 @@
+-- The three demands of the request hold. What each says stands in specs/Demands.antt; what is cited here is proved in the theories and in the files
+-- beside this one. Assumes nothing.
+use lib.ListN.{length}
+use mathlib.Core.Path.{refl, sym, _∙_, ap}
+use mathlib.Core.List.{_++_}
+use Rattle.answers.specs.declared.Told.{Told}
+use Rattle.answers.specs.Told.{answer}
+use Rattle.answers.specs.Lent.{filled, leaves}
+use Rattle.answers.proofs.First.{first-some, some-first}
+use Rattle.answers.proofs.Rows.{answered-clear, clear-answered}
+use Rattle.rules.specs.Record.{sides, recordRows}
+use Rattle.rules.specs.Board.{boardOf}
+use Rattle.rules.specs.Judge.{judgeRows, saysYes}
+use Rattle.rules_theory.proofs.Theorems as rules
+use Rattle.dimacs.specs.Text.{textOf}
+use Rattle.dimacs.specs.Reader.{listOf, headerOf}
+use Rattle.dimacs.specs.Calls.{writerRows, readerRows, writerAnswer, readerAnswer}
+use Rattle.dimacs_theory.proofs.Theorems as dimacs
+use Rattle.dimacs_theory.proofs.Calling.{reader-passed}
+use Rattle.encoder.specs.Variables.{variableCount}
+use Rattle.encoder.specs.Clauses.{clauses, clauseList}
+use Rattle.encoder.specs.Encoding.{encoderRows, encoderAnswer}
+use Rattle.encoder_theory.proofs.Theorems as encoder
+use Rattle.search.specs.Trail.{trailImage, marksImage}
+use Rattle.search.specs.Run.{Done, toldDone, searched}
+use Rattle.demands.specs.Searches.{rows, told}
+use Rattle.demands.specs.Demands.{Demand1, Demand2, Demand3}
+use Rattle.demands.proofs.Turning.{by-rows, untouched, short, decoder-call}
+use Rattle.demands.proofs.Stepping.{stepped}
+use Rattle.demands.proofs.Searching as searching
+
+pub demand-1 : Demand1
+demand-1 =
+    record {
+      record-reader = λ s. by-rows (answer (sides s .rows) (sides s .columns) 0) refl _ (recordRows s) refl refl (λ n. tt);
+      judge = λ s ds. by-rows saysYes refl _ (recordRows s ++ judgeRows (boardOf s) ds) refl refl (λ n. tt);
+      encoder = λ s out.
+          by-rows (answer (length (clauseList (boardOf s))) (variableCount (boardOf s)) (length (clauses (boardOf s)))) refl _ (encoderRows s out) refl refl
+          (untouched (encoderAnswer s out) out (filled out (clauseList (boardOf s))));
+      decoder = λ s values lent. decoder-call s values lent _ refl;
+      search = λ c.
+          let done : Done = searched (c .variables) (c .list) (c .trail) (c .marks) (c .used) (c .budget) in
+          by-rows (toldDone done) refl _ (rows c) refl refl
+          (λ n. (untouched (told c) (c .trail) (trailImage (c .variables) (done .trail)) n, untouched (told c) (c .marks) (marksImage (c .variables) (done .trail)) n));
+      writer = λ v ls out.
+          by-rows (answer (length (textOf v ls)) 0 0) refl _ (writerRows v ls (length out)) refl refl (untouched (writerAnswer v ls out) out (filled out (textOf v ls)));
+      text-reader = λ text out.
+          by-rows (answer (length (listOf text)) (headerOf text .variables) (headerOf text .clauses)) refl _ (readerRows text (length out)) refl refl
+          (untouched (readerAnswer text out) out (filled out (listOf text)));
+      first-place = λ p n m. (first-some p n m, some-first p n);
+      too-short = short;
+      text-place = dimacs.place-19;
+    }
+
+pub demand-2 : Demand2
+unfolding clauseList clauses
+demand-2 =
+    record {
+      judge-right = rules.judge-right;
+      clauses = λ b. refl;
+      encoded = λ s out e.
+          let told = clear-answered (encoderRows s out) _ (answered-clear (encoderRows s out) _ refl e) in
+          (told ∙ ap (answer (length (clauseList (boardOf s))) (variableCount (boardOf s))) (sym (encoder.clauses-told (boardOf s))), ap (λ (t : Told). leaves t out (filled out (clauseList (boardOf s)))) told);
+      text = λ v ls buf e.
+          let told = clear-answered (writerRows v ls (length buf)) _ (answered-clear (writerRows v ls (length buf)) _ refl e) in
+          record { told = told; left = ap (λ (t : Told). leaves t buf (filled buf (textOf v ls))) told };
+      reads-back = dimacs.write-read;
+      written-again = λ text out buf e u room. dimacs.read-write text out buf (dimacs.narrow-exactly text .0 (reader-passed text out e .0, u)) e room;
+      listed-steps = stepped;
+    }
+
+pub demand-3 : Demand3
+demand-3 =
+    record {
+      decodes = encoder.decodes-to-solution;
+      comes-from-one = λ s acc ds S.
+          let (a, h, d) = encoder.comes-from-one s acc ds S in
+          (a, h, d, λ c k e. encoder.comes-from-only-one s acc ds c a k e h d);
+      same-open = searching.same-open;
+      unless-halted = searching.unless-halted;
+      few-steps = searching.few-steps;
+      halted-steps = searching.halted-steps;
+      begun-taken = searching.begun-taken;
+      none-exactly = searching.none-exactly;
+      found-decodes = searching.found-decodes;
+    }

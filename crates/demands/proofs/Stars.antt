@@ -1,0 +1,153 @@
+-- The starred cases of document 01 hold, as one statement over the list of them. All is computed but the number of a grid's solutions, which follows from
+-- the computed search and demand 3. Assumes nothing.
+use Prim.Native.Nat.{ℕ}
+use lib.IntN.{ℤ, pos}
+use lib.ListN.{getD, drop, replicate, length-replicate}
+use mathlib.Core.Path.{_≡_, refl, sym, _∙_, ap, subst}
+use mathlib.Core.Option.{some}
+use mathlib.Core.List.{List, [], _∷_, _++_, map}
+use Rattle.answers.specs.declared.Told.{Told}
+use Rattle.answers.specs.First.{firstFrom}
+use Rattle.answers.specs.Lists.{All}
+use Rattle.rules.specs.Record.{recordAnswer}
+use Rattle.rules.specs.Board.{boardOf, outward}
+use Rattle.rules.specs.Walk.{around, among}
+use Rattle.rules.specs.Judge.{judgeAnswer, saysYes}
+use Rattle.rules_theory.proofs.Theorems.{judge-right}
+use Rattle.rules_theory.proofs.Cases as records
+use Rattle.dimacs.specs.Text.{decimalIn, lines}
+use Rattle.encoder.specs.Variables.{same, variables, variableCount, place}
+use Rattle.encoder.specs.Clauses.{clauses, clauseList}
+use Rattle.encoder.proofs.Cases as grids
+use Rattle.encoder.proofs.Lists.{all-append}
+use Rattle.search.specs.Trail.{trailOf, variableValue}
+use Rattle.search.specs.Step.{everyLiteral, firstClause, forcedAt, failedClause, forcedPlace, lowestUnassigned, undo, step}
+use Rattle.search.specs.Run.{None, run}
+use Rattle.search.proofs.Cases as lists
+use Rattle.demands.specs.Searches.{Search, told, BegunOn}
+use Rattle.demands.specs.Stars.{Solutions, GridStar, TextIs, searchOf, GridHolds, grid, refused, list, Holds, gridCase, oneCellText, gridStars, stars}
+use Rattle.demands.proofs.Searching.{at-end, begun-taken}
+use Rattle.demands.proofs.Counting.{turnedLast, no-solution, one-solution}
+
+-- lists that were computed whole, case by case
+at-each : {A B : Type 0} (f g : A → B) (cs : List A) → map f cs ≡ map g cs → All (λ c. f c ≡ g c) cs
+at-each f g [] e = tt
+at-each f g (c ∷ cs) e = (ap (λ l. getD l 0 (f c)) e, at-each f g cs (ap (drop 1) e))
+
+-- what is computed of a grid, and what it is to come to
+record Facts : Type 0 where
+  number : ℕ
+  variables : ℕ
+  clauses : List ℤ
+  says : Told
+
+abbrev computes : GridStar → Facts
+computes g =
+    record {
+      number = recordAnswer (g .grid .bytes) .number;
+      variables = variableCount (boardOf (g .grid .bytes));
+      clauses = clauseList (boardOf (g .grid .bytes));
+      says = lists.fromEmpty (searchOf g);
+    }
+
+abbrev claims : GridStar → Facts
+claims g = record { number = 0; variables = g .grid .told .second; clauses = g .grid .list; says = g .says }
+
+computed : map computes gridStars ≡ map claims gridStars
+unfolding firstFrom outward same variables place clauses clauseList trailOf variableValue everyLiteral firstClause forcedAt failedClause forcedPlace lowestUnassigned undo step run
+computed = refl
+
+-- 2×2 open: with the last choice of the trail at which the search ends turned, another one says "none"
+last-turned : turnedLast 32 (gridCase 4 .list) 1000000 (undo (run 32 (gridCase 4 .list) 1000000 [] .trail)) ≡ None
+unfolding firstFrom variableValue everyLiteral firstClause forcedAt failedClause forcedPlace lowestUnassigned undo step run
+last-turned = refl
+
+-- and the drawing that program 2 prints is judged
+square-drawn : judgeAnswer (gridCase 4 .bytes) (0x06 ∷ 0x0C ∷ 0x03 ∷ 0x09 ∷ []) ≡ saysYes
+unfolding firstFrom outward around among
+square-drawn = refl
+
+-- the text of 1×1 open
+printed-text : TextIs 3 (gridCase 0 .list) (some oneCellText)
+unfolding decimalIn lines
+printed-text = refl
+
+-- the search begun empty on its clauses
+abbrev begun : GridStar → Search
+begun g =
+    record {
+      variables = g .grid .told .second;
+      list = g .grid .list;
+      trail = replicate (g .grid .told .second) (pos 0);
+      marks = replicate (g .grid .told .second) 0;
+      used = 0;
+      budget = 1000000;
+    }
+
+-- what is computed of a grid, with the number of its solutions
+module _ (g : GridStar) (e : computes g ≡ claims g) (encoded : grids.encodes (g .grid) ≡ g .grid) (text : TextIs (g .grid .told .second) (g .grid .list) (g .text)) where
+  begun-on : BegunOn (g .grid .bytes) (begun g)
+  begun-on =
+      record {
+        grid = ap (λ (f : Facts). f .number) e;
+        variables = sym (ap (λ (f : Facts). f .variables) e);
+        list = sym (ap (λ (f : Facts). f .clauses) e);
+        empty = refl;
+        trail = length-replicate (g .grid .told .second) (pos 0);
+        marks = length-replicate (g .grid .told .second) 0;
+      }
+
+  says : told (begun g) ≡ g .says
+  says = ap (λ (f : Facts). f .says) e
+
+  holds : {dss : List (List ℕ)} → dss ≡ g .solutions → Solutions (boardOf (g .grid .bytes)) dss → GridHolds g
+  holds q s =
+      record {
+        accepted = begun-on .grid;
+        encoded = encoded;
+        solutions = subst (Solutions (boardOf (g .grid .bytes))) q s;
+        searched = says;
+        printed = text;
+      }
+
+  none-holds : g .says .first ≡ 2 → [] ≡ g .solutions → GridHolds g
+  none-holds n q = holds q (no-solution (g .grid .bytes) (begun g) begun-on (ap (λ (t : Told). t .first) says ∙ n))
+
+  one-holds : {ds : List ℕ} → g .says .first ≡ 1 → ds ∷ [] ≡ g .solutions → judgeAnswer (g .grid .bytes) ds ≡ saysYes
+      → turnedLast (g .grid .told .second) (g .grid .list) 1000000 (undo (run (g .grid .told .second) (g .grid .list) 1000000 [] .trail)) ≡ None
+      → GridHolds g
+  unfolding trailOf
+  one-holds {ds} n q judged last =
+      let left = at-end (begun g) (begun-taken (g .grid .bytes) (begun g) begun-on) in
+      let none-left = ap (λ t. turnedLast (g .grid .told .second) (g .grid .list) 1000000 (undo t)) left ∙ last in
+      holds q
+      (one-solution (g .grid .bytes) (begun g) begun-on 1000000 (ap (λ (t : Told). t .first) says ∙ n) none-left
+      (judge-right (g .grid .bytes) (begun-on .grid) ds .0 judged))
+
+grids-hold : All GridHolds gridStars
+grids-hold = by (at-each computes claims gridStars computed) (at-each grids.encodes (λ g. g) grids.cases grids.cases-hold)
+  where
+    by : All (λ g. computes g ≡ claims g) gridStars → All (λ g. grids.encodes g ≡ g) grids.cases → All GridHolds gridStars
+    by c e = (
+      none-holds _ (c .0) (e .0) printed-text refl refl,
+      (
+        none-holds _ (c .1 .0) (e .1 .0) tt refl refl,
+        (
+          none-holds _ (c .1 .1 .0) (e .1 .1 .0) tt refl refl,
+          (
+            none-holds _ (c .1 .1 .1 .0) (e .1 .1 .1 .0) tt refl refl,
+            (
+              one-holds _ (c .1 .1 .1 .1 .0) (e .1 .1 .1 .1 .0) tt refl refl square-drawn last-turned,
+              tt,
+            ),
+          ),
+        ),
+      ),
+    )
+
+pub stars-hold : All Holds stars
+stars-hold =
+    all-append Holds (map grid gridStars) (map refused records.readerCases ++ map list lists.cases) grids-hold
+    (all-append Holds (map refused records.readerCases) (map list lists.cases)
+    (at-each (λ (c : records.ReaderCase). recordAnswer (c .bytes)) (λ c. c .says) records.readerCases records.reader-cases-hold)
+    (at-each lists.fromEmpty (λ c. c .says) lists.cases lists.cases-hold))

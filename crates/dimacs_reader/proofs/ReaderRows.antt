@@ -1,0 +1,76 @@
+-- The reader goes through its rows in order, then writes. Assumes nothing.
+use Prim.Native.Nat.{ℕ, _≤_, _<_}
+use native.Mathlib.Omega.{arith}
+use lib.IntN.{ℤ}
+use lib.ListN.{length, drop}
+use mathlib.Core.Path.{_≡_, refl, sym, _∙_, ap, subst}
+use mathlib.Core.Bool.{false}
+use mathlib.Core.Option.{Option, none, some, Option·some-ne-none}
+use mathlib.Core.List.{List}
+use Rattle.answers.specs.declared.Told.{Told}
+use Rattle.answers.specs.Told.{answer, refusal}
+use Rattle.answers.specs.Lent.{Wrote, filled, leaves}
+use Rattle.answers.proofs.Lent.{wrote-recast, wrote-filled}
+use Rattle.answers.proofs.Rows.{Tells, turns, passes, answers}
+use Rattle.dimacs_reader.specs.declared.Cursor.{Cursor}
+use Rattle.dimacs_reader.specs.declared.Head.{Head}
+use Rattle.dimacs_reader.specs.declared.Head.the-variants.{Is as HeadIs, Refused as NoHead}
+use Rattle.dimacs_reader.specs.declared.Listed.{Listed}
+use Rattle.dimacs_reader.specs.declared.Listed.the-variants.{Elements, Refused as NoList}
+use Rattle.dimacs.specs.Automaton.{next, endFrom, refusedFrom}
+use Rattle.dimacs.specs.Reader.{Header, State, line, clause, stepByte, accepts, noHeader, headerIn, refusedAt, listOf, listFrom, headerOf}
+use Rattle.dimacs_reader.specs.Cursors.{Run, Dead, headerWith, HeadRead, Heads, ListRead, Lists}
+use Rattle.dimacs.specs.Calls.{readerRows, readerAnswer, readerLeaves}
+use Rattle.dimacs.proofs.Settled.{short-by, long-enough, settled}
+use Rattle.dimacs_reader.proofs.Runs.{run-dead}
+
+pub head-read : (text : List ℕ) {t : Head} {v c : ℕ} {k : Cursor} → Heads text line 0 t → t ≡ HeadIs v c k → HeadRead text line 0 v c (k .at)
+head-read text d e = subst (Heads text line 0) e d
+
+pub head-refused : (text : List ℕ) {t : Head} {p : ℕ} → Heads text line 0 t → t ≡ NoHead p → Dead text line 0 p
+head-refused text d e = subst (Heads text line 0) e d
+
+abbrev Reads : List ℕ → List ℤ → Told → List ℤ → Type 0
+Reads text buf u new = (u ≡ readerAnswer text buf) × (new ≡ readerLeaves text buf)
+
+abbrev told : List ℕ → Told
+told text = answer (length (listOf text)) (headerOf text .variables) (headerOf text .clauses)
+
+reads : (text : List ℕ) (buf : List ℤ) {u : Told} {new : List ℤ} → Tells (readerRows text (length buf)) (told text) u → new ≡ leaves u buf (filled buf (listOf text)) → Reads text buf u new
+reads text buf = settled (readerRows text (length buf)) (told text) buf (filled buf (listOf text))
+
+pub text-refused : {text : List ℕ} {p : ℕ} (buf : List ℤ) → Dead text line 0 p → Reads text buf (refusal 19 p) buf
+text-refused {text} buf d = reads text buf (turns (d .place)) refl
+
+-- what reading the list came to
+module _ (text : List ℕ) (h : Header) (a : ℕ) (before after : List ℤ) {r : Listed} (d : Lists text h a before after r) where
+  pub list-read : {n : ℕ} → r ≡ Elements n → ListRead text h a before after n
+  list-read e = subst (Lists text h a before after) e d
+
+  pub list-dead : {p : ℕ} → r ≡ NoList p → Dead text (clause h 0 false) a p
+  list-dead e = subst (Lists text h a before after) e d
+
+-- once the header is read
+module _ {text : List ℕ} {v c a : ℕ} (buf : List ℤ) (h : HeadRead text line 0 v c a) where
+  pub body-refused : {p : ℕ} → Dead text (clause (headerWith v c) 0 false) a p → Reads text buf (refusal 19 p) buf
+  body-refused d = text-refused buf (run-dead (h .run) d)
+
+  module _ {before after : List ℤ} {n : ℕ} (l : ListRead text (headerWith v c) a before after n) where
+    right : refusedAt text ≡ none
+    right = h .run .refused ∙ l .accepted
+
+    many : n ≡ length (listOf text)
+    many = let m : n ≡ length (listFrom (clause (headerWith v c) 0 false) (drop a text)) = omega (arith, l .wrote .place) in m ∙ ap length (sym (h .run .list))
+
+    head : headerWith v c ≡ headerOf text
+    head = sym (ap (λ (s : Option State). next s noHeader headerIn) (h .run .ends ∙ l .ends))
+
+    pub body-short : n < 18446744073709551616 → length buf < n → Reads text buf (refusal 6 n) buf
+    body-short s o = reads text buf (passes right (turns (short-by (length buf) (omega (arith, many)) (omega (arith, many)) ∙ ap some (sym many)))) refl
+
+    pub body-read : n ≤ length buf → (new : List ℤ) (q : Listed) → Lists text (headerWith v c) a buf new q → Reads text buf (answer n v c) new
+    body-read o new (NoList p) x = absurd (Option·some-ne-none p (sym (x .place) ∙ l .accepted))
+    body-read o new (Elements m) x =
+        let w = wrote-recast (sym (h .run .list)) (x .wrote) in
+        let s = reads text buf (passes right (passes (long-enough (length buf) (omega (arith, many))) answers)) (wrote-filled w (omega (arith, many))) in
+        ((λ i. answer (many i) (head i .variables) (head i .clauses)) ∙ s .0, s .1)

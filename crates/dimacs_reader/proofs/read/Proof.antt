@@ -1,0 +1,38 @@
+-- `dimacs_reader::read` meets its contract. Assumes nothing.
+use Rattle.dimacs_reader.proofs.ReaderRows.{head-read, head-refused, text-refused}
+use borrow.Author.Needs.{needs}
+use Rattle.dimacs_reader.proofs.read.Statement.{statement}
+use Rattle.dimacs_reader.proofs.read.Tie as tie
+
+header-requires : tie.Need-header-requires
+header-requires c κs = tt
+
+enum-known-variables : tie.Need-enum-known-variables
+enum-known-variables c = c .match .keys1
+
+read-body-requires : tie.Need-read-body-requires
+read-body-requires c κs = head-read (c .before .before .before .before .before .before .args .text .now) (c .before .before .before .before .header .ensures) (c .before .before .variables .given .1)
+
+enum-known-at : tie.Need-enum-known-at
+enum-known-at c = c .match .keys2
+
+same-length : tie.Need-same-length
+same-length c = search needs
+
+returns : tie.Need-returns
+returns c = c .before .read-body .ensures
+
+returns-2 : tie.Need-returns-2
+returns-2 c = text-refused (c .before .before .before .before .before .args .list .now) (head-refused (c .before .before .before .before .before .args .text .now) (c .before .before .before .header .ensures) (c .before .at .given .1))
+
+pub read-spec : {M : Type 1} → statement M
+read-spec =
+    tie.close
+    (tie.spec
+    header-requires
+    enum-known-variables
+    read-body-requires
+    enum-known-at
+    same-length
+    returns
+    returns-2)

@@ -1,0 +1,48 @@
+-- `dimacs_reader::read_body` meets its contract. Assumes nothing.
+use native.Mathlib.Omega.{arith}
+use Rattle.dimacs_reader.specs.Cursors.{headerWith}
+use Rattle.dimacs_reader.proofs.ReaderRows.{list-read, list-dead, body-refused, body-short, body-read}
+use borrow.Author.Needs.{needs}
+use Rattle.dimacs_reader.proofs.read_body.Statement.{statement}
+use Rattle.dimacs_reader.proofs.read_body.Tie as tie
+
+slice-aggregate-read-list : tie.Need-slice-aggregate-read-list
+slice-aggregate-read-list c = search needs
+
+read-list-requires : tie.Need-read-list-requires
+read-list-requires c κs = c .before .before .pre .small
+
+enum-known-at : tie.Need-enum-known-at
+enum-known-at c = c .match .keys1
+
+enum-known-elements : tie.Need-enum-known-elements
+enum-known-elements c = c .match .keys2
+
+returns : tie.Need-returns
+returns c = body-short (c .before .before .before .before .before .before .before .before .args .list .now) (c .before .before .before .before .before .before .before .before .pre) (list-read (c .before .before .before .before .before .before .before .before .args .text .now) (headerWith (c .before .before .before .before .before .before .before .before .args .variables) (c .before .before .before .before .before .before .before .before .args .clauses)) (c .before .before .before .before .before .before .before .before .args .«from») _ _ (c .before .before .before .before .before .read-list .ensures) (c .before .before .elements .given .1)) (omega arith) (c .if1 .taken)
+
+read-list-requires-2 : tie.Need-read-list-requires-2
+read-list-requires-2 c κs = c .before .before .before .before .before .before .before .before .before .pre .small
+
+returns-2 : tie.Need-returns-2
+returns-2 c = body-refused (c .before .before .before .before .before .before .before .args .list .now) (c .before .before .before .before .before .before .before .pre) (list-dead (c .before .before .before .before .before .before .before .args .text .now) (headerWith (c .before .before .before .before .before .before .before .args .variables) (c .before .before .before .before .before .before .before .args .clauses)) (c .before .before .before .before .before .before .before .args .«from») _ _ (c .before .before .before .before .read-list .ensures) (c .before .at .given .1))
+
+same-length : tie.Need-same-length
+same-length c = search needs
+
+returns-3 : tie.Need-returns-3
+returns-3 c = body-read (c .before .before .before .before .before .before .before .before .before .before .before .args .list .now) (c .before .before .before .before .before .before .before .before .before .before .before .pre) (list-read (c .before .before .before .before .before .before .before .before .before .before .before .args .text .now) (headerWith (c .before .before .before .before .before .before .before .before .before .before .before .args .variables) (c .before .before .before .before .before .before .before .before .before .before .before .args .clauses)) (c .before .before .before .before .before .before .before .before .before .before .before .args .«from») _ _ (c .before .before .before .before .before .before .before .before .read-list .ensures) (c .before .before .before .before .before .elements .given .1)) (c .before .before .before .if1 .left) _ (c .before .read-list2 .result) (c .before .read-list2 .ensures)
+
+pub read-body-spec : {M : Type 1} → statement M
+read-body-spec =
+    tie.close
+    (tie.spec
+    slice-aggregate-read-list
+    read-list-requires
+    enum-known-at
+    enum-known-elements
+    returns
+    read-list-requires-2
+    returns-2
+    same-length
+    returns-3)

@@ -1,0 +1,103 @@
+-- `dimacs_reader::read_list` meets its contract: the loop keeps `Listing`. Assumes nothing.
+use Prim.Native.Nat.{_-_}
+use native.Mathlib.Omega.{arith}
+use lib.ListN.{length}
+use mathlib.Core.Path.{refl}
+use Rattle.answers.proofs.Lent.{wrote-length}
+use Rattle.dimacs.specs.Reader.{clause}
+use Rattle.dimacs_reader.specs.Cursors.{headerWith, ElementRead, Elemental}
+use Rattle.dimacs_reader.proofs.Listings.{Listing, list-start, element-read, list-over, list-refused, list-more, list-begun, list-few, list-end}
+use Rattle.dimacs_reader.proofs.read_list.Statement.{statement}
+use Rattle.dimacs_reader.proofs.read_list.Tie as tie
+
+abbrev Inv-loop : tie.InvT-loop
+Inv-loop text from variables clauses out₀ at₀ n₀ k₀ begun₀ out at n k begun = Listing text variables clauses from out₀ out at n k begun
+
+abbrev μ-loop : tie.MeasureT-loop
+μ-loop text from variables clauses out₀ at₀ n₀ k₀ begun₀ out at n k begun = length text - at
+
+loop-holds : tie.Need-loop-holds Inv-loop μ-loop
+loop-holds c = list-start (c .before .args .text .now) (c .before .args .variables) (c .before .args .clauses) (c .before .args .«from») (c .before .args .out .now)
+
+same-length : tie.Need-same-length Inv-loop μ-loop
+same-length c = wrote-length (c .before .before .loop .inv .wrote)
+
+returns : tie.Need-returns Inv-loop μ-loop
+returns c = list-over (c .before .before .loop .inv) (omega arith) (c .if1 .taken)
+
+element-requires : tie.Need-element-requires Inv-loop μ-loop
+element-requires c κs = omega arith
+
+enum-known-negative : tie.Need-enum-known-negative Inv-loop μ-loop
+enum-known-negative c = c .match .keys1
+
+-- what was found at the place, and the element that was read
+found : (c : tie.After-element Inv-loop μ-loop) → Elemental (c .before .before .before .before .before .args .text .now) (headerWith (c .before .before .before .before .before .args .variables) (c .before .before .before .before .before .args .clauses)) (c .before .before .before .loop .k) (clause (headerWith (c .before .before .before .before .before .args .variables) (c .before .before .before .before .before .args .clauses)) (c .before .before .before .loop .k) (c .before .before .before .loop .begun)) (c .before .before .before .loop .at) (c .element .result)
+found c = c .element .ensures (headerWith (c .before .before .before .before .before .args .variables) (c .before .before .before .before .before .args .clauses)) (c .before .before .before .loop .k) (c .before .before .before .loop .begun) refl (c .before .if1 .left)
+
+read : (c : tie.After-negative Inv-loop μ-loop) → ElementRead (c .before .before .before .before .before .before .before .args .text .now) (headerWith (c .before .before .before .before .before .before .before .args .variables) (c .before .before .before .before .before .before .before .args .clauses)) (c .before .before .before .before .before .loop .k) (clause (headerWith (c .before .before .before .before .before .before .before .args .variables) (c .before .before .before .before .before .before .before .args .clauses)) (c .before .before .before .before .before .loop .k) (c .before .before .before .before .before .loop .begun)) (c .before .before .before .before .before .loop .at) (c .negative .given .0 .0) (c .negative .given .0 .1 .0) (c .negative .given .0 .1 .1 .0 .at)
+read c = element-read (c .before .before .before .before .before .before .before .args .text .now) (headerWith (c .before .before .before .before .before .before .before .args .variables) (c .before .before .before .before .before .before .before .args .clauses)) (c .before .before .before .before .before .loop .k) (clause (headerWith (c .before .before .before .before .before .before .before .args .variables) (c .before .before .before .before .before .before .before .args .clauses)) (c .before .before .before .before .before .loop .k) (c .before .before .before .before .before .loop .begun)) (c .before .before .before .before .before .loop .at) (found (c .before .before)) (c .negative .given .1)
+
+put-literal-requires : tie.Need-put-literal-requires Inv-loop μ-loop
+put-literal-requires c κs = (omega (arith, read (c .before .before) .small), omega (arith, c .before .before .before .before .before .before .before .loop .inv .few))
+
+closed-after-requires : tie.Need-closed-after-requires Inv-loop μ-loop
+closed-after-requires c κs = omega (arith, c .before .before .before .before .before .before .before .before .before .loop .inv .most)
+
+loop-less : tie.Need-loop-less Inv-loop μ-loop
+loop-less c = omega (arith, read (c .before .before .before .before .before) .low)
+
+loop-again : tie.Need-loop-again Inv-loop μ-loop
+loop-again c = list-more (c .before .before .before .before .before .before .before .before .before .before .loop .inv) (read (c .before .before .before .before .before)) (c .before .before .before .before .before .before .before .before .if1 .left) (c .before .before .put-literal .ensures) (c .closed-after .ensures)
+
+enum-known-p : tie.Need-enum-known-p Inv-loop μ-loop
+enum-known-p c = c .match .keys2
+
+same-length-2 : tie.Need-same-length-2 Inv-loop μ-loop
+same-length-2 c = wrote-length (c .before .before .before .before .before .before .loop .inv .wrote)
+
+returns-2 : tie.Need-returns-2 Inv-loop μ-loop
+returns-2 c = list-refused (c .before .before .before .before .before .before .loop .inv) (found (c .before .before .before)) (c .before .p .given .1)
+
+same-length-3 : tie.Need-same-length-3 Inv-loop μ-loop
+same-length-3 c = wrote-length (c .before .before .loop .inv .wrote)
+
+returns-3 : tie.Need-returns-3 Inv-loop μ-loop
+returns-3 c = list-begun (c .before .before .loop .inv) (omega arith) (c .if2 .taken)
+
+same-length-4 : tie.Need-same-length-4 Inv-loop μ-loop
+same-length-4 c = wrote-length (c .before .before .before .loop .inv .wrote)
+
+returns-4 : tie.Need-returns-4 Inv-loop μ-loop
+returns-4 c = list-few (c .before .before .before .loop .inv) (omega arith) (c .before .if2 .left) (c .if3 .taken)
+
+same-length-5 : tie.Need-same-length-5 Inv-loop μ-loop
+same-length-5 c = wrote-length (c .before .before .before .loop .inv .wrote)
+
+returns-5 : tie.Need-returns-5 Inv-loop μ-loop
+returns-5 c = list-end (c .before .before .before .loop .inv) (omega arith) (c .before .if2 .left) (c .if3 .left)
+
+pub read-list-spec : {M : Type 1} → statement M
+read-list-spec =
+    tie.close
+    (tie.spec
+    Inv-loop
+    μ-loop
+    loop-holds
+    same-length
+    returns
+    element-requires
+    enum-known-negative
+    put-literal-requires
+    closed-after-requires
+    loop-less
+    loop-again
+    enum-known-p
+    same-length-2
+    returns-2
+    same-length-3
+    returns-3
+    same-length-4
+    returns-4
+    same-length-5
+    returns-5)

@@ -1,0 +1,4 @@
+-- Laws of the text of a list, for the proofs of the writer.
+pub mod Decimals
+pub mod Lines
+pub mod WriterRows

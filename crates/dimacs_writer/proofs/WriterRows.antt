@@ -1,0 +1,107 @@
+-- The writer goes through its rows in order, then writes. Assumes nothing.
+use Prim.Native.Nat.{ℕ, _+_, _≤_, _<_, _^_}
+use native.Mathlib.Omega.{arith}
+use borrow.Author.Tests.{ltb-true, ltb-false}
+use lib.Dec.{ltb}
+use lib.IntN.{ℤ}
+use lib.ListN.{length, length-append}
+use mathlib.Core.Path.{_≡_, refl, sym, _∙_, ap}
+use mathlib.Core.Bool.{Bool, true, false, cond}
+use mathlib.Core.Option.{none, some}
+use mathlib.Core.List.{List, _++_}
+use Rattle.answers.specs.declared.Told.{Told}
+use Rattle.answers.specs.Told.{answer, refusal, Row, cause}
+use Rattle.answers.specs.Lent.{Wrote, filled, leaves}
+use Rattle.answers.proofs.Lent.{wrote-after, wrote-recast, wrote-filled}
+use Rattle.answers.proofs.Rows.{Tells, turns, passes, answers}
+use Rattle.cnf.specs.Literals.{tooManyVariables, wrongList}
+use Rattle.cnf.specs.Clauses.{clauseCount}
+use Rattle.dimacs_writer.specs.declared.Needed.{Needed}
+use Rattle.dimacs_writer.specs.declared.Needed.the-variants.{Bytes, TooMany}
+use Rattle.dimacs.specs.Text.{decimal, lines, headerLine, textOf}
+use Rattle.dimacs_writer.specs.Writer.{counted}
+use Rattle.dimacs.specs.Calls.{writerRows, writerAnswer, writerLeaves}
+use Rattle.dimacs.proofs.Settled.{short-over, short-by, long-enough, settled}
+use Rattle.dimacs_writer.proofs.Lines.{header-length}
+
+-- what a count that fits, and one that does not, say
+counted-bytes : (m : ℕ) {n : ℕ} → counted m ≡ Bytes n → (m ≡ n) × (m < 18446744073709551616)
+counted-bytes m {n} e = by (ltb m (2 ^ 64)) refl e
+  where
+    by : (t : Bool) → ltb m (2 ^ 64) ≡ t → cond t (Bytes m) TooMany ≡ Bytes n → (m ≡ n) × (m < 18446744073709551616)
+    by true h e = (cc, ltb-true m (2 ^ 64) h)
+    by false h e = let z : _≡_ {A = ℕ} 0 1 = cc in absurd (omega arith)
+
+counted-over : (m : ℕ) → counted m ≡ TooMany → 18446744073709551616 ≤ m
+counted-over m e = by (ltb m (2 ^ 64)) refl e
+  where
+    by : (t : Bool) → ltb m (2 ^ 64) ≡ t → cond t (Bytes m) TooMany ≡ TooMany → 18446744073709551616 ≤ m
+    by true h e = let z : _≡_ {A = ℕ} 0 1 = cc in absurd (omega arith)
+    by false h e = ltb-false m (2 ^ 64) h
+
+text-append : (v : ℕ) (ls : List ℤ) → length (textOf v ls) ≡ length (headerLine v (clauseCount ls)) + length (lines ls)
+text-append v ls = length-append (headerLine v (clauseCount ls)) (lines ls)
+
+-- the bytes of the text, by its parts
+pub text-counted : {a b k : ℕ} {r : Needed} (v : ℕ) (ls : List ℤ) → k ≡ clauseCount ls → a ≡ length (decimal v) → b ≡ length (decimal k) → r ≡ counted (8 + a + b + length (lines ls)) → r ≡ counted (length (textOf v ls))
+text-counted {a} {b} v ls e p q r =
+    let h = header-length v (clauseCount ls) in
+    let d = ap (λ (n : ℕ). length (decimal n)) e in
+    let t = text-append v ls in
+    let m : 8 + a + b + length (lines ls) ≡ length (textOf v ls) = omega arith in
+    r ∙ ap counted m
+
+-- what it tells, and what it leaves in the buffer
+abbrev Writes : ℕ → List ℤ → List ℕ → Told → List ℕ → Type 0
+Writes v ls buf u new = (u ≡ writerAnswer v ls buf) × (new ≡ writerLeaves v ls buf)
+
+writes : (v : ℕ) (ls : List ℤ) (buf : List ℕ) {u : Told} {new : List ℕ} → Tells (writerRows v ls (length buf)) (answer (length (textOf v ls)) 0 0) u → new ≡ leaves u buf (filled buf (textOf v ls)) → Writes v ls buf u new
+writes v ls buf = settled (writerRows v ls (length buf)) (answer (length (textOf v ls)) 0 0) buf (filled buf (textOf v ls))
+
+pub record VariablesRight (v : ℕ) : Type 0 where
+  pub right : tooManyVariables v ≡ false
+
+pub record ListRight (v : ℕ) (ls : List ℤ) : Type 0 where
+  pub before : VariablesRight v
+  pub right : wrongList v ls ≡ none
+
+-- the text fits its buffer and the count of its bytes a word
+pub record RoomRight (v : ℕ) (ls : List ℤ) (buf : List ℕ) : Type 0 where
+  pub before : ListRight v ls
+  pub right : length (textOf v ls) ≤ length buf
+  pub small : length (textOf v ls) < 18446744073709551616
+
+pub too-many : (v : ℕ) (ls : List ℤ) (buf : List ℕ) → tooManyVariables v ≡ true → Writes v ls buf (refusal 17 0) buf
+too-many v ls buf h = writes v ls buf (turns (ap cause h)) refl
+
+pub list-wrong : {v i : ℕ} (ls : List ℤ) (buf : List ℕ) → VariablesRight v → wrongList v ls ≡ some i → Writes v ls buf (refusal 16 i) buf
+list-wrong {v} ls buf p h = writes v ls buf (passes (ap cause (p .right)) (turns h)) refl
+
+module _ {v : ℕ} {ls : List ℤ} (buf : List ℕ) (p : ListRight v ls) {r : Needed} (e : r ≡ counted (length (textOf v ls))) where
+  pub room-over : length buf < 18446744073709551616 → r ≡ TooMany → Writes v ls buf (refusal 6 18446744073709551615) buf
+  room-over h o = writes v ls buf (passes (ap cause (p .before .right)) (passes (p .right) (turns (short-over (length buf) h (counted-over (length (textOf v ls)) (sym e ∙ o)))))) refl
+
+  module _ {n : ℕ} (o : r ≡ Bytes n) where
+    needs : (length (textOf v ls) ≡ n) × (length (textOf v ls) < 18446744073709551616)
+    needs = counted-bytes (length (textOf v ls)) (sym e ∙ o)
+
+    pub room-short : length buf < n → Writes v ls buf (refusal 6 n) buf
+    room-short h = writes v ls buf (passes (ap cause (p .before .right)) (passes (p .right) (turns (short-by (length buf) (omega (arith, needs .0)) (needs .1) ∙ ap some (needs .0))))) refl
+
+    pub room-right : n ≤ length buf → RoomRight v ls buf
+    room-right h = record { before = p; right = omega (arith, needs .0); small = needs .1 }
+
+module _ {v : ℕ} {ls : List ℤ} {buf : List ℕ} (p : RoomRight v ls buf) {k : ℕ} (e : k ≡ clauseCount ls) where
+  header : headerLine v k ≡ headerLine v (clauseCount ls)
+  header = ap (headerLine v) e
+
+  pub header-fits : length (headerLine v k) + length (lines ls) < 18446744073709551616
+  header-fits = let s = p .small in omega (arith, text-append v ls, ap length header)
+
+  pub all-written : {b₁ new : List ℕ} {a r : ℕ} → Wrote buf 0 (headerLine v k) b₁ a → Wrote b₁ a (lines ls) new r → Writes v ls buf (answer r 0 0) new
+  all-written {r = r} w x =
+      let t = wrote-after (wrote-recast header w) x in
+      let n : r ≡ length (textOf v ls) = omega (arith, t .place) in
+      rw n
+      (writes v ls buf (passes (ap cause (p .before .before .right)) (passes (p .before .right) (passes (long-enough (length buf) (p .right)) answers)))
+      (wrote-filled t (p .right)))

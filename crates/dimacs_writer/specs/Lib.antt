@@ -1,0 +1,2 @@
+-- What the contracts of the writer's parts cite.
+pub mod Writer
