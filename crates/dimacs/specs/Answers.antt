@@ -1,5 +1,4 @@
 -- Document 01's number and values of the answers of writer and reader.
-use Prim.Native.Nat.{ℕ}
 use Rattle.answers.specs.declared.Told.{Told}
 use Rattle.answers.specs.Told.{refusal, answer}
 use Rattle.dimacs.specs.declared.WriteRefusal.{WriteRefusal}

@@ -4,10 +4,9 @@ use native.Mathlib.Omega.{arith}
 use borrow.Author.Tests.{eq-eqb, ne-eqb}
 use lib.Dec.{eqb}
 use lib.ListN.{length, getD}
-use mathlib.Core.Path.{_≡_, refl, sym, _∙_, ap, subst}
+use mathlib.Core.Path.{_≡_, refl, sym, _∙_, subst}
 use mathlib.Core.Bool.{Bool, true, false, not, cond}
 use mathlib.Core.List.{List, []}
-use Rattle.cnf.specs.Literals.{mostVariables}
 use Rattle.dimacs_reader.specs.declared.Cursor.{Cursor}
 use Rattle.dimacs_reader.specs.declared.Passed.{Passed}
 use Rattle.dimacs_reader.specs.declared.Passed.the-variants.{To, Refused as NotPassed}
@@ -17,10 +16,10 @@ use Rattle.dimacs_reader.specs.declared.Head.{Head}
 use Rattle.dimacs_reader.specs.declared.Head.the-variants.{Is as HeadIs, Refused as NoHead}
 use Rattle.dimacs_reader.specs.declared.Element.{Element}
 use Rattle.dimacs_reader.specs.declared.Element.the-variants.{Is as ElementIs, Refused as NoElement}
-use Rattle.dimacs.specs.Reader.{Header, State, first, clause, Number, ofVariables, ofClauses, element, when, most, zeroAllowed, afterElement, afterNumber, clauseStep}
-use Rattle.dimacs_reader.specs.Cursors.{ByteAt, Run, Dead, Passes, Numbers, FieldRead, Fields, headerWith, HeadRead, Heads, behindNumber, closedAfter, ElementRead, Elemental}
+use Rattle.dimacs.specs.Reader.{Header, State, first, clause, Number, element, when, afterElement, afterNumber, clauseStep}
+use Rattle.dimacs_reader.specs.Cursors.{ByteAt, Run, Dead, Passes, Numbers, FieldRead, Fields, Heads, behindNumber, closedAfter, ElementRead, Elemental}
 use Rattle.dimacs_reader.proofs.Runs.{run-then, run-dead, run-step, run-alike, dead-step}
-use Rattle.dimacs_reader.proofs.Tokens.{number-read, number-refused, after-right, after-wrong}
+use Rattle.dimacs_reader.proofs.Tokens.{number-read, after-right, after-wrong}
 
 -- a number of the header and the byte after it
 abbrev Followed : Number → (ℕ → State) → ℕ → Type 0

@@ -4,10 +4,9 @@ use native.Mathlib.Omega.{arith}
 use borrow.Author.Tests.{eq-eqb, ne-eqb}
 use lib.Dec.{eqb}
 use lib.IntN.{ℤ}
-use lib.ListN.{length, drop, drop-of-length-le}
-use mathlib.Core.Path.{_≡_, refl, sym, _∙_, ap, subst}
+use lib.ListN.{length, drop-of-length-le}
+use mathlib.Core.Path.{_≡_, sym, _∙_, ap, subst}
 use mathlib.Core.Bool.{Bool, true, false, not, cond}
-use mathlib.Core.Option.{Option, none, some}
 use mathlib.Core.List.{List, [], _∷_, _++_, append-nil}
 use Rattle.answers.specs.Lent.{Wrote}
 use Rattle.answers.proofs.Lent.{wrote-nothing, wrote-after, wrote-recast}
@@ -15,7 +14,7 @@ use Rattle.dimacs_reader.specs.declared.Cursor.{Cursor}
 use Rattle.dimacs_reader.specs.declared.Element.{Element}
 use Rattle.dimacs_reader.specs.declared.Element.the-variants.{Is as ElementIs, Refused as NoElement}
 use Rattle.dimacs.specs.Automaton.{endFrom, refusedFrom}
-use Rattle.dimacs.specs.Reader.{Header, State, clause, stepByte, accepts, listFrom}
+use Rattle.dimacs.specs.Reader.{Header, State, clause, listFrom}
 use Rattle.dimacs_reader.specs.Cursors.{Run, Dead, headerWith, literal, closedAfter, ElementRead, Elemental, ListRead}
 use Rattle.dimacs_reader.proofs.Runs.{run-stay, run-then, run-dead, dead-step, dead-end}
 

@@ -9,7 +9,7 @@ use mathlib.Core.Option.{Option, none, some, Option·some-ne-none}
 use mathlib.Core.List.{List}
 use Rattle.answers.specs.declared.Told.{Told}
 use Rattle.answers.specs.Told.{answer, refusal}
-use Rattle.answers.specs.Lent.{Wrote, filled, leaves}
+use Rattle.answers.specs.Lent.{filled, leaves}
 use Rattle.answers.proofs.Lent.{wrote-recast, wrote-filled}
 use Rattle.answers.proofs.Rows.{Tells, turns, passes, answers}
 use Rattle.dimacs_reader.specs.declared.Cursor.{Cursor}
@@ -17,9 +17,9 @@ use Rattle.dimacs_reader.specs.declared.Head.{Head}
 use Rattle.dimacs_reader.specs.declared.Head.the-variants.{Is as HeadIs, Refused as NoHead}
 use Rattle.dimacs_reader.specs.declared.Listed.{Listed}
 use Rattle.dimacs_reader.specs.declared.Listed.the-variants.{Elements, Refused as NoList}
-use Rattle.dimacs.specs.Automaton.{next, endFrom, refusedFrom}
-use Rattle.dimacs.specs.Reader.{Header, State, line, clause, stepByte, accepts, noHeader, headerIn, refusedAt, listOf, listFrom, headerOf}
-use Rattle.dimacs_reader.specs.Cursors.{Run, Dead, headerWith, HeadRead, Heads, ListRead, Lists}
+use Rattle.dimacs.specs.Automaton.{next}
+use Rattle.dimacs.specs.Reader.{Header, State, line, clause, noHeader, headerIn, refusedAt, listOf, listFrom, headerOf}
+use Rattle.dimacs_reader.specs.Cursors.{Dead, headerWith, HeadRead, Heads, ListRead, Lists}
 use Rattle.dimacs.specs.Calls.{readerRows, readerAnswer, readerLeaves}
 use Rattle.dimacs.proofs.Settled.{short-by, long-enough, settled}
 use Rattle.dimacs_reader.proofs.Runs.{run-dead}

@@ -1,14 +1,14 @@
 -- Laws of the automaton's runs: one step, one after the other, and where it dies. Assumes nothing.
-use Prim.Native.Nat.{ℕ, suc, _+_, _≤_, _<_}
+use Prim.Native.Nat.{ℕ, _+_, _≤_, _<_}
 use native.Mathlib.Numerals.{add-one}
 use lib.IntN.{ℤ}
 use lib.ListN.{length, getD, drop, drop-of-length-le}
 use lib.Seq.{drop-cons}
 use mathlib.Core.Path.{_≡_, refl, sym, _∙_, ap, subst}
-use mathlib.Core.Bool.{Bool, true, false, not}
-use mathlib.Core.Option.{Option, none, some}
-use mathlib.Core.List.{List, [], _∷_, _++_, append-assoc}
-use Rattle.dimacs.specs.Automaton.{next, endFrom, refusedFrom}
+use mathlib.Core.Bool.{false}
+use mathlib.Core.Option.{none, some}
+use mathlib.Core.List.{List, [], _++_, append-assoc}
+use Rattle.dimacs.specs.Automaton.{endFrom, refusedFrom}
 use Rattle.dimacs.specs.Reader.{State, stepByte, accepts, ended, listFrom}
 use Rattle.dimacs_reader.specs.Cursors.{Run, Dead}
 

@@ -1,21 +1,21 @@
 -- Laws of the reader's parts before the list: comment lines, `p cnf `, the digits of a number. Assumes nothing.
-use Prim.Native.Nat.{ℕ, suc, _+_, _-_, _*_, _/_, _%_, _≤_, _<_}
+use Prim.Native.Nat.{ℕ, suc, _+_, _-_, _*_, _≤_, _<_}
 use native.Mathlib.Omega.{arith}
 use native.Mathlib.Numerals.{add-one}
-use borrow.Author.Tests.{eq-eqb, ne-eqb, lt-ltb, le-leb, lt-leb, leb-true, eqb-true, not-true, not-false}
+use borrow.Author.Tests.{eq-eqb, ne-eqb, lt-ltb, leb-true, eqb-true, not-true, not-false}
 use lib.Dec.{eqb, leb}
 use lib.ListN.{length, getD, drop}
 use lib.Seq.{drop-cons}
-use mathlib.Core.Path.{_≡_, refl, sym, _∙_, ap, subst}
-use mathlib.Core.Bool.{Bool, true, false, not, _&&_, _||_, cond}
-use mathlib.Core.Option.{Option, none, some}
+use mathlib.Core.Path.{_≡_, refl, sym, _∙_, subst}
+use mathlib.Core.Bool.{Bool, true, false, not, _&&_, cond}
+use mathlib.Core.Option.{none, some}
 use mathlib.Core.List.{List, [], _∷_}
 use Rattle.answers.proofs.Bools.{clash, and-both}
 use Rattle.dimacs_reader.specs.declared.Cursor.{Cursor}
 use Rattle.dimacs_reader.specs.declared.Token.{Token}
 use Rattle.dimacs_reader.specs.declared.Token.the-variants.{Number as NumberIs, Refused as NoNumber}
 use Rattle.dimacs.specs.Text.{preamble}
-use Rattle.dimacs.specs.Reader.{State, line, comment, word, first, digits, Number, element, when, most, zeroAllowed, isDigit, nextDigit, afterNumber, readElement, afterWord, stepByte, accepts, ended}
+use Rattle.dimacs.specs.Reader.{State, line, comment, word, first, digits, Number, element, when, most, zeroAllowed, isDigit, afterNumber, readElement, afterWord, stepByte, ended}
 use Rattle.dimacs_reader.specs.Cursors.{ByteAt, isFirst, isNext, Run, Dead, NumberRead, Numbers, headerWith}
 use Rattle.dimacs_reader.proofs.Runs.{run-stay, run-then, run-recast, run-dead, run-step, run-alike, dead-step, dead-end}
 

@@ -19,9 +19,9 @@ use Rattle.dimacs_reader.specs.declared.Element.{Element}
 use Rattle.dimacs_reader.specs.declared.Element.the-variants.{Is as ElementIs, Refused as NoElement}
 use Rattle.dimacs_reader.specs.declared.Listed.{Listed}
 use Rattle.dimacs_reader.specs.declared.Listed.the-variants.{Elements, Refused as NoList}
-use Rattle.dimacs.specs.Text.{lineFeed, space, preamble}
+use Rattle.dimacs.specs.Text.{lineFeed, space}
 use Rattle.dimacs.specs.Automaton.{endFrom, refusedFrom}
-use Rattle.dimacs.specs.Reader.{Header, Number, State, line, word, first, digits, clause, most, isDigit, stepByte, accepts, readElement, listFrom, headerIn}
+use Rattle.dimacs.specs.Reader.{Header, Number, State, first, digits, clause, most, isDigit, stepByte, accepts, readElement, listFrom}
 
 -- the byte at a place
 pub record ByteAt (text : List ℕ) (at b : ℕ) : Type 0 where
@@ -83,6 +83,7 @@ abbrev pub Heads : List ℕ → State → ℕ → Head → Type 0
 Heads text s a (HeadIs v c k) = HeadRead text s a v c (k .at)
 Heads text s a (NoHead p) = Dead text s a p
 
+-- the element that a number is
 abbrev pub literal : Bool → ℕ → ℤ
 literal negative x = cond negative (negℤ (pos x)) (pos x)
 
@@ -105,6 +106,7 @@ Elemental text h k s a (ElementIs negative x c) = ElementRead text h k s a negat
 Elemental text h k s a (NoElement p) = Dead text s a p
 
 -- the whole list from state s at place a on, written from the first place of the buffer on; it ends after the header's last clause
+-- the whole list from place a on is read, and written from the first place of the buffer on
 pub record ListRead (text : List ℕ) (h : Header) (a : ℕ) (before after : List ℤ) (n : ℕ) : Type 0 where
   pub accepted : refusedFrom stepByte accepts (clause h 0 false) (drop a text) a ≡ none
   pub wrote : Wrote before 0 (listFrom (clause h 0 false) (drop a text)) after n

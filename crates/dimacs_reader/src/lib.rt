@@ -118,6 +118,7 @@ fn behind(n: usize) -> usize
     32
 }
 
+// The clauses that are closed after an element.
 fn closed_after(k: usize, number: usize) -> usize
     requires { ⌜ k < 18446744073709551615 ⌝ }
     ensures { λ r. ⌜ r ≡ closedAfter k number ⌝ }
@@ -271,7 +272,7 @@ impl Cursor {
         }
     }
 
-    // An element of a clause that may begin or go on here.
+    // An element, where a clause may begin or go on.
     fn element(self, text: &[u8], variables: usize) -> Element
         requires { ⌜ self .at < length (now text) ⌝ }
         ensures { λ r. ⌜ ((h : Header) (k : ℕ) (begun : Bool) → h .variables ≡ variables → (k ≡ h .clauses → ⊥) → Elemental (now (text .entry)) h k (clause h k begun) (self .at) r) ⌝ }
@@ -288,7 +289,7 @@ impl Cursor {
     }
 }
 
-// The list after the header. With a buffer that is too short it only counts.
+// The list after the header. Elements beyond the end of the buffer are counted and left out.
 fn read_list(text: &[u8], from: usize, variables: usize, clauses: usize, out: &mut [i32]) -> Listed
     requires { ⌜ variables ≤ mostVariables ⌝ }
     ensures { λ r. ⌜ Lists (now (text .entry)) (headerWith variables clauses) from (now (out .entry)) (now (out .exit)) r ⌝ }
@@ -323,7 +324,7 @@ fn read_list(text: &[u8], from: usize, variables: usize, clauses: usize, out: &m
     Listed::Elements(n)
 }
 
-// What is left once the header is read.
+// What comes after the header. The text is gone through first with a buffer of its own: nothing is written before all refusals are settled.
 fn read_body(
     text: &[u8],
     from: usize,

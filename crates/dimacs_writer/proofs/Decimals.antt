@@ -1,5 +1,5 @@
 -- Laws of decimal digits. Assumes nothing.
-use Prim.Native.Nat.{ℕ, zero, suc, _+_, _*_, _/_, _%_, _≤_, _<_, _^_}
+use Prim.Native.Nat.{ℕ, zero, suc, _+_, _/_, _%_, _≤_, _<_, _^_}
 use native.Mathlib.Omega.{arith}
 use native.Mathlib.Nat.{pow-suc, pow-succ', div-one, div-div-eq-div-mul}
 use borrow.Author.Tests.{lt-ltb, le-ltb, ltb-true, ltb-false}

@@ -8,9 +8,9 @@ use lib.ListN.{length, length-append}
 use mathlib.Core.Path.{_≡_, refl, sym, _∙_, ap}
 use mathlib.Core.Bool.{Bool, true, false, cond}
 use mathlib.Core.Option.{none, some}
-use mathlib.Core.List.{List, _++_}
+use mathlib.Core.List.{List}
 use Rattle.answers.specs.declared.Told.{Told}
-use Rattle.answers.specs.Told.{answer, refusal, Row, cause}
+use Rattle.answers.specs.Told.{answer, refusal, cause}
 use Rattle.answers.specs.Lent.{Wrote, filled, leaves}
 use Rattle.answers.proofs.Lent.{wrote-after, wrote-recast, wrote-filled}
 use Rattle.answers.proofs.Rows.{Tells, turns, passes, answers}

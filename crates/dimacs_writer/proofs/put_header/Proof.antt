@@ -1,6 +1,6 @@
 -- `dimacs_writer::put_header` meets its contract. Assumes nothing.
 use native.Mathlib.Omega.{arith}
-use lib.ListN.{length, length-append}
+use lib.ListN.{length-append}
 use mathlib.Core.List.{[], _∷_}
 use Rattle.answers.proofs.Lent.{wrote-after, wrote-recast, wrote-length}
 use Rattle.dimacs.specs.Text.{space, decimal}
