@@ -6,8 +6,8 @@
 --   encoderAnswer, encoderLeaves            the encoder, `encode`
 --   decoderAnswer, decoderLeaves            the decoder, `decode`
 --   searchAnswer, trailAfter, marksAfter    the search, `search` (here `told`, `trailLeft`, `marksLeft` of what the call gets)
---   writerAnswer, writerLeaves               dimacs_writer::write
---   readerAnswer, readerLeaves               dimacs_reader::read
+--   writerAnswer, writerLeaves              the text writer, `dimacs_writer::write`
+--   readerAnswer, readerLeaves              the text reader, `dimacs_reader::read`
 use Prim.Native.Nat.{ℕ, _+_, _-_, _≤_, _<_, _^_}
 use lib.IntN.{ℤ}
 use lib.ListN.{length, getD}
