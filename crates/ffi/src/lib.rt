@@ -4,6 +4,8 @@ ghost use mathlib.Core.Path.{_≡_};
 ghost use Rattle.answers.specs.Told.{words};
 ghost use Rattle.rules.specs.Judge.{judgeAnswer};
 ghost use Rattle.dimacs.specs.Calls.{writerAnswer, writerLeaves, readerAnswer, readerLeaves};
+ghost use Rattle.encoder.specs.Decoding.{decoderAnswer, decoderLeaves};
+ghost use Rattle.search.specs.Run.{searchAnswer, trailAfter, marksAfter};
 
 // Is the drawing a solution of the record's grid? Answered: yes, four zeros.
 #[no_mangle]
@@ -40,4 +42,47 @@ pub extern "C" fn yajilin_read(text: &[u8], list: &mut [i32], answer: &mut [u64;
 {
     let reading = dimacs_reader::read(text, list);
     reading.told().write(answer)
+}
+
+// Draws the values of a grid's variables. Answered: the drawing is a solution and stands in `drawing`; four zeros.
+#[no_mangle]
+pub extern "C" fn yajilin_decode(
+    record: &[u8],
+    values: &[u8],
+    drawing: &mut [u8],
+    answer: &mut [u64; 4],
+) -> u64
+    ensures { λ r. ⌜ r ≡ decoderAnswer (now («record» .entry)) (now (values .entry)) (now (drawing .entry)) .number ⌝ }
+    ensures { λ r. ⌜ now (answer .exit) ≡ words (decoderAnswer (now («record» .entry)) (now (values .entry)) (now (drawing .entry))) ⌝ }
+    ensures { λ r. ⌜ now (drawing .exit) ≡ decoderLeaves (now («record» .entry)) (now (values .entry)) (now (drawing .entry)) ⌝ }
+{
+    let decoded = decoder::decode(record, values, drawing);
+    decoded.told().write(answer)
+}
+
+// The search from a trail. Answered: 1 found, 2 none, 3 halted; the steps that this call made; the used count; 0.
+#[no_mangle]
+pub extern "C" fn yajilin_search(
+    variables: u64,
+    list: &[i32],
+    trail: &mut [i32],
+    marks: &mut [u8],
+    used: u64,
+    budget: u64,
+    answer: &mut [u64; 4],
+) -> u64
+    ensures { λ r. ⌜ r ≡ searchAnswer variables (now (list .entry)) (now (trail .entry)) (now (marks .entry)) used budget .number ⌝ }
+    ensures { λ r. ⌜ now (trail .exit) ≡ trailAfter variables (now (list .entry)) (now (trail .entry)) (now (marks .entry)) used budget ⌝ }
+    ensures { λ r. ⌜ now (marks .exit) ≡ marksAfter variables (now (list .entry)) (now (trail .entry)) (now (marks .entry)) used budget ⌝ }
+    ensures { λ r. ⌜ now (answer .exit) ≡ words (searchAnswer variables (now (list .entry)) (now (trail .entry)) (now (marks .entry)) used budget) ⌝ }
+{
+    let found = searcher::search(
+        variables as usize,
+        list,
+        trail,
+        marks,
+        used as usize,
+        budget,
+    );
+    found.told().write(answer)
 }

@@ -153,7 +153,7 @@ fn not_one_loop(g: Grid, record: &[u8], drawing: &[u8]) -> Place
 }
 
 // 7 and 10 to 15, in order.
-fn judge_grid(g: Grid, record: &[u8], drawing: &[u8]) -> Verdict
+pub fn judge_grid(g: Grid, record: &[u8], drawing: &[u8]) -> Verdict
     requires { ⌜ Held g (now «record») ⌝ }
     ensures { λ r. ⌜ toldVerdict r ≡ turnedDown (judgeRows (gridBoard g (now («record» .entry))) (now (drawing .entry))) saysYes ⌝ }
 {

@@ -1,0 +1,164 @@
+-- Turns of the loops that seek a failed clause and a forced literal. Assumes nothing.
+use Prim.Native.Nat.{ℕ, suc, _+_, _-_, _%_, _≤_, _<_}
+use native.Mathlib.Omega.{arith}
+use native.Mathlib.Numerals.{add-one}
+use lib.Dec.{eqb}
+use lib.IntN.{ℤ, pos}
+use lib.ListN.{length, getD, drop, drop-of-length-le}
+use lib.Seq.{drop-cons}
+use mathlib.Core.Path.{_≡_, refl, _∙_, ap}
+use mathlib.Core.Bool.{Bool, true, false, _&&_, _||_, cond}
+use mathlib.Core.Option.{Option, none, some}
+use mathlib.Core.List.{List, [], _∷_}
+use Rattle.answers.specs.declared.Place.the-variants.{At, Nowhere}
+use Rattle.answers.specs.First.{found}
+use Rattle.cnf.specs.Literals.{closes, codeOf, orElse}
+use Rattle.search.specs.Trail.{True, False, Unassigned, Values}
+use Rattle.search.specs.Step.{everyLiteral, firstClause, fails, failedAt, failsBut, byValue, forcedAt, failedClause, forcedPlace}
+use Rattle.choices.specs.declared.Clause.{Clause}
+use Rattle.choices.specs.declared.Clause.the-variants.{Fails, Forces, Passed}
+use Rattle.choices.specs.Held.{held}
+use Rattle.choices.specs.Clause.{met, closed}
+use Rattle.choices.proofs.Literals.{Read, code-not, read-value, fails-is}
+
+-- the rest of the list, in a clause that begins at start and whose literals so far are all false exactly if bad
+abbrev failedRest : Values → Bool → ℕ → ℕ → List ℤ → Option ℕ
+failedRest w true start i r = found (everyLiteral (fails w) r) start (firstClause (failedAt w) false i r)
+failedRest w false start i r = firstClause (failedAt w) false i r
+
+pub record Failing (w : Values) (ls : List ℤ) (start i : ℕ) (bad : Bool) : Type 0 where
+  pub seen : i ≤ length ls
+  pub rest : failedRest w bad start i (drop i ls) ≡ failedClause w ls
+
+begin : (w : Values) (i : ℕ) (r : List ℤ) → failedRest w true i i r ≡ firstClause (failedAt w) true i r
+unfolding firstClause everyLiteral
+begin w i [] = refl
+begin w i (l ∷ r) = by (closes l || (fails w l && everyLiteral (fails w) r)) (firstClause (failedAt w) (closes l) (suc i) r)
+  where
+    by : (b : Bool) (o : Option ℕ) → found b i o ≡ orElse (found b i none) o
+    by true o = refl
+    by false o = refl
+
+pub fail-start : {w : Values} {ls : List ℤ} → Failing w ls 0 0 true
+unfolding failedClause
+fail-start {w} {ls} = record { seen = omega arith; rest = begin w 0 ls }
+
+module _ {w : Values} {ls : List ℤ} {start i : ℕ} {bad : Bool} (f : Failing w ls start i bad) where
+  pub fail-none : length ls ≤ i → none ≡ failedClause w ls
+  unfolding firstClause everyLiteral
+  fail-none h = by bad (rw (drop-of-length-le ls h) at (f .rest))
+    where
+      by : (b : Bool) → failedRest w b start i [] ≡ failedClause w ls → none ≡ failedClause w ls
+      by true e = e
+      by false e = e
+
+  module _ (h : i < length ls) where
+    here : failedRest w bad start i (getD ls i (pos 0) ∷ drop (suc i) ls) ≡ failedClause w ls
+    here = rw (drop-cons ls i (pos 0) h) at (f .rest)
+
+    pub fail-found : closes (getD ls i (pos 0)) ≡ true → bad ≡ true → some start ≡ failedClause w ls
+    unfolding everyLiteral
+    fail-found z b = rw (b, z, everyLiteral) at here
+
+    pub fail-next : closes (getD ls i (pos 0)) ≡ true → bad ≡ false → Failing w ls (i + 1) (i + 1) true
+    unfolding firstClause
+    fail-next z b = record { seen = omega arith; rest = rw add-one (begin w (suc i) (drop (suc i) ls) ∙ (rw (b, z, firstClause) at here)) }
+
+    pub fail-false : closes (getD ls i (pos 0)) ≡ false → fails w (getD ls i (pos 0)) ≡ true → Failing w ls start (i + 1) bad
+    unfolding firstClause everyLiteral
+    fail-false z k = record { seen = omega arith; rest = rw add-one (by bad here) }
+      where
+        by : (b : Bool) → failedRest w b start i (getD ls i (pos 0) ∷ drop (suc i) ls) ≡ failedClause w ls → failedRest w b start (suc i) (drop (suc i) ls) ≡ failedClause w ls
+        by true e = rw (z, k) at e
+        by false e = rw z at e
+
+    pub fail-other : closes (getD ls i (pos 0)) ≡ false → fails w (getD ls i (pos 0)) ≡ false → Failing w ls start (i + 1) false
+    unfolding firstClause everyLiteral
+    fail-other z k = record { seen = omega arith; rest = rw add-one (by bad here) }
+      where
+        by : (b : Bool) → failedRest w b start i (getD ls i (pos 0) ∷ drop (suc i) ls) ≡ failedClause w ls → failedRest w false start (suc i) (drop (suc i) ls) ≡ failedClause w ls
+        by true e = rw (z, k) at e
+        by false e = rw z at e
+
+-- the rest of the list, after a part of a clause
+abbrev forcedRest : Values → Clause → ℕ → List ℤ → Option ℕ
+forcedRest w Fails i r = orElse (forcedAt w i r) (firstClause (forcedAt w) false i r)
+forcedRest w (Forces c p) i r = orElse (found (everyLiteral (λ l. eqb (codeOf l) c || fails w l) r) p none) (firstClause (forcedAt w) false i r)
+forcedRest w Passed i r = firstClause (forcedAt w) false i r
+
+pub record Forcing (w : Values) (ls : List ℤ) (i : ℕ) (c : Clause) : Type 0 where
+  pub seen : i ≤ length ls
+  pub rest : forcedRest w c i (drop i ls) ≡ forcedPlace w ls
+
+fresh : (w : Values) (i : ℕ) (r : List ℤ) → forcedRest w Fails i r ≡ firstClause (forcedAt w) true i r
+unfolding firstClause forcedAt
+fresh w i [] = refl
+fresh w i (l ∷ r) = refl
+
+pub force-start : {w : Values} {ls : List ℤ} → Forcing w ls 0 Fails
+unfolding forcedPlace
+force-start {w} {ls} = record { seen = omega arith; rest = fresh w 0 ls }
+
+module _ {w : Values} {ls : List ℤ} {i : ℕ} {c : Clause} (f : Forcing w ls i c) where
+  pub force-none : length ls ≤ i → none ≡ forcedPlace w ls
+  unfolding firstClause everyLiteral forcedAt
+  force-none h = by c (rw (drop-of-length-le ls h) at (f .rest))
+    where
+      by : (c : Clause) → forcedRest w c i [] ≡ forcedPlace w ls → none ≡ forcedPlace w ls
+      by Fails e = e
+      by (Forces k p) e = e
+      by Passed e = e
+
+  module _ (h : i < length ls) where
+    here-forced : forcedRest w c i (getD ls i (pos 0) ∷ drop (suc i) ls) ≡ forcedPlace w ls
+    here-forced = rw (drop-cons ls i (pos 0) h) at (f .rest)
+
+    pub force-found : closes (getD ls i (pos 0)) ≡ true → {p : ℕ} → closed c ≡ At p → some p ≡ forcedPlace w ls
+    unfolding everyLiteral
+    force-found z {p} e = by c e here-forced
+      where
+        by : (c : Clause) → closed c ≡ At p → forcedRest w c i (getD ls i (pos 0) ∷ drop (suc i) ls) ≡ forcedPlace w ls → some p ≡ forcedPlace w ls
+        by Fails e r = let z : _≡_ {A = ℕ} 0 1 = cc in absurd (omega arith)
+        by (Forces k q) e r = let s : p ≡ q = cc in rw s (rw (z, everyLiteral) at r)
+        by Passed e r = let z : _≡_ {A = ℕ} 0 1 = cc in absurd (omega arith)
+
+    pub force-next : closes (getD ls i (pos 0)) ≡ true → closed c ≡ Nowhere → Forcing w ls (i + 1) Fails
+    unfolding firstClause everyLiteral forcedAt
+    force-next z e = record { seen = omega arith; rest = rw add-one (fresh w (suc i) (drop (suc i) ls) ∙ by c e here-forced) }
+      where
+        by : (c : Clause) → closed c ≡ Nowhere → forcedRest w c i (getD ls i (pos 0) ∷ drop (suc i) ls) ≡ forcedPlace w ls → firstClause (forcedAt w) true (suc i) (drop (suc i) ls) ≡ forcedPlace w ls
+        by Fails e r = rw z at r
+        by (Forces k p) e r = let z : _≡_ {A = ℕ} 0 1 = cc in absurd (omega arith)
+        by Passed e r = rw z at r
+
+-- a literal more: what it is to the clause is what its value says
+module _ {ms : List ℕ} {ls : List ℤ} {i k n : ℕ} {c : Clause} (f : Forcing (held ms) ls i c) (h : i < length ls) (r : Read ms (getD ls i (pos 0)) k n) where
+  abbrev literal : ℤ
+  literal = getD ls i (pos 0)
+
+  abbrev after : List ℤ
+  after = drop (suc i) ls
+
+  -- all false before it
+  on-fails : (a b : Bool) → orElse (byValue (cond a False (cond b True Unassigned)) (found (everyLiteral (failsBut (held ms) literal) after) i none) (forcedAt (held ms) (suc i) after)) (firstClause (forcedAt (held ms)) false (suc i) after) ≡ forcedPlace (held ms) ls
+      → forcedRest (held ms) (cond a Fails (cond b Passed (Forces k i))) (suc i) after ≡ forcedPlace (held ms) ls
+  on-fails true b e = e
+  on-fails false true e = e
+  on-fails false false e = rw (r .code) e
+
+  -- one unassigned before it, perhaps the same
+  on-forces : (q p : ℕ) (a b : Bool) → orElse (found ((a || b) && everyLiteral (λ l. eqb (codeOf l) q || fails (held ms) l) after) p none) (firstClause (forcedAt (held ms)) false (suc i) after) ≡ forcedPlace (held ms) ls
+      → forcedRest (held ms) (cond a (Forces q p) (cond b (Forces q p) Passed)) (suc i) after ≡ forcedPlace (held ms) ls
+  on-forces q p true b e = e
+  on-forces q p false true e = e
+  on-forces q p false false e = e
+
+  turn : (c : Clause) → forcedRest (held ms) c i (literal ∷ after) ≡ forcedPlace (held ms) ls → forcedRest (held ms) (met c k n i) (suc i) after ≡ forcedPlace (held ms) ls
+  unfolding firstClause everyLiteral forcedAt
+  turn Fails e = on-fails (eqb n (2 - k % 2)) (eqb n (1 + k % 2)) (rw (code-not literal (r .code) (r .some), read-value literal r) at e)
+  turn (Forces q p) e =
+      rw (← fails-is literal r, ap (λ x. eqb x q) (r .code)) (on-forces q p (eqb (codeOf literal) q) (fails (held ms) literal) (rw (code-not literal (r .code) (r .some)) at e))
+  turn Passed e = rw (code-not literal (r .code) (r .some)) at e
+
+  pub force-on : Forcing (held ms) ls (i + 1) (met c k n i)
+  force-on = record { seen = omega arith; rest = rw add-one (turn c (here-forced f h)) }

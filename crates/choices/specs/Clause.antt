@@ -1,0 +1,19 @@
+-- What the clause at hand may force, after each of its literals. A literal comes by its code k, the number n of its variable's value, and its place i.
+use Prim.Native.Nat.{ℕ, _+_, _-_, _%_}
+use lib.Dec.{eqb}
+use mathlib.Core.Bool.{cond}
+use Rattle.answers.specs.declared.Place.{Place}
+use Rattle.answers.specs.declared.Place.the-variants.{At, Nowhere}
+use Rattle.choices.specs.declared.Clause.{Clause}
+use Rattle.choices.specs.declared.Clause.the-variants.{Fails, Forces, Passed}
+
+abbrev pub met : Clause → ℕ → ℕ → ℕ → Clause
+met Fails k n i = cond (eqb n (2 - k % 2)) Fails (cond (eqb n (1 + k % 2)) Passed (Forces k i))
+met (Forces c p) k n i = cond (eqb k c) (Forces c p) (cond (eqb n (2 - k % 2)) (Forces c p) Passed)
+met Passed k n i = Passed
+
+-- the place of the literal that the clause forces, once it is closed
+abbrev pub closed : Clause → Place
+closed Fails = Nowhere
+closed (Forces c p) = At p
+closed Passed = Nowhere

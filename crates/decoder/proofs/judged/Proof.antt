@@ -1,0 +1,96 @@
+-- `decoder::judged` meets its contract. Assumes nothing.
+use native.Mathlib.Omega.{arith}
+use Prim.Native.Nat.{ℕ}
+use lib.ListN.{length, take, length-map}
+use mathlib.Core.Path.{_≡_, refl, sym, _∙_, ap}
+use mathlib.Core.List.{List}
+use Rattle.answers.specs.Told.{Row, turnedDown}
+use Rattle.rules.specs.Record.{size}
+use Rattle.rules.specs.Board.{gridBoard}
+use Rattle.rules.specs.Judge.{judgeRows, saysYes, toldVerdict}
+use Rattle.encoder.specs.Lists.{upTo}
+use Rattle.encoder.specs.Decoding.{decoded}
+use Rattle.encoder.proofs.Lists.{length-from}
+use Rattle.decoder.specs.declared.Undrawn.the-variants.{Judged}
+use Rattle.decoder.specs.Answer.{byteAt}
+use Rattle.decoder.proofs.Answers.{ends-refused, ends-yes, front, copied}
+use borrow.Author.Needs.{needs}
+use Rattle.decoder.proofs.judged.Statement.{statement}
+use Rattle.decoder.proofs.judged.Tie as tie
+
+-- what the values give
+abbrev picture : tie.Start → List ℕ
+picture c = decoded (gridBoard (c .args .g) (c .args .«record» .now)) (c .args .values .now)
+
+abbrev rows : tie.Start → List Row
+rows c = judgeRows (gridBoard (c .args .g) (c .args .«record» .now)) (picture c)
+
+long : (c : tie.Start) → length (picture c) ≡ size (c .args .g)
+long c = length-map (upTo (size (c .args .g))) (byteAt (gridBoard (c .args .g) (c .args .«record» .now)) (c .args .values .now)) ∙ length-from 0 (size (c .args .g))
+
+drawn : (c : tie.After-size) → take (c .size .result) (c .before .before .draw .last .1 .1 .1 .1 .1 .1 .0) ≡ picture (c .before .before .before .before .before .before .before .before .before)
+drawn c = front (byteAt (gridBoard (c .before .before .before .before .before .before .before .before .before .args .g) (c .before .before .before .before .before .before .before .before .before .args .«record» .now)) (c .before .before .before .before .before .before .before .before .before .args .values .now)) (size (c .before .before .before .before .before .before .before .before .before .args .g)) _ (c .size .ensures) (c .before .before .draw .ensures)
+
+told : (c : tie.After-judge-grid) → toldVerdict (c .judge-grid .result) ≡ turnedDown (rows (c .before .before .before .before .before .before .before .before .before .before .before)) saysYes
+told c = c .judge-grid .ensures ∙ ap (λ ds. turnedDown (judgeRows (gridBoard (c .before .before .before .before .before .before .before .before .before .before .before .args .g) (c .before .before .before .before .before .before .before .before .before .before .before .args .«record» .now)) ds) saysYes) (drawn (c .before .before))
+
+slice-aggregate-draw : tie.Need-slice-aggregate-draw
+slice-aggregate-draw c = search needs
+
+draw-requires : tie.Need-draw-requires
+draw-requires c κs = search needs
+
+size-requires : tie.Need-size-requires
+size-requires c κs = search needs
+
+array-share-prefix-own : tie.Need-array-share-prefix-own
+array-share-prefix-own c = search needs
+
+slice-aggregate-judge-grid : tie.Need-slice-aggregate-judge-grid
+slice-aggregate-judge-grid c = c .before .size .ensures ∙ sym (ap length (drawn (c .before)) ∙ long (c .before .before .before .before .before .before .before .before .before .before))
+
+judge-grid-requires : tie.Need-judge-grid-requires
+judge-grid-requires c κs = search needs
+
+enum-known-verdict : tie.Need-enum-known-verdict
+enum-known-verdict c = search needs
+
+enum-told : tie.Need-enum-told
+enum-told c = search needs
+
+array-share-prefix-own-2 : tie.Need-array-share-prefix-own-2
+array-share-prefix-own-2 c = search needs
+
+slice-aggregate-copy : tie.Need-slice-aggregate-copy
+slice-aggregate-copy c = c .before .before .before .before .before .size .ensures ∙ sym (ap length (drawn (c .before .before .before .before .before)) ∙ long (c .before .before .before .before .before .before .before .before .before .before .before .before .before .before))
+
+copy-requires : tie.Need-copy-requires
+copy-requires c κs = omega (arith, ap length (drawn (c .before .before .before .before .before .before)) ∙ long (c .before .before .before .before .before .before .before .before .before .before .before .before .before .before .before), c .before .before .before .before .before .before .before .before .before .before .before .before .before .before .before .pre .1)
+
+same-length : tie.Need-same-length
+same-length c = search needs
+
+returns : tie.Need-returns
+returns c = ends-yes (rows (c .before .before .before .before .before .before .before .before .before .before .before .before .before .before .before .before .before .before)) (c .before .before .before .before .before .before .before .before .before .before .before .before .before .before .before .before .before .before .args .drawing .now) (picture (c .before .before .before .before .before .before .before .before .before .before .before .before .before .before .before .before .before .before)) (sym (ap toldVerdict (c .before .before .before .before .before .enum-told .given .1)) ∙ told (c .before .before .before .before .before .before .before)) (c .before .before .copy .ensures .1 ∙ copied (take (c .before .before .before .before .before .before .before .before .before .size .result) (c .before .before .before .before .before .before .before .before .before .before .before .draw .last .1 .1 .1 .1 .1 .1 .0)) (c .before .before .before .before .before .before .before .before .before .before .before .before .before .before .before .before .before .before .args .drawing .now) (c .before .before .before .before .before .before .before .before .before .before .before .before .before .before .before .before .before .before .pre .1 ∙ sym (ap length (drawn (c .before .before .before .before .before .before .before .before .before)) ∙ long (c .before .before .before .before .before .before .before .before .before .before .before .before .before .before .before .before .before .before))) ∙ drawn (c .before .before .before .before .before .before .before .before .before))
+
+returns-2 : tie.Need-returns-2
+returns-2 c = ends-refused (rows (c .before .before .before .before .before .before .before .before .before .before .before .before .before .before)) (c .before .before .before .before .before .before .before .before .before .before .before .before .before .before .args .drawing .now) (picture (c .before .before .before .before .before .before .before .before .before .before .before .before .before .before)) (Judged (c .before .verdict .given .0 .0)) refl (sym (ap toldVerdict (c .before .verdict .given .1)) ∙ told (c .before .before .before))
+
+pub judged-spec : {M : Type 1} → statement M
+judged-spec =
+    tie.close
+    (tie.spec
+    slice-aggregate-draw
+    draw-requires
+    size-requires
+    array-share-prefix-own
+    slice-aggregate-judge-grid
+    judge-grid-requires
+    enum-known-verdict
+    enum-told
+    array-share-prefix-own-2
+    slice-aggregate-copy
+    copy-requires
+    same-length
+    returns
+    returns-2)

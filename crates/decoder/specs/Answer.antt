@@ -1,0 +1,65 @@
+-- What the decoder's answer tells, its rows of "Turned down" after the record reader's, and what its functions ask.
+use Prim.Native.Nat.{ℕ}
+use lib.Dec.{eqb}
+use lib.ListN.{length}
+use mathlib.Core.Path.{_≡_}
+use mathlib.Core.Bool.{not}
+use mathlib.Core.List.{List, [], _∷_, _++_}
+use Rattle.answers.specs.declared.Told.{Told}
+use Rattle.answers.specs.Told.{refusal, Row, row, cause}
+use Rattle.rules.specs.declared.Grid.{Grid}
+use Rattle.rules.specs.declared.Parsed.{Parsed}
+use Rattle.rules.specs.declared.Parsed.the-variants.{Accepted, Refused as NotRead}
+use Rattle.rules.specs.Record.{size, toldRefusal}
+use Rattle.rules.specs.Board.{Board, gridBoard}
+use Rattle.rules.specs.Judge.{judgeRows, saysYes, toldFault}
+use Rattle.encoder.specs.Variables.{Z, variableCount}
+use Rattle.encoder.specs.Decoding.{valueOf, drawnLink, drawnByte, decoded, wrongValue}
+use Rattle.encoder.proofs.Places.{rank}
+use Rattle.numbering.specs.Tables.{Table, WaysHeld}
+use Rattle.decoder.specs.declared.Undrawn.{Undrawn}
+use Rattle.decoder.specs.declared.Undrawn.the-variants.{Record, ValuesLength, DrawingLength, Value, Judged}
+use Rattle.decoder.specs.declared.Decoded.{Decoded}
+use Rattle.decoder.specs.declared.Decoded.the-variants.{Drawn, Refused}
+
+abbrev pub toldUndrawn : Undrawn → Told
+toldUndrawn (Record r) = toldRefusal r
+toldUndrawn ValuesLength = refusal 8 0
+toldUndrawn DrawingLength = refusal 7 0
+toldUndrawn (Value n) = refusal 9 n
+toldUndrawn (Judged f) = toldFault f
+
+abbrev pub toldDecoded : Decoded → Told
+toldDecoded Drawn = saysYes
+toldDecoded (Refused u) = toldUndrawn u
+
+-- a refusal of the record reader is passed up unchanged (an accepted record has none to pass up)
+abbrev pub passedUp : Parsed → Decoded
+passedUp (Accepted g) = Drawn
+passedUp (NotRead r) = Refused (Record r)
+
+-- 8, 7 and 9, with V, N and the length of the lent drawing
+abbrev pub valueRows : ℕ → ℕ → List ℕ → ℕ → List Row
+valueRows v n values lent =
+    row 8 (cause (not (eqb (length values) v))) ∷
+    row 7 (cause (not (eqb lent n))) ∷
+    row 9 (wrongValue values) ∷
+    []
+
+-- the rows after the record reader's, over the grid that was read
+abbrev pub gridRows : Grid → List ℕ → List ℕ → List ℕ → List Row
+gridRows g s values lent = valueRows (variableCount (gridBoard g s)) (size g) values (length lent) ++ judgeRows (gridBoard g s) (decoded (gridBoard g s) values)
+
+-- the byte of a cell in the drawing that values give
+abbrev pub byteAt : Board → List ℕ → ℕ → ℕ
+byteAt b values x = drawnByte (b .isOpen x) (valueOf b values (Z x)) (drawnLink b (valueOf b values) x)
+
+-- what the functions ask that look at values: as many as there are variables, with F and the table of first E variables,
+pub record Valued (g : Grid) (s values : List ℕ) (f : ℕ) (firsts : List ℕ) : Type 0 where
+  pub ways : WaysHeld g s f firsts
+  pub long : length values ≡ variableCount (gridBoard g s)
+
+-- and with the table of ranks
+pub record Numbered (g : Grid) (s values : List ℕ) (f : ℕ) (ranks firsts : List ℕ) : Type 0 where
+  pub valued : Valued g s values f firsts
+  pub ranked : Table (rank (gridBoard g s)) (size g) ranks

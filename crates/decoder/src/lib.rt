@@ -1,0 +1,142 @@
+// The decoder: document 01's "Decoding". Values of the variables are drawn, and the drawing is handed out exactly if the judge says yes.
+ghost use mathlib.Core.Path.{_≡_};
+ghost use lib.ListN.{length, getD};
+ghost use lib.Dec.{ltb};
+ghost use Rattle.answers.specs.First.{firstWhere, placed};
+ghost use Rattle.answers.specs.Told.{turnedDown};
+ghost use Rattle.answers.specs.Lent.{leaves};
+ghost use Rattle.rules.specs.Record.{size, Held};
+ghost use Rattle.rules.specs.Board.{gridBoard};
+ghost use Rattle.rules.specs.Judge.{judgeRows, saysYes};
+ghost use Rattle.encoder.specs.Decoding.{decoded, decoderAnswer, decoderLeaves};
+ghost use Rattle.decoder.specs.Answer.{valueRows, gridRows, Numbered, passedUp, toldDecoded};
+use answers::Place;
+use judge::judge_grid;
+use numbering::fill_ranks;
+use numbering::fill_ways;
+use numbering::variable_count;
+use rules::Fault;
+use rules::Grid;
+use rules::Parsed;
+use rules::Refusal;
+use rules::Verdict;
+use rules::record::read;
+
+pub mod told; // what the answers tell
+mod draw; // from values to bytes
+
+// Why values are turned down: the record's refusal, else 8, 7 and 9 of document 01's table, else the judge's.
+pub enum Undrawn {
+    Record(Refusal),
+    ValuesLength,
+    DrawingLength,
+    // The number of the first variable whose value is not 0 or 1.
+    Value(usize),
+    Judged(Fault),
+}
+
+pub enum Decoded {
+    Drawn,
+    Refused(Undrawn),
+}
+
+// The most cells that a grid has.
+const MOST_CELLS: usize = 576;
+
+// 9: the first value that is not 0 or 1.
+fn wrong_value(values: &[u8]) -> Place
+    ensures { λ r. ⌜ placed r ≡ firstWhere (λ i. ltb 1 (getD (now (values .entry)) i 0)) (length (now (values .entry))) ⌝ }
+{
+    let mut i = 0;
+    while i < values.len() {
+        if values[i] > 1 {
+            return Place::At(i);
+        }
+        i += 1;
+    }
+    Place::Nowhere
+}
+
+// 8, 7 and 9, in order, with V, N and the length of the lent drawing.
+fn check(values: &[u8], v: usize, n: usize, lent: usize) -> Decoded
+    ensures { λ r. ⌜ toldDecoded r ≡ turnedDown (valueRows v n (now (values .entry)) lent) saysYes ⌝ }
+{
+    if values.len() != v {
+        return Decoded::Refused(Undrawn::ValuesLength);
+    }
+    if lent != n {
+        return Decoded::Refused(Undrawn::DrawingLength);
+    }
+    let p = wrong_value(values);
+    let Place::At(i) = p else {
+        return Decoded::Drawn;
+    };
+    Decoded::Refused(Undrawn::Value(i + 1))
+}
+
+// Draws into an array of its own, and hands the drawing out if the judge says yes.
+fn judged(
+    g: Grid,
+    record: &[u8],
+    values: &[u8],
+    open: usize,
+    ranks: &[usize],
+    firsts: &[usize],
+    drawing: &mut [u8],
+) -> Decoded
+    requires { ⌜ Numbered g (now «record») (now values) «open» (now ranks) (now firsts) ⌝ }
+    requires { ⌜ length (now drawing) ≡ size g ⌝ }
+    ensures { λ r. ⌜ toldDecoded r ≡ turnedDown (judgeRows (gridBoard g (now («record» .entry))) (decoded (gridBoard g (now («record» .entry))) (now (values .entry)))) saysYes ⌝ }
+    ensures { λ r. ⌜ now (drawing .exit) ≡ leaves (turnedDown (judgeRows (gridBoard g (now («record» .entry))) (decoded (gridBoard g (now («record» .entry))) (now (values .entry)))) saysYes) (now (drawing .entry)) (decoded (gridBoard g (now («record» .entry))) (now (values .entry))) ⌝ }
+{
+    let mut own = [0u8; MOST_CELLS];
+    draw::draw(g, record, values, open, ranks, firsts, &mut own);
+    let n = g.size();
+    let verdict = judge_grid(g, record, &own[..n]);
+    let Verdict::No(f) = verdict else {
+        bytes::copy(&own[..n], drawing);
+        return Decoded::Drawn;
+    };
+    Decoded::Refused(Undrawn::Judged(f))
+}
+
+// 8, 7, 9 and 10 to 15, in order.
+fn decode_grid(g: Grid, record: &[u8], values: &[u8], drawing: &mut [u8]) -> Decoded
+    requires { ⌜ Held g (now «record») ⌝ }
+    ensures { λ r. ⌜ toldDecoded r ≡ turnedDown (gridRows g (now («record» .entry)) (now (values .entry)) (now (drawing .entry))) saysYes ⌝ }
+    ensures { λ r. ⌜ now (drawing .exit) ≡ leaves (turnedDown (gridRows g (now («record» .entry)) (now (values .entry)) (now (drawing .entry))) saysYes) (now (drawing .entry)) (decoded (gridBoard g (now («record» .entry))) (now (values .entry))) ⌝ }
+{
+    let mut ranks = [0usize; MOST_CELLS];
+    let mut firsts = [0usize; MOST_CELLS];
+    let open = fill_ranks(g, record, &mut ranks);
+    let links = fill_ways(g, record, &mut firsts);
+    let v = variable_count(g, record, open, links);
+    let n = g.size();
+    let checked = check(values, v, n, drawing.len());
+    let Decoded::Drawn = checked else {
+        return checked;
+    };
+    judged(g, record, values, open, &ranks, &firsts, drawing)
+}
+
+// A refusal of the record reader, passed up unchanged.
+fn passed_up(p: Parsed) -> Decoded
+    ensures { λ r. ⌜ r ≡ passedUp p ⌝ }
+{
+    let Parsed::Refused(r) = p else {
+        return Decoded::Drawn;
+    };
+    Decoded::Refused(Undrawn::Record(r))
+}
+
+// Draws the values, or names the first cause against it.
+pub fn decode(record: &[u8], values: &[u8], drawing: &mut [u8]) -> Decoded
+    ensures { λ r. ⌜ toldDecoded r ≡ decoderAnswer (now («record» .entry)) (now (values .entry)) (now (drawing .entry)) ⌝ }
+    ensures { λ r. ⌜ now (drawing .exit) ≡ decoderLeaves (now («record» .entry)) (now (values .entry)) (now (drawing .entry)) ⌝ }
+{
+    let p = read(record);
+    let Parsed::Accepted(g) = p else {
+        return passed_up(p);
+    };
+    decode_grid(g, record, values, drawing)
+}

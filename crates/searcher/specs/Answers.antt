@@ -1,0 +1,24 @@
+-- What the answers of the search tell, in document 01's numbers.
+use Prim.Native.Nat.{ℕ}
+use Rattle.answers.specs.declared.Told.{Told}
+use Rattle.answers.specs.Told.{refusal, answer}
+use Rattle.searcher.specs.declared.Answer.{Answer}
+use Rattle.searcher.specs.declared.Answer.the-variants.{Found, None, Halted, Lengths, List, Entry}
+
+-- found 1, none 2, halted 3, with the steps that this call made and the used count; refusals 17, 16, 18
+abbrev pub toldAnswer : Answer → Told
+toldAnswer (Found c) = answer 1 (c .steps) (c .used)
+toldAnswer (None c) = answer 2 (c .steps) (c .used)
+toldAnswer (Halted c) = answer 3 (c .steps) (c .used)
+toldAnswer Lengths = refusal 17 0
+toldAnswer (List i) = refusal 16 i
+toldAnswer (Entry i) = refusal 18 i
+
+-- the used count of an answer; a refusal has none
+abbrev pub usedOf : Answer → ℕ
+usedOf (Found c) = c .used
+usedOf (None c) = c .used
+usedOf (Halted c) = c .used
+usedOf Lengths = 0
+usedOf (List i) = 0
+usedOf (Entry i) = 0
