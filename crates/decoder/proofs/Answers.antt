@@ -56,8 +56,8 @@ module _ (rows : List Row) (lent drawn : List ℕ) where
   pub ends-refused : (u : Undrawn) {t : Told} → t ≡ toldUndrawn u → t ≡ turnedDown rows saysYes → Ends t lent
   ends-refused u q e = (e, sym (ap (λ z. cond z drawn lent) (ne-eqb _ 0 (λ z. undrawn-number u (ap (λ (t : Told). t .number) (sym q ∙ e) ∙ z)))))
 
-  pub ends-yes : {after : List ℕ} → saysYes ≡ turnedDown rows saysYes → after ≡ drawn → Ends saysYes after
-  ends-yes e h = (e, h ∙ ap (λ t. leaves t lent drawn) e)
+  pub ends-yes : {t : Told} {after : List ℕ} → t ≡ saysYes → t ≡ turnedDown rows saysYes → after ≡ drawn → Ends t after
+  ends-yes q e h = (e, h ∙ ap (λ t. leaves t lent drawn) (sym q ∙ e))
 
 -- refused by the first rows, refused by all
 pub refused-first : (rs qs : List Row) (u : Undrawn) {t : Told} → t ≡ toldUndrawn u → t ≡ turnedDown rs saysYes → t ≡ turnedDown (rs ++ qs) saysYes

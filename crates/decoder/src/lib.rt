@@ -7,7 +7,7 @@ ghost use Rattle.answers.specs.Told.{turnedDown};
 ghost use Rattle.answers.specs.Lent.{leaves};
 ghost use Rattle.rules.specs.Record.{size, Held};
 ghost use Rattle.rules.specs.Board.{gridBoard};
-ghost use Rattle.rules.specs.Judge.{judgeRows, saysYes};
+ghost use Rattle.rules.specs.Judge.{judgeRows, saysYes, toldVerdict};
 ghost use Rattle.encoder.specs.Decoding.{decoded, decoderAnswer, decoderLeaves};
 ghost use Rattle.decoder.specs.Answer.{valueRows, gridRows, Numbered, passedUp, toldDecoded};
 use answers::Place;
@@ -74,6 +74,16 @@ fn check(values: &[u8], v: usize, n: usize, lent: usize) -> Decoded
     Decoded::Refused(Undrawn::Value(i + 1))
 }
 
+// What the judge's verdict makes of the call.
+fn answer(verdict: Verdict) -> Decoded
+    ensures { λ r. ⌜ toldDecoded r ≡ toldVerdict verdict ⌝ }
+{
+    let Verdict::No(f) = verdict else {
+        return Decoded::Drawn;
+    };
+    Decoded::Refused(Undrawn::Judged(f))
+}
+
 // Draws into an array of its own, and hands the drawing out if the judge says yes.
 fn judged(
     g: Grid,
@@ -93,11 +103,12 @@ fn judged(
     draw::draw(g, record, values, open, ranks, firsts, &mut own);
     let n = g.size();
     let verdict = judge_grid(g, record, &own[..n]);
-    let Verdict::No(f) = verdict else {
-        bytes::copy(&own[..n], drawing);
-        return Decoded::Drawn;
+    let answered = answer(verdict);
+    let Decoded::Drawn = answered else {
+        return answered;
     };
-    Decoded::Refused(Undrawn::Judged(f))
+    bytes::copy(&own[..n], drawing);
+    answered
 }
 
 // 8, 7, 9 and 10 to 15, in order.

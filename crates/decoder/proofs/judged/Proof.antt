@@ -2,17 +2,16 @@
 use native.Mathlib.Omega.{arith}
 use Prim.Native.Nat.{ℕ}
 use lib.ListN.{length, take, length-map}
-use mathlib.Core.Path.{_≡_, refl, sym, _∙_, ap}
+use mathlib.Core.Path.{_≡_, sym, _∙_, ap}
 use mathlib.Core.List.{List}
 use Rattle.answers.specs.Told.{Row, turnedDown}
 use Rattle.rules.specs.Record.{size}
 use Rattle.rules.specs.Board.{gridBoard}
-use Rattle.rules.specs.Judge.{judgeRows, saysYes, toldVerdict}
+use Rattle.rules.specs.Judge.{judgeRows, saysYes}
 use Rattle.encoder.specs.Lists.{upTo}
 use Rattle.encoder.specs.Decoding.{decoded}
 use Rattle.encoder.proofs.Lists.{length-from}
-use Rattle.decoder.specs.declared.Undrawn.the-variants.{Judged}
-use Rattle.decoder.specs.Answer.{byteAt}
+use Rattle.decoder.specs.Answer.{toldDecoded, byteAt}
 use Rattle.decoder.proofs.Answers.{ends-refused, ends-yes, front, copied}
 use borrow.Author.Needs.{needs}
 use Rattle.decoder.proofs.judged.Statement.{statement}
@@ -31,8 +30,8 @@ long c = length-map (upTo (size (c .args .g))) (byteAt (gridBoard (c .args .g) (
 drawn : (c : tie.After-size) → take (c .size .result) (c .before .before .draw .last .1 .1 .1 .1 .1 .1 .0) ≡ picture (c .before .before .before .before .before .before .before .before .before)
 drawn c = front (byteAt (gridBoard (c .before .before .before .before .before .before .before .before .before .args .g) (c .before .before .before .before .before .before .before .before .before .args .«record» .now)) (c .before .before .before .before .before .before .before .before .before .args .values .now)) (size (c .before .before .before .before .before .before .before .before .before .args .g)) _ (c .size .ensures) (c .before .before .draw .ensures)
 
-told : (c : tie.After-judge-grid) → toldVerdict (c .judge-grid .result) ≡ turnedDown (rows (c .before .before .before .before .before .before .before .before .before .before .before)) saysYes
-told c = c .judge-grid .ensures ∙ ap (λ ds. turnedDown (judgeRows (gridBoard (c .before .before .before .before .before .before .before .before .before .before .before .args .g) (c .before .before .before .before .before .before .before .before .before .before .before .args .«record» .now)) ds) saysYes) (drawn (c .before .before))
+told : (c : tie.After-answer) → toldDecoded (c .answer .result) ≡ turnedDown (rows (c .before .before .before .before .before .before .before .before .before .before .before .before)) saysYes
+told c = c .answer .ensures ∙ c .before .judge-grid .ensures ∙ ap (λ ds. turnedDown (judgeRows (gridBoard (c .before .before .before .before .before .before .before .before .before .before .before .before .args .g) (c .before .before .before .before .before .before .before .before .before .before .before .before .args .«record» .now)) ds) saysYes) (drawn (c .before .before .before))
 
 slice-aggregate-draw : tie.Need-slice-aggregate-draw
 slice-aggregate-draw c = search needs
@@ -52,29 +51,32 @@ slice-aggregate-judge-grid c = c .before .size .ensures ∙ sym (ap length (draw
 judge-grid-requires : tie.Need-judge-grid-requires
 judge-grid-requires c κs = search needs
 
-enum-known-verdict : tie.Need-enum-known-verdict
-enum-known-verdict c = search needs
+answer-requires : tie.Need-answer-requires
+answer-requires c κs = search needs
 
 enum-told : tie.Need-enum-told
 enum-told c = search needs
+
+enum-told-2 : tie.Need-enum-told-2
+enum-told-2 c = search needs
+
+returns : tie.Need-returns
+returns c = ends-refused (rows (c .before .before .before .before .before .before .before .before .before .before .before .before .before .before)) (c .before .before .before .before .before .before .before .before .before .before .before .before .before .before .args .drawing .now) (picture (c .before .before .before .before .before .before .before .before .before .before .before .before .before .before)) (c .enum-told2 .given .0 .0) (ap toldDecoded (c .enum-told2 .given .1)) (told (c .before .before))
 
 array-share-prefix-own-2 : tie.Need-array-share-prefix-own-2
 array-share-prefix-own-2 c = search needs
 
 slice-aggregate-copy : tie.Need-slice-aggregate-copy
-slice-aggregate-copy c = c .before .before .before .before .before .size .ensures ∙ sym (ap length (drawn (c .before .before .before .before .before)) ∙ long (c .before .before .before .before .before .before .before .before .before .before .before .before .before .before))
+slice-aggregate-copy c = c .before .before .before .before .before .before .size .ensures ∙ sym (ap length (drawn (c .before .before .before .before .before .before)) ∙ long (c .before .before .before .before .before .before .before .before .before .before .before .before .before .before .before))
 
 copy-requires : tie.Need-copy-requires
-copy-requires c κs = omega (arith, ap length (drawn (c .before .before .before .before .before .before)) ∙ long (c .before .before .before .before .before .before .before .before .before .before .before .before .before .before .before), c .before .before .before .before .before .before .before .before .before .before .before .before .before .before .before .pre .1)
+copy-requires c κs = omega (arith, ap length (drawn (c .before .before .before .before .before .before .before)) ∙ long (c .before .before .before .before .before .before .before .before .before .before .before .before .before .before .before .before), c .before .before .before .before .before .before .before .before .before .before .before .before .before .before .before .before .pre .1)
 
 same-length : tie.Need-same-length
 same-length c = search needs
 
-returns : tie.Need-returns
-returns c = ends-yes (rows (c .before .before .before .before .before .before .before .before .before .before .before .before .before .before .before .before .before .before)) (c .before .before .before .before .before .before .before .before .before .before .before .before .before .before .before .before .before .before .args .drawing .now) (picture (c .before .before .before .before .before .before .before .before .before .before .before .before .before .before .before .before .before .before)) (sym (ap toldVerdict (c .before .before .before .before .before .enum-told .given .1)) ∙ told (c .before .before .before .before .before .before .before)) (c .before .before .copy .ensures .1 ∙ copied (take (c .before .before .before .before .before .before .before .before .before .size .result) (c .before .before .before .before .before .before .before .before .before .before .before .draw .last .1 .1 .1 .1 .1 .1 .0)) (c .before .before .before .before .before .before .before .before .before .before .before .before .before .before .before .before .before .before .args .drawing .now) (c .before .before .before .before .before .before .before .before .before .before .before .before .before .before .before .before .before .before .pre .1 ∙ sym (ap length (drawn (c .before .before .before .before .before .before .before .before .before)) ∙ long (c .before .before .before .before .before .before .before .before .before .before .before .before .before .before .before .before .before .before))) ∙ drawn (c .before .before .before .before .before .before .before .before .before))
-
 returns-2 : tie.Need-returns-2
-returns-2 c = ends-refused (rows (c .before .before .before .before .before .before .before .before .before .before .before .before .before .before)) (c .before .before .before .before .before .before .before .before .before .before .before .before .before .before .args .drawing .now) (picture (c .before .before .before .before .before .before .before .before .before .before .before .before .before .before)) (Judged (c .before .verdict .given .0 .0)) refl (sym (ap toldVerdict (c .before .verdict .given .1)) ∙ told (c .before .before .before))
+returns-2 c = ends-yes (rows (c .before .before .before .before .before .before .before .before .before .before .before .before .before .before .before .before .before .before .before)) (c .before .before .before .before .before .before .before .before .before .before .before .before .before .before .before .before .before .before .before .args .drawing .now) (picture (c .before .before .before .before .before .before .before .before .before .before .before .before .before .before .before .before .before .before .before)) (ap toldDecoded (c .before .before .before .before .before .enum-told .given .1)) (told (c .before .before .before .before .before .before .before)) (c .before .before .copy .ensures .1 ∙ copied (take (c .before .before .before .before .before .before .before .before .before .before .size .result) (c .before .before .before .before .before .before .before .before .before .before .before .before .draw .last .1 .1 .1 .1 .1 .1 .0)) (c .before .before .before .before .before .before .before .before .before .before .before .before .before .before .before .before .before .before .before .args .drawing .now) (c .before .before .before .before .before .before .before .before .before .before .before .before .before .before .before .before .before .before .before .pre .1 ∙ sym (ap length (drawn (c .before .before .before .before .before .before .before .before .before .before)) ∙ long (c .before .before .before .before .before .before .before .before .before .before .before .before .before .before .before .before .before .before .before))) ∙ drawn (c .before .before .before .before .before .before .before .before .before .before))
 
 pub judged-spec : {M : Type 1} → statement M
 judged-spec =
@@ -86,11 +88,12 @@ judged-spec =
     array-share-prefix-own
     slice-aggregate-judge-grid
     judge-grid-requires
-    enum-known-verdict
+    answer-requires
     enum-told
+    enum-told-2
+    returns
     array-share-prefix-own-2
     slice-aggregate-copy
     copy-requires
     same-length
-    returns
     returns-2)
