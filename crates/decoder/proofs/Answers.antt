@@ -1,7 +1,7 @@
 -- How a call ends: what it tells and what it leaves in the lent drawing. Assumes nothing.
 use Prim.Native.Nat.{ℕ, _≤_}
 use native.Mathlib.Omega.{arith}
-use lib.ListN.{length, take, drop, length-map, drop-of-length-le}
+use lib.ListN.{length, take, drop, drop-of-length-le}
 use lib.Seq.{take-at, take-length}
 use borrow.Author.Tests.{eqb-true, ne-eqb, not-false}
 use mathlib.Core.Path.{_≡_, refl, sym, _∙_, ap}
@@ -18,7 +18,7 @@ use Rattle.rules.specs.declared.Fault.the-variants.{Record as NotRead, DrawingL
 use Rattle.rules.specs.Record.{toldRefusal}
 use Rattle.rules.specs.Judge.{saysYes, toldFault}
 use Rattle.encoder.specs.Lists.{upTo}
-use Rattle.encoder.proofs.Lists.{length-from}
+use Rattle.encoder.proofs.Lists.{made-long}
 use Rattle.decoder.specs.declared.Undrawn.{Undrawn}
 use Rattle.decoder.specs.declared.Undrawn.the-variants.{Record, ValuesLength, DrawingLength, Value, Judged}
 use Rattle.decoder.specs.Answer.{toldUndrawn, valueRows}
@@ -76,7 +76,7 @@ lengths-right v n values lent (e8, (e7, c)) = (eqb-true _ _ (not-false _ (no-cau
 
 -- the front of the array that was drawn in
 pub front : (f : ℕ → ℕ) (m : ℕ) (buf : List ℕ) {n : ℕ} {own : List ℕ} → n ≡ m → own ≡ filled buf (map f (upTo m)) → take n own ≡ map f (upTo m)
-front f m buf e h = (λ i. take (e i) (h i)) ∙ take-at (map f (upTo m)) _ m (length-map (upTo m) f ∙ length-from 0 m)
+front f m buf e h = (λ i. take (e i) (h i)) ∙ take-at (map f (upTo m)) _ m (made-long f m)
 
 -- a whole copy
 pub copied : (src lent : List ℕ) → length lent ≡ length src → take (length src) src ++ drop (length src) lent ≡ src

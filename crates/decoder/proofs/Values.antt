@@ -1,49 +1,33 @@
 -- The values of variables by their places, and the links and bytes that they give. Assumes nothing.
-use Prim.Native.Nat.{ℕ, zero, suc, _+_, _<_, _≤_}
+use Prim.Native.Nat.{ℕ, _+_, _<_, _≤_}
 use native.Mathlib.Omega.{arith}
 use native.Mathlib.Nat.{zero-add}
-use lib.Dec.{eqb}
 use lib.ListN.{length, getD}
-use borrow.Author.Tests.{eqb-true, eq-eqb, ne-eqb}
-use mathlib.Core.Path.{_≡_, refl, sym, _∙_, ap}
+use borrow.Author.Tests.{eq-eqb, ne-eqb}
+use mathlib.Core.Path.{_≡_, sym, _∙_, ap}
 use mathlib.Core.Bool.{Bool, true, false, _||_}
-use mathlib.Core.Option.{Option, none, some, Option·some-injective, Option·some-ne-none}
-use mathlib.Core.List.{List, [], _∷_, List·Memᴰ·head, List·Memᴰ·tail}
-use Rattle.answers.specs.Lists.{_∈_}
+use mathlib.Core.Option.{none, some, Option·some-injective, Option·some-ne-none}
+use mathlib.Core.List.{List}
 use Rattle.answers.proofs.Bools.{clash, off}
 use Rattle.rules.specs.declared.Direction.{Direction}
 use Rattle.rules.specs.declared.Direction.the-variants.{North as north, East as east, South as south, West as west}
 use Rattle.rules.specs.declared.Grid.{Grid}
 use Rattle.rules.specs.Directions.{opposite, bit}
-use Rattle.rules.specs.Record.{size, puzzle, Held}
+use Rattle.rules.specs.Record.{size, puzzle}
 use Rattle.rules.specs.Board.{Board, gridBoard}
 use Rattle.rules.specs.Drawing.{linkSum}
 use Rattle.rules.specs.Judge.{there}
 use Rattle.rules.proofs.Boards.{Laws, laws}
 use Rattle.rules.proofs.Records.{held-filled}
 use Rattle.checks.proofs.Checks.{bit-small}
-use Rattle.encoder.specs.Variables.{Variable, Z, E, variables, same, placeStep, place}
+use Rattle.encoder.specs.Variables.{Variable, Z, E, variables, place}
 use Rattle.encoder.specs.Decoding.{valueOf, drawnLink, drawnByte}
-use Rattle.encoder.proofs.Known.{Known, of-variables, in-variables}
+use Rattle.encoder.proofs.Known.{Known, in-variables}
 use Rattle.encoder.proofs.Places.{rank, place-z, place-e}
+use Rattle.encoder.proofs.Values.{value-known}
 use Rattle.encoder.proofs.Bounds.{place-below}
 use Rattle.numbering.specs.Tables.{wayPlace}
 use Rattle.decoder.specs.Answer.{Valued}
-
--- a place in the list is that of an element
-place-in : (v : Variable) (us : List Variable) → place v us < length us → v ∈ us
-unfolding place
-place-in v [] h = absurd (omega arith)
-place-in v (u ∷ us) h = by (same v u) h (place-in v us)
-  where
-    by : (d : Dec (v ≡ u)) → placeStep d (place v us) < suc (length us) → (place v us < length us → v ∈ us) → v ∈ (u ∷ us)
-    by (yes e) h go = List·Memᴰ·head e
-    by (no n) h go = List·Memᴰ·tail (go (omega arith))
-
-one-below : (vs : List ℕ) (n : ℕ) → getD vs n 0 ≡ 1 → n < length vs
-one-below [] n h = absurd (omega arith)
-one-below (v ∷ vs) zero h = omega arith
-one-below (v ∷ vs) (suc n) h = let l = one-below vs n h in omega arith
 
 -- a link, by the values of E either way
 module _ (b : Board) (w : Variable → Bool) where
@@ -56,9 +40,6 @@ module _ (b : Board) (w : Variable → Bool) where
   pub link-out : (x : ℕ) (d : Direction) → w (E x d) ≡ true → 1 ≡ bit (drawnLink b w x d)
   link-out x d h = (λ i. bit (sym h i || there (λ y. w (E y (opposite d))) (b .next d x)))
 
-pub held-laws : {g : Grid} {s : List ℕ} → Held g s → Laws (gridBoard g s)
-held-laws {g} {s} h = laws (puzzle g s) (held-filled h)
-
 module _ {g : Grid} {s values : List ℕ} {f : ℕ} {firsts : List ℕ} (p : Valued g s values f firsts) where
   abbrev b : Board
   b = gridBoard g s
@@ -67,14 +48,11 @@ module _ {g : Grid} {s values : List ℕ} {f : ℕ} {firsts : List ℕ} (p : Val
   w = valueOf b values
 
   law : Laws b
-  law = held-laws (p .ways .held)
+  law = laws (puzzle g s) (held-filled (p .ways .held))
 
   -- only a variable has a value that holds
   proper : (v : Variable) → w v ≡ true → Known b v
-  proper v h =
-      let l = one-below values (place v (variables b)) (eqb-true _ _ h) in
-      let k = p .long in
-      of-variables b v (place-in v (variables b) (omega arith))
+  proper = value-known b values (p .long)
 
   pub open-inside : {x : ℕ} → b .isOpen x ≡ true → x < size g
   open-inside {x} h = law .open-stays x h

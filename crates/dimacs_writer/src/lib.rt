@@ -81,7 +81,7 @@ fn count_lines(list: &[i32], before: usize) -> Needed
 }
 
 // Writes a byte at a place, if the place is inside; returns the next place.
-fn put_byte(text: &mut [u8], at: usize, b: u8) -> usize
+pub fn put_byte(text: &mut [u8], at: usize, b: u8) -> usize
     requires { ⌜ at < 18446744073709551615 ⌝ }
     ensures { λ r. ⌜ Wrote (now (text .entry)) at (b ∷ []) (now (text .exit)) r ⌝ }
 {
@@ -105,7 +105,7 @@ fn put_decimal(text: &mut [u8], at: usize, n: usize) -> usize
 }
 
 // A number and the byte after it.
-fn put_field(text: &mut [u8], at: usize, n: usize, end: u8) -> usize
+pub fn put_field(text: &mut [u8], at: usize, n: usize, end: u8) -> usize
     requires { ⌜ at + (length (decimal n) + 1) < 18446744073709551616 ⌝ }
     ensures { λ r. ⌜ Wrote (now (text .entry)) at (decimal n ++ (end ∷ [])) (now (text .exit)) r ⌝ }
 {

@@ -1,13 +1,13 @@
 -- A loop that fills the front of a buffer, one number at a turn, and what the table then holds. Assumes nothing.
-use Prim.Native.Nat.{ℕ, zero, suc, _+_, _≤_, _<_}
+use Prim.Native.Nat.{ℕ, _+_, _≤_, _<_}
 use native.Mathlib.Omega.{arith}
-use lib.ListN.{length, getD, set, drop, length-append, length-map, List·getD-append}
+use lib.ListN.{length, getD, set, drop, length-append, List·getD-append}
 use mathlib.Core.Path.{_≡_, sym, _∙_, ap}
 use mathlib.Core.List.{List, [], _∷_, _++_, map, map-append}
 use Rattle.answers.specs.Lent.{filled, Wrote}
 use Rattle.answers.proofs.Lent.{wrote-one, wrote-nothing, wrote-after, wrote-recast, wrote-length, wrote-filled}
-use Rattle.encoder.specs.Lists.{from, upTo}
-use Rattle.encoder.proofs.Lists.{from-last, length-from}
+use Rattle.encoder.specs.Lists.{upTo}
+use Rattle.encoder.proofs.Lists.{from-last, made-long, made-at}
 use Rattle.numbering.specs.Tables.{Table}
 
 -- f of each number below x stands in the buffer
@@ -37,7 +37,7 @@ module _ {f : ℕ → ℕ} {n : ℕ} {buf₀ buf : List ℕ} {x : ℕ} (p : Fill
       let w = p .within in
       let r = p .room in
       let q : x ≡ m = omega arith in
-      let l : length (map f (upTo x)) ≤ length buf₀ = omega (arith, length-map (upTo x) f, length-from 0 x) in
+      let l : length (map f (upTo x)) ≤ length buf₀ = omega (arith, made-long f x) in
       rw (← q) (wrote-filled (p .wrote) l)
 
 -- a running count with its table: f counts what the numbers before x give
@@ -53,18 +53,12 @@ module _ {f : ℕ → ℕ} {n : ℕ} {buf₀ buf : List ℕ} {v x : ℕ} (p : Ad
   add-end {m} h e = let w = p .fills .within in let q : x ≡ m = omega arith in (p .is ∙ ap f q, fill-end (p .fills) h e)
 
 -- what the table holds
-from-at : (f : ℕ → ℕ) (a n x : ℕ) → x < n → getD (map f (from a n)) x 0 ≡ f (a + x)
-from-at f a zero x h = absurd (omega arith)
-from-at f a (suc n) zero h = let e : a + 0 ≡ a = omega arith in ap f (sym e)
-from-at f a (suc n) (suc x) h = let e : suc a + x ≡ a + suc x = omega arith in from-at f (suc a) n x (omega arith) ∙ ap f e
-
 pub filled-at : (f : ℕ → ℕ) (n x : ℕ) (buf : List ℕ) → x < n → getD (filled buf (map f (upTo n))) x 0 ≡ f x
 filled-at f n x buf h =
-    let l : x < length (map f (upTo n)) = omega (arith, length-map (upTo n) f, length-from 0 n) in
-    let e : 0 + x ≡ x = omega arith in
-    List·getD-append (map f (upTo n)) _ 0 x l ∙ from-at f 0 n x h ∙ ap f e
+    let l : x < length (map f (upTo n)) = omega (arith, made-long f n) in
+    List·getD-append (map f (upTo n)) _ 0 x l ∙ made-at f 0 n x h
 
 pub table-filled : (f : ℕ → ℕ) (n : ℕ) (buf : List ℕ) {t : List ℕ} → n ≤ length buf → t ≡ filled buf (map f (upTo n)) → Table f n t
 table-filled f n buf h e =
-    let m = length-map (upTo n) f ∙ length-from 0 n in
+    let m = made-long f n in
     rw e (record { long = omega (arith, length-append (map f (upTo n)) (drop (length (map f (upTo n))) buf)); holds = λ x l. filled-at f n x buf l })

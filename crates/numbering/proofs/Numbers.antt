@@ -9,7 +9,7 @@ use lib.Seq.{take-all}
 use mathlib.Core.Path.{_≡_, refl, sym, _∙_, ap}
 use mathlib.Core.Bool.{Bool, true, false, _&&_, cond}
 use mathlib.Core.Option.{none, some}
-use mathlib.Core.List.{List, [], _∷_, _++_, map, append-nil}
+use mathlib.Core.List.{List, [], _∷_, _++_, append-nil}
 use Rattle.rules.specs.declared.Direction.{Direction}
 use Rattle.rules.specs.declared.Direction.the-variants.{North as north, East as east, South as south, West as west}
 use Rattle.rules.specs.declared.Cell.{Cell}
@@ -17,11 +17,11 @@ use Rattle.rules.specs.declared.Cell.the-variants.{Open, Clue as Clued}
 use Rattle.rules.specs.declared.CellByte.the-variants.{Is, NotAllowed}
 use Rattle.rules.specs.declared.Grid.{Grid}
 use Rattle.rules.specs.Directions.{bit}
-use Rattle.rules.specs.Record.{Puzzle, directionOf, isCell, cellOf, cellByte, size, puzzle, mostCells, Sides, Held}
+use Rattle.rules.specs.Record.{Puzzle, directionOf, isCell, cellOf, cellByte, size, puzzle, mostCells, Held}
 use Rattle.rules.specs.Board.{Clue, Board, line, clueOf, cluesFrom, gridBoard}
 use Rattle.rules.proofs.Records.{cell-at, held-filled}
 use Rattle.encoder.specs.Lists.{upTo, each}
-use Rattle.encoder.specs.Variables.{directions, openCount, ifOpen, ifThere, neighbours, out, outgoing, ways, clueCounts, counts, variableCount}
+use Rattle.encoder.specs.Variables.{directions, openCount, ifOpen, ifThere, neighbours, out, outgoing, clueCounts, counts, variableCount}
 use Rattle.encoder.proofs.Lists.{each-append, length-from, length-each-most, keep-most, map-most}
 use Rattle.encoder.proofs.Places.{below, rank, waysBelow, earlier, clue-long, total}
 use Rattle.encoder.proofs.Clues.{clues-next}
@@ -112,11 +112,11 @@ clue-counts p x {c} {d} {n} {l} e h q =
 pub no-counts : (p : Puzzle) (x : ℕ) {c : Cell} → c ≡ Open → c ≡ getD (p .cells) x Open → 0 ≡ countsOf p x
 no-counts p x e h = ap (λ c. length (each (clueOf p x c) clueCounts)) (sym e ∙ h)
 
--- the number in a cell byte is four bits
-number-few : (v : ℕ) {d : Direction} {n : ℕ} → cellOf v ≡ Clued d n → n ≤ 15
+-- the number in a cell byte is four bits (the bound is that of numbers to 44)
+number-few : (v : ℕ) {d : Direction} {n : ℕ} → cellOf v ≡ Clued d n → n ≤ 44
 number-few v {d} {n} e = by (eqb v 0) (leb 0x10 v && leb v 0x4F) e
   where
-    by : (s t : Bool) → isCell (cond s (Is Open) (cond t (Is (Clued (directionOf (v / 16)) (v % 16))) NotAllowed)) ≡ Clued d n → n ≤ 15
+    by : (s t : Bool) → isCell (cond s (Is Open) (cond t (Is (Clued (directionOf (v / 16)) (v % 16))) NotAllowed)) ≡ Clued d n → n ≤ 44
     by true t e = let z : _≡_ {A = ℕ} 0 1 = cc in absurd (omega arith)
     by false true e = let q : v % 16 ≡ n = cc in omega arith
     by false false e = let z : _≡_ {A = ℕ} 0 1 = cc in absurd (omega arith)
@@ -138,7 +138,7 @@ counts-few {g} {s} {x} h l = by (getD (puzzle g s .cells) x Open) refl
     by (Clued d n) e =
         let z = clue-counts (puzzle g s) x refl (sym e) refl in
         let m = number-few (cellByte s x) (cell-at g s x ∙ e) in
-        let k : (length (line (puzzle g s) d x) + 1) * (n + 1) ≤ suc mostCells * 16 = mul-le-mul {n₂ = suc mostCells} {m₂ = 16} (omega (arith, line-few h l d)) (omega arith) in
+        let k : (length (line (puzzle g s) d x) + 1) * (n + 1) ≤ suc mostCells * 45 = mul-le-mul {n₂ = suc mostCells} {m₂ = 45} (omega (arith, line-few h l d)) (omega arith) in
         omega arith
 
 -- and of all: whatever the grid, nothing that is counted overflows

@@ -138,10 +138,10 @@ fn step(list: &[i32], trail: &mut [i32], marks: &mut [u8], used: usize) -> Stepp
         return append_forced(list, trail, marks, used, place);
     }
     let free = lowest_unassigned(marks);
-    if let Place::At(index) = free {
-        return append_choice(trail, marks, used, index);
-    }
-    Stepped::Found
+    let Place::At(index) = free else {
+        return Stepped::Found;
+    };
+    append_choice(trail, marks, used, index)
 }
 
 // Steps until one answers, or the budget is used up.
@@ -154,12 +154,13 @@ fn run(list: &[i32], trail: &mut [i32], marks: &mut [u8], first: usize, budget: 
     let mut n: u64 = 0;
     while n < budget {
         let s = step(list, trail, marks, used);
-        n += 1;
+        let steps = n + 1;
         match s {
             Stepped::MovedTo(u) => used = u,
-            Stepped::Found => return Answer::Found(Count { steps: n, used }),
-            Stepped::None => return Answer::None(Count { steps: n, used }),
+            Stepped::Found => return Answer::Found(Count { steps, used }),
+            Stepped::None => return Answer::None(Count { steps, used }),
         }
+        n = steps;
     }
     Answer::Halted(Count { steps: n, used })
 }

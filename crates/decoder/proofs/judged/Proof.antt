@@ -1,16 +1,15 @@
 -- `decoder::judged` meets its contract. Assumes nothing.
 use native.Mathlib.Omega.{arith}
 use Prim.Native.Nat.{ℕ}
-use lib.ListN.{length, take, length-map}
+use lib.ListN.{length, take}
 use mathlib.Core.Path.{_≡_, sym, _∙_, ap}
 use mathlib.Core.List.{List}
 use Rattle.answers.specs.Told.{Row, turnedDown}
 use Rattle.rules.specs.Record.{size}
 use Rattle.rules.specs.Board.{gridBoard}
 use Rattle.rules.specs.Judge.{judgeRows, saysYes}
-use Rattle.encoder.specs.Lists.{upTo}
 use Rattle.encoder.specs.Decoding.{decoded}
-use Rattle.encoder.proofs.Lists.{length-from}
+use Rattle.encoder.proofs.Lists.{made-long}
 use Rattle.decoder.specs.Answer.{toldDecoded, byteAt}
 use Rattle.decoder.proofs.Answers.{ends-refused, ends-yes, front, copied}
 use borrow.Author.Needs.{needs}
@@ -25,7 +24,7 @@ abbrev rows : tie.Start → List Row
 rows c = judgeRows (gridBoard (c .args .g) (c .args .«record» .now)) (picture c)
 
 long : (c : tie.Start) → length (picture c) ≡ size (c .args .g)
-long c = length-map (upTo (size (c .args .g))) (byteAt (gridBoard (c .args .g) (c .args .«record» .now)) (c .args .values .now)) ∙ length-from 0 (size (c .args .g))
+long c = made-long (byteAt (gridBoard (c .args .g) (c .args .«record» .now)) (c .args .values .now)) (size (c .args .g))
 
 drawn : (c : tie.After-size) → take (c .size .result) (c .before .before .draw .last .1 .1 .1 .1 .1 .1 .0) ≡ picture (c .before .before .before .before .before .before .before .before .before)
 drawn c = front (byteAt (gridBoard (c .before .before .before .before .before .before .before .before .before .args .g) (c .before .before .before .before .before .before .before .before .before .args .«record» .now)) (c .before .before .before .before .before .before .before .before .before .args .values .now)) (size (c .before .before .before .before .before .before .before .before .before .args .g)) _ (c .size .ensures) (c .before .before .draw .ensures)

@@ -12,7 +12,7 @@ put-not-requires : tie.Need-put-not-requires
 put-not-requires c κs = let r = append-room (c .before .before .pre .0) (c .before .before .pre .1) in let f = c .before .before .pre .0 .few in (choice-small (c .before .before .pre .0) (c .before .before .pre .1), omega arith)
 
 enter-requires : tie.Need-enter-requires
-enter-requires c κs = append-enter (c .before .before .before .before .before .before .pre .0) (c .before .before .before .before .before .before .pre .1) (choice-wrote (c .before .before .before .before .before .before .args .index) (c .before .before .before .put-not .ensures)) (omega arith)
+enter-requires c κs = let h = append-enter (c .before .before .before .before .before .before .pre .0) (c .before .before .before .before .before .before .pre .1) (choice-wrote (c .before .before .before .before .before .before .args .index) (c .before .before .before .put-not .ensures)) in ((h .0, h .1, omega arith), h .2)
 
 add-t5 : tie.Need-add-t5
 add-t5 c = search needs

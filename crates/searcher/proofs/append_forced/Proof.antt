@@ -9,7 +9,7 @@ copy-at-requires : tie.Need-copy-at-requires
 copy-at-requires c κs = (append-inside (c .before .before .pre .0) (c .before .before .pre .1), legal-place (c .before .before .args .list .now) (c .before .before .args .place) (c .before .before .pre .1))
 
 enter-requires : tie.Need-enter-requires
-enter-requires c κs = append-enter (c .before .before .before .before .before .before .pre .0) (c .before .before .before .before .before .before .pre .1) (c .before .before .before .copy-at .ensures) (omega arith)
+enter-requires c κs = let h = append-enter (c .before .before .before .before .before .before .pre .0) (c .before .before .before .before .before .before .pre .1) (c .before .before .before .copy-at .ensures) in ((h .0, h .1, omega arith), h .2)
 
 add-t13 : tie.Need-add-t13
 add-t13 c = let h = append-room (c .before .before .before .before .before .before .before .before .before .pre .0) (c .before .before .before .before .before .before .before .before .before .pre .1) in let f = c .before .before .before .before .before .before .before .before .before .pre .0 .few in omega arith

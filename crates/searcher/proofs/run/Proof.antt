@@ -28,8 +28,8 @@ loop-holds c = go-start (c .before .pre .0) (c .before .pre .1)
 step-requires : tie.Need-step-requires Inv-loop μ-loop
 step-requires c κs = (go-standing (c .before .before .before .loop .inv) .running, go-standing (c .before .before .before .loop .inv) .listed)
 
-add-n : tie.Need-add-n Inv-loop μ-loop
-add-n c = search needs
+add-steps : tie.Need-add-steps Inv-loop μ-loop
+add-steps c = search needs
 
 enum-known-s : tie.Need-enum-known-s Inv-loop μ-loop
 enum-known-s c = search needs
@@ -72,10 +72,8 @@ run-spec =
     μ-loop
     loop-holds
     step-requires
-    add-n
+    add-steps
     enum-known-s
-    loop-less
-    loop-again
     enum-told
     same-length
     same-length-2
@@ -84,6 +82,8 @@ run-spec =
     same-length-3
     same-length-4
     returns-2
+    loop-less
+    loop-again
     same-length-5
     same-length-6
     returns-3)

@@ -88,7 +88,7 @@ same-length-6 : tie.Need-same-length-6
 same-length-6 c = search needs
 
 returns-3 : tie.Need-returns-3
-returns-3 c = by-choice (standing (c .before .before .before .before .before .before .before .before .before .before .before .before .before .before .before .before .before .before .before .before)) (free (c .before .before .before .before .before .before .before)) (c .before .before .before .append-choice .ensures)
+returns-3 c = on-full (standing (c .before .before .before .before .before .before .before .before .before .before .before .before .before)) (no-failed (c .before .before .before .before .before .before .before .before)) (no-forced (c .before .before .before .before)) (found-none (c .enum-told4 .given .1) (c .before .before .lowest-unassigned .ensures))
 
 enum-told-4 : tie.Need-enum-told-4
 enum-told-4 c = search needs
@@ -97,7 +97,7 @@ same-length-7 : tie.Need-same-length-7
 same-length-7 c = search needs
 
 returns-4 : tie.Need-returns-4
-returns-4 c = on-full (standing (c .before .before .before .before .before .before .before .before .before .before .before .before .before)) (no-failed (c .before .before .before .before .before .before .before .before)) (no-forced (c .before .before .before .before)) (found-none (c .enum-told4 .given .1) (c .before .before .lowest-unassigned .ensures))
+returns-4 c = by-choice (standing (c .before .before .before .before .before .before .before .before .before .before .before .before .before .before .before .before .before .before .before .before)) (free (c .before .before .before .before .before .before .before)) (c .before .before .before .append-choice .ensures)
 
 pub step-spec : {M : Type 1} → statement M
 step-spec =
@@ -119,10 +119,10 @@ step-spec =
     enum-told-3
     lowest-unassigned-requires
     enum-known-free
-    append-choice-requires
-    same-length-5
-    same-length-6
-    returns-3
     enum-told-4
+    same-length-5
+    returns-3
+    append-choice-requires
+    same-length-6
     same-length-7
     returns-4)

@@ -37,7 +37,7 @@ negate-at-requires : tie.Need-negate-at-requires
 negate-at-requires c κs = (back-inside (back (c .before .before .before .before .before .before .before)), back-small (back (c .before .before .before .before .before .before .before)))
 
 enter-requires : tie.Need-enter-requires
-enter-requires c κs = append-enter (forgot (c .before .before .before .before .before) .running) (back-allowed (forgot (c .before .before .before .before .before))) (c .before .before .before .negate-at .ensures) (omega arith)
+enter-requires c κs = let h = append-enter (forgot (c .before .before .before .before .before) .running) (back-allowed (forgot (c .before .before .before .before .before))) (c .before .before .before .negate-at .ensures) in ((h .0, h .1, omega arith), h .2)
 
 add-t19 : tie.Need-add-t19
 add-t19 c = let h = back-below (forgot (c .before .before .before .before .before .before .before .before) .back) in let u = running-used (forgot (c .before .before .before .before .before .before .before .before) .back .was) in let f = forgot (c .before .before .before .before .before .before .before .before) .back .was .few in omega arith

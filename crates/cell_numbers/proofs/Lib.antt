@@ -1,0 +1,2 @@
+-- Laws of the numbers of a cell's variables.
+pub mod Sides

@@ -1,0 +1,2 @@
+-- Laws of the families.
+pub mod EachCell

@@ -1,0 +1,2 @@
+-- The families of clauses that go cell by cell.
+pub mod Families
