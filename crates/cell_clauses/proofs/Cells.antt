@@ -3,7 +3,6 @@ use Prim.Native.Nat.{ℕ, zero, suc, _+_, _-_, _≤_, _<_}
 use native.Mathlib.Omega.{arith}
 use native.Mathlib.Numerals.{add-one}
 use lib.IntN.{ℤ, pos, negℤ}
-use lib.ListN.{length}
 use mathlib.Core.Path.{_≡_, refl, sym, _∙_, ap}
 use mathlib.Core.Bool.{Bool, true, false}
 use mathlib.Core.Option.{Option, none, some}
@@ -12,9 +11,9 @@ use Rattle.rules.specs.declared.Direction.{Direction}
 use Rattle.rules.specs.declared.Direction.the-variants.{North as north, East as east, South as south, West as west}
 use Rattle.rules.specs.Board.{Board}
 use Rattle.rules.proofs.Boards.{Laws}
-use Rattle.encoder.specs.Lists.{from, upTo, each, joined}
-use Rattle.encoder.specs.Variables.{Variable, Z, S, Q, directions, openCount, Neighbour, ifOpen, ifThere, neighbours, out, outgoing, distancesAt, number}
-use Rattle.encoder.specs.Clauses.{Clause, plus, notBoth, pairs, orAny, eastSouth, touch, touchingAt, back, bothWhite, oneWay, linkParts, linksAt, lower, blackBefore, eastward, startParts, startAt, noDistance, notAhead, nearer, fromOne, nearerEach, distanceParts, distanceAt, signed, written}
+use Rattle.encoder.specs.Lists.{upTo, each, joined}
+use Rattle.encoder.specs.Variables.{Variable, Z, S, Q, directions, openCount, Neighbour, ifOpen, ifThere, neighbours, out, distancesAt, number}
+use Rattle.encoder.specs.Clauses.{plus, notBoth, pairs, orAny, eastSouth, touch, touchingAt, back, bothWhite, oneWay, linkParts, linksAt, lower, blackBefore, eastward, startParts, startAt, noDistance, notAhead, nearer, fromOne, nearerEach, distanceParts, distanceAt, signed, written}
 use Rattle.encoder.proofs.Lists.{each-append}
 use Rattle.encoder.proofs.Neighbours.{Beside}
 use Rattle.encoder.proofs.Places.{below, rank, place-z}

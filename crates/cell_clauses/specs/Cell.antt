@@ -3,7 +3,7 @@ use Prim.Native.Nat.{ℕ, zero, suc, _+_, _-_}
 use lib.IntN.{ℤ, pos}
 use mathlib.Core.List.{List, [], _∷_, _++_}
 use Rattle.encoder.specs.Lists.{joined}
-use Rattle.emit.specs.Shapes.{no, closed, notBoth, implies, orNot, anyOf, eachNotBoth, eachImplies, eachBothImply}
+use Rattle.emit.specs.Shapes.{no, notBoth, implies, orNot, anyOf, eachNotBoth, eachImplies, eachBothImply}
 use Rattle.cell_clauses.specs.declared.Side.{Side}
 use Rattle.cell_clauses.specs.declared.Around.{Around}
 

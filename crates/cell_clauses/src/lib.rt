@@ -1,5 +1,5 @@
 // Writes the clauses of an open cell: families 1, 3, 4 and 5 of document 01, by the numbers of their variables.
-ghost use Prim.Native.Nat.{_≤_, _+_, _-_, _<_};
+ghost use Prim.Native.Nat.{_+_, _-_, _<_};
 ghost use Rattle.answers.specs.Lent.{Wrote};
 ghost use Rattle.encoder.specs.Lists.{joined};
 ghost use Rattle.emit.specs.Writable.{Writable};

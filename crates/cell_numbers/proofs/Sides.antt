@@ -1,18 +1,16 @@
 -- The numbers of a cell's variables by the tables, and the neighbour in a direction, the same for all four. Assumes nothing.
-use Prim.Native.Nat.{ℕ, zero, suc, _+_, _*_, _≤_, _<_}
+use Prim.Native.Nat.{ℕ, _+_, _*_, _≤_, _<_}
 use native.Mathlib.Omega.{arith}
-use native.Mathlib.Nat.{mul-le-mul}
 use lib.ListN.{length, getD}
 use mathlib.Core.Path.{_≡_, refl, sym, _∙_, ap}
 use mathlib.Core.Bool.{Bool, true, false, cond}
 use mathlib.Core.Option.{none, some}
 use mathlib.Core.List.{List, List·Memᴰ·head, List·Memᴰ·tail}
 use Rattle.answers.specs.Lists.{_∈_}
-use Rattle.answers.proofs.Bools.{clash}
 use Rattle.rules.specs.declared.Direction.{Direction}
 use Rattle.rules.specs.declared.Grid.{Grid}
 use Rattle.rules.specs.Directions.{opposite, bit}
-use Rattle.rules.specs.Record.{mostCells, size, puzzle, On, Held}
+use Rattle.rules.specs.Record.{size, puzzle, On, Held}
 use Rattle.rules.specs.Board.{Board, neighbour, gridBoard}
 use Rattle.rules.proofs.Boards.{Laws, laws}
 use Rattle.rules.proofs.Records.{held-filled}

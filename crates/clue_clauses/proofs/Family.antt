@@ -3,25 +3,24 @@ use Prim.Native.Nat.{ℕ, zero, suc, _+_, _*_, _≤_, _<_, _^_}
 use native.Mathlib.Omega.{arith}
 use native.Mathlib.Nat.{mul-le-mul}
 use native.Mathlib.Numerals.{add-one}
-use lib.IntN.{ℤ}
 use lib.ListN.{length, getD, take, length-map}
 use lib.Seq.{take-all}
 use mathlib.Core.Path.{_≡_, refl, sym, _∙_, ap}
-use mathlib.Core.List.{List, [], _∷_, _++_, map, append-nil}
+use mathlib.Core.List.{List, [], _++_, map, append-nil}
 use Rattle.rules.specs.declared.Direction.{Direction}
 use Rattle.rules.specs.declared.Cell.{Cell}
 use Rattle.rules.specs.declared.Cell.the-variants.{Open, Clue as Clued}
 use Rattle.rules.specs.declared.Grid.{Grid}
-use Rattle.rules.specs.Record.{Puzzle, size, puzzle, Held}
+use Rattle.rules.specs.Record.{size, puzzle, Held}
 use Rattle.rules.specs.Board.{Clue, line, clueOf, cluesFrom, gridBoard}
 use Rattle.rules.proofs.Records.{held-filled}
 use Rattle.encoder.specs.Lists.{upTo, each, joined}
-use Rattle.encoder.specs.Variables.{T, openCount, ways, number}
+use Rattle.encoder.specs.Variables.{T, openCount, number}
 use Rattle.encoder.specs.Clauses.{clueClauses, clueLines}
 use Rattle.encoder.proofs.Lists.{each-append}
 use Rattle.encoder.proofs.Places.{place-t}
 use Rattle.encoder.proofs.Clues.{clues-next, at-clue}
-use Rattle.encoder.proofs.Emitting.{each-next, listOf, list-append, list-each}
+use Rattle.encoder.proofs.Emitting.{each-next, listOf, list-each}
 use Rattle.numbering.proofs.Numbers.{countsOf, counts-on, line-few, below-few, rank-few, ways-few}
 use Rattle.cell_clauses.specs.Numbered.{blackOf}
 use Rattle.cell_numbers.proofs.Sides.{held-laws}

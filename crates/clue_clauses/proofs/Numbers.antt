@@ -1,20 +1,18 @@
 -- The clauses of a clue by numbers are those of document 01. Assumes nothing.
-use Prim.Native.Nat.{ℕ, zero, suc, _+_, _*_, _-_, _≤_, _<_}
+use Prim.Native.Nat.{ℕ, suc, _+_, _*_, _-_, _≤_, _<_}
 use native.Mathlib.Omega.{arith}
-use native.Mathlib.Nat.{suc-mul, zero-mul}
+use native.Mathlib.Nat.{suc-mul}
 use native.Mathlib.Numerals.{add-one}
-use lib.Dec.{eqb}
-use lib.IntN.{ℤ, pos}
 use lib.ListN.{length, length-map}
 use borrow.Author.Tests.{eq-eqb, ne-eqb}
 use mathlib.Core.Path.{_≡_, refl, sym, _∙_, ap}
 use mathlib.Core.Bool.{Bool, true, false, cond}
-use mathlib.Core.List.{List, [], _∷_, _++_, map, append-nil}
+use mathlib.Core.List.{List, [], _∷_, _++_, map}
 use Rattle.rules.specs.Board.{Clue, Board}
 use Rattle.rules.proofs.Boards.{Laws}
 use Rattle.encoder.specs.Lists.{from, upTo, each, joined}
-use Rattle.encoder.specs.Variables.{Variable, Z, T, countsAt, number}
-use Rattle.encoder.specs.Clauses.{plus, minus, notBoth, pairs, oneMore, past, cellParts, cellClauses, lineClauses, never, clueParts, clueClauses, written}
+use Rattle.encoder.specs.Variables.{Z, T, countsAt, number}
+use Rattle.encoder.specs.Clauses.{notBoth, pairs, past, cellParts, cellClauses, lineClauses, never, clueParts, clueClauses, written}
 use Rattle.encoder.proofs.Places.{At}
 use Rattle.encoder.proofs.Emitting.{each-next, each-shift, pairs-each, listOf, list-append, list-joined, list-each, list-map, number-t}
 use Rattle.emit.specs.Shapes.{only, never as never#, notBoth as notPair, implies, impliesEither, bothImply, eachNever, eachNotBoth, pairsWith, eachPair}

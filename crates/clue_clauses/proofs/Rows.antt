@@ -1,6 +1,5 @@
 -- The row past a cell, which is a clue or open. Assumes nothing.
 use Prim.Native.Nat.{ℕ, zero, suc, _+_}
-use native.Mathlib.Omega.{arith}
 use lib.IntN.{ℤ}
 use mathlib.Core.Path.{_≡_, refl}
 use mathlib.Core.List.{List}

@@ -1,9 +1,9 @@
 // Writes the clauses of clue lines: family 2 of document 01.
 ghost use mathlib.Core.Path.{_≡_};
 ghost use mathlib.Core.List.{map};
-ghost use Prim.Native.Nat.{_+_, _<_, _≤_, _^_};
+ghost use Prim.Native.Nat.{_+_, _<_, _^_};
 ghost use Rattle.answers.specs.Lent.{Wrote};
-ghost use Rattle.rules.specs.Record.{size, puzzle, Held};
+ghost use Rattle.rules.specs.Record.{size, puzzle};
 ghost use Rattle.rules.specs.Board.{line, gridBoard};
 ghost use Rattle.encoder.specs.Lists.{joined};
 ghost use Rattle.encoder.specs.Clauses.{clueLines};

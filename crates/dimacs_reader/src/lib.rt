@@ -195,7 +195,7 @@ impl Cursor {
             x = x * 10 + d;
             at += 1;
         }
-        Token::Refused(at)
+        Token::Refused(at) // the text ends too soon
     }
 
     // A number to a bound, 0 among them or not.

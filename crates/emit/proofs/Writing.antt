@@ -1,10 +1,10 @@
 -- What is writable, part by part, and the turn of a loop that writes. Assumes nothing.
-use Prim.Native.Nat.{ℕ, zero, suc, _+_, _-_, _≤_, _<_, _^_}
+use Prim.Native.Nat.{ℕ, zero, suc, _+_, _-_, _≤_, _<_}
 use native.Mathlib.Omega.{arith}
-use lib.IntN.{ℤ, pos, negℤ, natAbs}
+use lib.IntN.{ℤ, pos}
 use lib.ListN.{length, length-append}
-use mathlib.Core.Path.{_≡_, refl, sym, _∙_, ap}
-use mathlib.Core.List.{List, [], _∷_, _++_, append-assoc}
+use mathlib.Core.Path.{_≡_, sym, _∙_, ap}
+use mathlib.Core.List.{List, [], _∷_, _++_}
 use Rattle.answers.specs.Lent.{Wrote}
 use Rattle.answers.proofs.Lent.{wrote-nothing, wrote-after, wrote-recast, wrote-length}
 use Rattle.cnf.specs.Literals.{mostVariables}

@@ -3,23 +3,21 @@ use Prim.Native.Nat.{ℕ, zero, suc, _+_, _*_, _≤_, _<_}
 use native.Mathlib.Omega.{arith}
 use native.Mathlib.Nat.{mul-le-mul}
 use native.Mathlib.Numerals.{add-one}
-use lib.IntN.{ℤ, pos}
-use lib.ListN.{length, getD}
+use lib.IntN.{pos}
+use lib.ListN.{getD}
 use mathlib.Core.Path.{_≡_, refl, sym, _∙_, ap}
-use mathlib.Core.Bool.{true, false}
+use mathlib.Core.Bool.{true}
 use mathlib.Core.List.{List, [], _∷_, _++_, map, append-nil}
 use Rattle.rules.specs.declared.Grid.{Grid}
 use Rattle.rules.specs.Directions.{bit}
-use Rattle.rules.specs.Record.{size, puzzle}
+use Rattle.rules.specs.Record.{size}
 use Rattle.rules.specs.Board.{Board, gridBoard}
 use Rattle.rules.proofs.Boards.{Laws}
-use Rattle.cnf.specs.Literals.{mostVariables}
 use Rattle.encoder.specs.Lists.{upTo, each, joined}
-use Rattle.encoder.specs.Variables.{Variable, S, Q, opens, openCount, starts, number}
-use Rattle.encoder.specs.Clauses.{Clause, someStart, start, startAt, clueLines, families, clauses, clauseList, signed}
-use Rattle.encoder.specs.Small.{Small}
+use Rattle.encoder.specs.Variables.{S, opens, openCount, number}
+use Rattle.encoder.specs.Clauses.{Clause, someStart, start, startAt, signed}
 use Rattle.encoder.proofs.Places.{below, rank, place-s}
-use Rattle.encoder.proofs.Emitting.{each-next, atCell, each-cell, at-open, at-shut, listOf, list-append, list-each, list-families}
+use Rattle.encoder.proofs.Emitting.{each-next, atCell, each-cell, at-open, at-shut, listOf, list-each}
 use Rattle.numbering.proofs.Numbers.{bit-off, bit-on}
 use Rattle.emit.specs.Shapes.{literals, allOf}
 use Rattle.cell_clauses.specs.declared.Around.{Around}

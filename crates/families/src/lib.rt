@@ -1,7 +1,5 @@
 // Writes the families of clauses, in document 01's order.
-ghost use mathlib.Core.Path.{_≡_};
 ghost use Prim.Native.Nat.{_<_};
-ghost use lib.ListN.{length};
 ghost use Rattle.answers.specs.Lent.{Wrote};
 ghost use Rattle.rules.specs.Record.{size};
 ghost use Rattle.rules.specs.Board.{gridBoard};

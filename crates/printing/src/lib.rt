@@ -1,6 +1,6 @@
 // The lines that the programs print beside DIMACS text, put into a lent buffer.
 ghost use mathlib.Core.Path.{_≡_};
-ghost use Prim.Native.Nat.{_+_, _*_, _≤_, _<_};
+ghost use Prim.Native.Nat.{_+_, _≤_, _<_};
 ghost use lib.ListN.{length};
 ghost use Rattle.answers.specs.Lent.{Wrote};
 ghost use Rattle.rules.specs.Record.{mostCells};

@@ -1,7 +1,6 @@
 -- `printing::put_hex` meets its contract. Assumes nothing.
 use mathlib.Core.Path.{ap}
-use mathlib.Core.List.{List, [], _∷_}
-use native.Mathlib.Omega.{arith}
+use mathlib.Core.List.{[], _∷_}
 use Rattle.answers.proofs.Lent.{wrote-after, wrote-recast, wrote-length}
 use borrow.Author.Needs.{needs}
 use Rattle.printing.proofs.put_hex.Statement.{statement}
