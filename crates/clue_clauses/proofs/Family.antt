@@ -75,10 +75,14 @@ module _ {g : Grid} {s : List ℕ} (h : Held g s) where
       ∙ each-append F (cluesFrom p 0 (take x (p .cells))) (clueOf p x (getD (p .cells) x Open))
       ∙ (λ t. so-far x (omega arith) t ++ clueAt p (sym e t)) ∙ sym (each-next (clueAt p) 0 x) ∙ ap (λ k. each (upTo k) (clueAt p)) (add-one x)
 
+  pub lines-cells : clueLines (gridBoard g s) ≡ each (upTo (size g)) (clueAt (puzzle g s))
+  lines-cells =
+      let p = puzzle g s in
+      let w = held-filled h in
+      ap (λ cs. each (cluesFrom p 0 cs) (clueClauses (gridBoard g s .isOpen))) (sym (take-all (size g) (p .cells) (omega arith))) ∙ so-far (size g) (omega arith)
+
   pub lines-each : {n : ℕ} → n ≡ size g → listOf (gridBoard g s) (clueLines (gridBoard g s)) ≡ each (upTo n) (λ x. listOf (gridBoard g s) (clueAt (puzzle g s) x))
   lines-each {n} q =
       let b = gridBoard g s in
       let p = puzzle g s in
-      let w = held-filled h in
-      ap (λ cs. listOf b (each (cluesFrom p 0 cs) (clueClauses (b .isOpen)))) (sym (take-all (size g) (p .cells) (omega arith)))
-      ∙ ap (listOf b) (so-far (size g) (omega arith)) ∙ list-each b (clueAt p) (upTo (size g)) ∙ ap (λ n. each (upTo n) (λ x. listOf b (clueAt p x))) (sym q)
+      ap (listOf b) lines-cells ∙ list-each b (clueAt p) (upTo (size g)) ∙ ap (λ n. each (upTo n) (λ x. listOf b (clueAt p x))) (sym q)

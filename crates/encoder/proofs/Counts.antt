@@ -36,10 +36,10 @@ module _ (b : Board) where
   written-long : (c : Clause) → length (written b c) ≡ suc (length c)
   written-long c = length-append (map (signed b) c) _ ∙ (let h = length-map c (signed b) in omega arith)
 
-  sized-none : Sized b [] 0 0
+  pub sized-none : Sized b [] 0 0
   sized-none = record { clauses = refl; elements = refl }
 
-  sized-append : {cs ds : List Clause} {n m e f : ℕ} → Sized b cs n e → Sized b ds m f → Sized b (cs ++ ds) (n + m) (e + f)
+  pub sized-append : {cs ds : List Clause} {n m e f : ℕ} → Sized b cs n e → Sized b ds m f → Sized b (cs ++ ds) (n + m) (e + f)
   sized-append {cs = cs} {ds = ds} p q =
       let i = p .clauses in
       let j = q .clauses in
@@ -71,7 +71,7 @@ module _ (b : Board) where
       let j = r .elements in
       record { clauses = r .clauses; elements = omega arith }
 
-  sized-is : {cs : List Clause} {n m e f : ℕ} → n ≡ m → e ≡ f → Sized b cs n e → Sized b cs m f
+  pub sized-is : {cs : List Clause} {n m e f : ℕ} → n ≡ m → e ≡ f → Sized b cs n e → Sized b cs m f
   sized-is p q s = record { clauses = s .clauses ∙ p; elements = s .elements ∙ q }
 
   any-sized : (v : Variable) (vs : List Variable) {k : ℕ} → length vs ≡ k → Sized b (orAny v vs ∷ []) 1 (k + 2)

@@ -39,7 +39,7 @@ family-list Distance b law x h = distance-list b law x h
 
 module _ (b : Board) where
   -- cell by cell
-  below-each : {A : Type 0} (F : ℕ → List A) (x : ℕ) → each (below b x) F ≡ each (upTo x) (atCell b F)
+  pub below-each : {A : Type 0} (F : ℕ → List A) (x : ℕ) → each (below b x) F ≡ each (upTo x) (atCell b F)
   below-each F zero = refl
   below-each F (suc x) =
       let e : 0 + x ≡ x = omega arith in

@@ -1,0 +1,2 @@
+-- How many clauses and elements there are, by arithmetic.
+pub mod Counts
