@@ -3,3 +3,4 @@ pub mod Bools
 pub mod First
 pub mod Lent
 pub mod Rows
+pub mod Settled

@@ -25,7 +25,8 @@ use Rattle.search.specs.Trail.{trailImage, marksImage}
 use Rattle.search.specs.Run.{Done, toldDone, searched}
 use Rattle.demands.specs.Searches.{rows, told}
 use Rattle.demands.specs.Demands.{Demand1, Demand2, Demand3}
-use Rattle.demands.proofs.Turning.{by-rows, untouched, short, decoder-call}
+use Rattle.answers.proofs.Settled.{untouched}
+use Rattle.demands.proofs.Turning.{by-rows, short, decoder-call}
 use Rattle.demands.proofs.Stepping.{stepped}
 use Rattle.demands.proofs.Searching as searching
 

@@ -3,9 +3,9 @@ use Prim.Native.Nat.{ℕ, _<_}
 use native.Mathlib.Omega.{arith}
 use lib.Dec.{eqb, ltb}
 use lib.ListN.{drop, length-map}
-use borrow.Author.Tests.{eqb-false, eq-eqb, ne-eqb, ltb-true, lt-ltb}
+use borrow.Author.Tests.{eqb-false, eq-eqb, ltb-true, lt-ltb}
 use mathlib.Core.Path.{_≡_, refl, sym, _∙_, ap, subst, subst₂}
-use mathlib.Core.Bool.{Bool, true, false, not, cond}
+use mathlib.Core.Bool.{Bool, true, false, not}
 use mathlib.Core.Logic.{_↔_}
 use mathlib.Core.Option.{Option, none, some, Option·some-injective, Option·some-ne-none}
 use mathlib.Core.List.{List, [], _∷_, _++_, map}
@@ -15,6 +15,7 @@ use Rattle.answers.specs.Lists.{tally, howMany}
 use Rattle.answers.specs.Told.{Row, row, refusal, cause, unless, turnedDown}
 use Rattle.answers.specs.Lent.{capped, tooShort, leaves}
 use Rattle.answers.proofs.Rows.{answered-clear, clear-answered}
+use Rattle.answers.proofs.Settled.{untouched}
 use Rattle.rules.specs.Record.{recordRows}
 use Rattle.rules.specs.Board.{Board, boardOf}
 use Rattle.rules.specs.Judge.{wrongDrawing, judgeRows, saysYes}
@@ -57,10 +58,6 @@ module _ (t : Told) (answers : t .number ≡ 0) where
         kept = k;
         answered = (λ c. ap (λ (t : Told). t .number) (clear-answered rs t c) ∙ answers, answered-clear rs t h);
       }
-
--- a refusal leaves all as it was
-pub untouched : {A : Type 0} (t : Told) (before after : A) → (t .number ≡ 0 → ⊥) → leaves t before after ≡ before
-untouched t before after n = ap (λ b. cond b after before) (ne-eqb (t .number) 0 n)
 
 -- row 6: turned down exactly if there is less room than needed
 pub short : (room needed n : ℕ) → tooShort room needed ≡ some n ↔ (room < needed) × (n ≡ capped needed)

@@ -21,7 +21,7 @@ use Rattle.dimacs.specs.Automaton.{next}
 use Rattle.dimacs.specs.Reader.{Header, State, line, clause, noHeader, headerIn, refusedAt, listOf, listFrom, headerOf}
 use Rattle.dimacs_reader.specs.Cursors.{Dead, headerWith, HeadRead, Heads, ListRead, Lists}
 use Rattle.dimacs.specs.Calls.{readerRows, readerAnswer, readerLeaves}
-use Rattle.dimacs.proofs.Settled.{short-by, long-enough, settled}
+use Rattle.answers.proofs.Settled.{short-by, long-enough, settled}
 use Rattle.dimacs_reader.proofs.Runs.{run-dead}
 
 pub head-read : (text : List ℕ) {t : Head} {v c : ℕ} {k : Cursor} → Heads text line 0 t → t ≡ HeadIs v c k → HeadRead text line 0 v c (k .at)

@@ -21,7 +21,7 @@ use Rattle.dimacs_writer.specs.declared.Needed.the-variants.{Bytes, TooM
 use Rattle.dimacs.specs.Text.{decimal, lines, headerLine, textOf}
 use Rattle.dimacs_writer.specs.Writer.{counted}
 use Rattle.dimacs.specs.Calls.{writerRows, writerAnswer, writerLeaves}
-use Rattle.dimacs.proofs.Settled.{short-over, short-by, long-enough, settled}
+use Rattle.answers.proofs.Settled.{short-over, short-by, long-enough, settled}
 use Rattle.dimacs_writer.proofs.Lines.{header-length}
 
 -- what a count that fits, and one that does not, say

@@ -85,7 +85,7 @@ place-below v (List·Memᴰ·tail {x = u} {xs = us} m) = by (same v u) (place-be
 pub number-most : (b : Board) {v : Variable} → v ∈ variables b → number b v ≤ variableCount b
 number-most b {v} m = place-below v m
 
-abbrev Right : ℕ → ℤ → Type 0
+abbrev pub Right : ℕ → ℤ → Type 0
 Right v l = natAbs l ≤ v
 
 literal-right : (b : Board) (l : Literal) → variableOf l ∈ variables b → Right (variableCount b) (signed b l)
@@ -129,14 +129,13 @@ pub count-clauses : (b : Board) → clauseCount (clauseList b) ≡ length (claus
 unfolding clauseList
 count-clauses b = count-each b (clauses b)
 
+pub list-within : (b : Board) → Laws b → All (Right (variableCount b)) (clauseList b)
+unfolding clauseList
+list-within b law = all-each (Right (variableCount b)) (written b) (clauses b) (λ c m. written-right b c (all-at (Inside (variables b)) (clauses-within b law) m))
+
 -- search and writer never find the list wrong
 pub list-right : (b : Board) → Laws b → wrongList (variableCount b) (clauseList b) ≡ none
 unfolding clauseList
 list-right b law =
-    (λ t. orElse (within t) (found (list-closed b (clauses b) t) (length (each (clauses b) (written b))) none))
-  where
-    each-right : All (Right (variableCount b)) (each (clauses b) (written b))
-    each-right = all-each (Right (variableCount b)) (written b) (clauses b) (λ c m. written-right b c (all-at (Inside (variables b)) (clauses-within b law) m))
-
-    within : firstWhere (beyondAt (variableCount b) (each (clauses b) (written b))) (length (each (clauses b) (written b))) ≡ none
-    within = none-first _ _ (λ i h. le-ltb _ _ (all-get (Right (variableCount b)) (pos 0) (each (clauses b) (written b)) each-right i h))
+    let within : firstWhere (beyondAt (variableCount b) (clauseList b)) (length (clauseList b)) ≡ none = none-first _ _ (λ i h. le-ltb _ _ (all-get (Right (variableCount b)) (pos 0) (clauseList b) (list-within b law) i h)) in
+    (λ t. orElse (within t) (found (list-closed b (clauses b) t) (length (clauseList b)) none))

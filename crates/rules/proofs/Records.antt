@@ -142,7 +142,8 @@ module _ {s : List ℕ} where
   all-right p e = past-size p (passes (sym e) answers)
 
 -- What the reader told, for the calls that go on after it.
-refusal-number : (r : Refusal) → toldRefusal r .number ≡ 0 → ⊥
+-- no refusal has the number 0
+pub refusal-number : (r : Refusal) → toldRefusal r .number ≡ 0 → ⊥
 refusal-number Length e = omega arith
 refusal-number Kind e = omega arith
 refusal-number Side e = omega arith
@@ -159,7 +160,7 @@ module _ (s : List ℕ) {p : Parsed} {g : Grid} (q : p ≡ Accepted g) (e : told
   told : toldParsed (Accepted g) ≡ recordAnswer s
   told = sym (ap toldParsed q) ∙ e
 
-  is-accepted : IsAccepted s
+  pub is-accepted : IsAccepted s
   is-accepted = sym (ap (λ (u : Told). u .number) told)
 
   pub read-sides : g ≡ sides s

@@ -8,6 +8,7 @@ use mathlib.Core.List.{List, [], _∷_}
 use Rattle.answers.specs.declared.Told.{Told}
 use Rattle.answers.specs.Lent.{filled, leaves}
 use Rattle.answers.proofs.Rows.{Clear, answered-clear, clear-answered}
+use Rattle.answers.proofs.Settled.{untouched}
 use Rattle.rules.specs.Record.{recordRows, IsAccepted}
 use Rattle.rules.specs.Board.{boardOf}
 use Rattle.rules.specs.Drawing.{SolutionBytes}
@@ -15,7 +16,7 @@ use Rattle.encoder.specs.Variables.{variableCount}
 use Rattle.encoder.specs.Decoding.{decoded}
 use Rattle.search.specs.Run.{Found, None, Halted, endingNumber, toldDone}
 use Rattle.demands.specs.Table.{Call}
-use Rattle.demands.proofs.Turning.{by-rows, untouched}
+use Rattle.demands.proofs.Turning.{by-rows}
 use Rattle.solver.specs.Solving.{Lent, solved, trailBytes, solverRows, solverAnswer, atFound, written, solverLeaves}
 use Rattle.solver.proofs.Begun as begun
 

@@ -1,14 +1,15 @@
 -- Row 6, and what a call with a lent buffer tells and leaves once the rows are gone through. Assumes nothing.
 use Prim.Native.Nat.{ℕ, _≤_, _<_, _^_}
 use native.Mathlib.Omega.{arith}
-use borrow.Author.Tests.{lt-ltb, le-ltb}
+use borrow.Author.Tests.{ne-eqb, lt-ltb, le-ltb}
 use mathlib.Core.Path.{_≡_, _∙_, ap}
+use mathlib.Core.Bool.{cond}
 use mathlib.Core.Option.{none, some}
 use mathlib.Core.List.{List}
 use Rattle.answers.specs.declared.Told.{Told}
 use Rattle.answers.specs.Told.{Row, turnedDown}
 use Rattle.answers.specs.Lent.{tooShort, leaves}
 use Rattle.answers.proofs.Rows.{Tells, tells}
 
 -- a count below 2^64 against the room
 module _ (room : ℕ) {needed : ℕ} where
@@ -20,6 +21,10 @@ module _ (room : ℕ) {needed : ℕ} where
 
   pub long-enough : needed ≤ room → tooShort room needed ≡ none
   long-enough l = rw (le-ltb room needed l)
+
+-- a refusal leaves all as it was
+pub untouched : {A : Type 0} (t : Told) (before after : A) → (t .number ≡ 0 → ⊥) → leaves t before after ≡ before
+untouched t before after n = ap (λ b. cond b after before) (ne-eqb (t .number) 0 n)
 
 -- what it tells, and what it leaves in the buffer
 pub settled : {A : Type 0} (rows : List Row) (t : Told) (before after : A) {new : A} {u : Told} → Tells rows t u → new ≡ leaves u before after → (u ≡ turnedDown rows t) × (new ≡ leaves (turnedDown rows t) before after)

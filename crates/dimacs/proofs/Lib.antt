@@ -1,2 +1,0 @@
--- Laws that writer and reader share.
-pub mod Settled

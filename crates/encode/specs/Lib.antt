@@ -1,0 +1,2 @@
+-- What the encoder's answer tells.
+pub mod Answer
