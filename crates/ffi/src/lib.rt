@@ -4,6 +4,7 @@ ghost use mathlib.Core.Path.{_≡_};
 ghost use Rattle.answers.specs.Told.{words};
 ghost use Rattle.rules.specs.Judge.{judgeAnswer};
 ghost use Rattle.dimacs.specs.Calls.{writerAnswer, writerLeaves, readerAnswer, readerLeaves};
+ghost use Rattle.encoder.specs.Encoding.{encoderAnswer, encoderLeaves};
 ghost use Rattle.encoder.specs.Decoding.{decoderAnswer, decoderLeaves};
 ghost use Rattle.search.specs.Run.{searchAnswer, trailAfter, marksAfter};
 
@@ -42,6 +43,17 @@ pub extern "C" fn yajilin_read(text: &[u8], list: &mut [i32], answer: &mut [u64;
 {
     let reading = dimacs_reader::read(text, list);
     reading.told().write(answer)
+}
+
+// The clauses of the record's grid. Answered: the count of elements written, V, the number of clauses.
+#[no_mangle]
+pub extern "C" fn yajilin_encode(record: &[u8], list: &mut [i32], answer: &mut [u64; 4]) -> u64
+    ensures { λ r. ⌜ r ≡ encoderAnswer (now («record» .entry)) (now (list .entry)) .number ⌝ }
+    ensures { λ r. ⌜ now (answer .exit) ≡ words (encoderAnswer (now («record» .entry)) (now (list .entry))) ⌝ }
+    ensures { λ r. ⌜ now (list .exit) ≡ encoderLeaves (now («record» .entry)) (now (list .entry)) ⌝ }
+{
+    let encoded = encode::encode(record, list);
+    encoded.told().write(answer)
 }
 
 // Draws the values of a grid's variables. Answered: the drawing is a solution and stands in `drawing`; four zeros.
