@@ -1,9 +1,9 @@
--- `searcher::append_choice` meets its contract. Assumes nothing.
+-- `stepping::append_choice` meets its contract. Assumes nothing.
 use native.Mathlib.Omega.{arith}
-use Rattle.searcher.proofs.Appending.{choice-small, choice-wrote, append-room, append-enter, append-steps}
+use Rattle.stepping.proofs.Appending.{choice-small, choice-wrote, append-room, append-enter, append-steps}
 use borrow.Author.Needs.{needs}
-use Rattle.searcher.proofs.append_choice.Statement.{statement}
-use Rattle.searcher.proofs.append_choice.Tie as tie
+use Rattle.stepping.proofs.append_choice.Statement.{statement}
+use Rattle.stepping.proofs.append_choice.Tie as tie
 
 add-put-not : tie.Need-add-put-not
 add-put-not c = let h = choice-small (c .before .before .pre .0) (c .before .before .pre .1) in omega arith

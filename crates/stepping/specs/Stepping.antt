@@ -1,4 +1,4 @@
--- What a step and a run leave in the buffers, against the definitions.
+-- What a step leaves in the buffers, against the definitions.
 use Prim.Native.Nat.{ℕ}
 use lib.IntN.{ℤ}
 use lib.ListN.{length}
@@ -8,14 +8,11 @@ use mathlib.Core.List.{List, _∷_}
 use Rattle.cnf.specs.Literals.{unclosed}
 use Rattle.search.specs.Trail.{Entry, Trail}
 use Rattle.search.specs.Step.{undo, Next, Moved, AnsweredFound, AnsweredNone, undone}
-use Rattle.search.specs.Run.{run, toldDone}
 use Rattle.search_theory.proofs.Legal.{Legal}
 use Rattle.choices.specs.Held.{Within}
 use Rattle.trails.specs.Running.{heldTrail, Running}
-use Rattle.searcher.specs.declared.Answer.{Answer}
-use Rattle.searcher.specs.declared.Stepped.{Stepped}
-use Rattle.searcher.specs.declared.Stepped.the-variants.{MovedTo, Found, None}
-use Rattle.searcher.specs.Answers.{toldAnswer, usedOf}
+use Rattle.stepping.specs.declared.Stepped.{Stepped}
+use Rattle.stepping.specs.declared.Stepped.the-variants.{MovedTo, Found, None}
 
 -- an accepted list: no literal beyond V, and its last clause is closed
 pub record Listed (v : ℕ) (ls : List ℤ) : Type 0 where
@@ -55,9 +52,3 @@ pub record Steps (ts : List ℤ) (ms : List ℕ) (used : ℕ) (next : Trail → 
   pub says : nextOf r us ns ≡ next (heldTrail ts ms used)
   pub running : Running (length ms) us ns (usedAfter r used)
   pub stays : Stays r (heldTrail ts ms used) (heldTrail us ns used)
-
--- from the buffers ts, ms with a used count, the whole search is answered and held by us, ns
-pub record Ran (ls : List ℤ) (budget : ℕ) (ts : List ℤ) (ms : List ℕ) (used : ℕ) (r : Answer) (us : List ℤ) (ns : List ℕ) : Type 0 where
-  pub tells : toldAnswer r ≡ toldDone (run (length ms) ls budget (heldTrail ts ms used))
-  pub trail : heldTrail us ns (usedOf r) ≡ run (length ms) ls budget (heldTrail ts ms used) .trail
-  pub running : Running (length ms) us ns (usedOf r)

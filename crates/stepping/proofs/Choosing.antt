@@ -14,9 +14,9 @@ use Rattle.search_theory.proofs.Choices.{choice-laws}
 use Rattle.search_theory.proofs.Steps.{Stepped, moved, exhausted, full, stepped}
 use Rattle.choices.specs.Held.{held}
 use Rattle.trails.specs.Running.{heldTrail, Running}
-use Rattle.searcher.specs.declared.Stepped.{Stepped as Answered}
-use Rattle.searcher.specs.declared.Stepped.the-variants.{Found}
-use Rattle.searcher.specs.Stepping.{Listed, Allows, undoes, appends, Steps}
+use Rattle.stepping.specs.declared.Stepped.{Stepped as Answered}
+use Rattle.stepping.specs.declared.Stepped.the-variants.{Found}
+use Rattle.stepping.specs.Stepping.{Listed, Allows, undoes, appends, Steps}
 
 -- a trail that a step moves to is legal
 moved-legal : {v : ℕ} {ls : List ℤ} {t u : Trail} {x : Next} → Stepped v ls t x → x ≡ Moved u → Legal v u

@@ -1,11 +1,11 @@
--- `searcher::undo` meets its contract. Assumes nothing.
-use Rattle.searcher.proofs.Appending.{append-enter, Backed, Forgot, undo-nothing, back-below, back-inside, back-small, back-allowed, back-steps}
+-- `stepping::undo` meets its contract. Assumes nothing.
+use Rattle.stepping.proofs.Appending.{append-enter, Backed, Forgot, undo-nothing, back-below, back-inside, back-small, back-allowed, back-steps}
 use native.Mathlib.Omega.{arith}
 use Rattle.answers.proofs.First.{found-at, found-none}
 use Rattle.trails.proofs.Entries.{running-used}
 use borrow.Author.Needs.{needs}
-use Rattle.searcher.proofs.undo.Statement.{statement}
-use Rattle.searcher.proofs.undo.Tie as tie
+use Rattle.stepping.proofs.undo.Statement.{statement}
+use Rattle.stepping.proofs.undo.Tie as tie
 
 -- an entry marked 1 was found
 back : (c : tie.After-p) → Backed (c .before .before .before .before .before .args .trail .now) (c .before .before .before .before .before .args .marks .now) (c .before .before .before .before .before .args .used) (c .p .given .0 .0)

@@ -1,9 +1,9 @@
--- `searcher::append_forced` meets its contract. Assumes nothing.
+-- `stepping::append_forced` meets its contract. Assumes nothing.
 use native.Mathlib.Omega.{arith}
-use Rattle.searcher.proofs.Appending.{legal-place, append-room, append-inside, append-enter, append-steps}
+use Rattle.stepping.proofs.Appending.{legal-place, append-room, append-inside, append-enter, append-steps}
 use borrow.Author.Needs.{needs}
-use Rattle.searcher.proofs.append_forced.Statement.{statement}
-use Rattle.searcher.proofs.append_forced.Tie as tie
+use Rattle.stepping.proofs.append_forced.Statement.{statement}
+use Rattle.stepping.proofs.append_forced.Tie as tie
 
 copy-at-requires : tie.Need-copy-at-requires
 copy-at-requires c κs = (append-inside (c .before .before .pre .0) (c .before .before .pre .1), legal-place (c .before .before .args .list .now) (c .before .before .args .place) (c .before .before .pre .1))

@@ -1,4 +1,4 @@
--- `searcher::step` meets its contract. Assumes nothing.
+-- `stepping::step` meets its contract. Assumes nothing.
 use lib.IntN.{pos, negsuc}
 use lib.ListN.{length, getD}
 use mathlib.Core.Path.{_≡_}
@@ -7,12 +7,12 @@ use Rattle.search.specs.Trail.{entry}
 use Rattle.search.specs.Step.{failedClause, forcedPlace, step}
 use Rattle.choices.specs.Held.{held}
 use Rattle.trails.specs.Running.{heldTrail}
-use Rattle.searcher.specs.Stepping.{appends}
+use Rattle.stepping.specs.Stepping.{appends}
 use Rattle.answers.proofs.First.{found-at, found-none}
-use Rattle.searcher.proofs.Choosing.{Standing, by-choice, choice-allowed, on-failed, on-forced, on-free, on-full}
+use Rattle.stepping.proofs.Choosing.{Standing, by-choice, choice-allowed, on-failed, on-forced, on-free, on-full}
 use borrow.Author.Needs.{needs}
-use Rattle.searcher.proofs.step.Statement.{statement}
-use Rattle.searcher.proofs.step.Tie as tie
+use Rattle.stepping.proofs.step.Statement.{statement}
+use Rattle.stepping.proofs.step.Tie as tie
 
 standing : (c : tie.Start) → Standing (c .args .list .now) (c .args .trail .now) (c .args .marks .now) (c .args .used)
 standing c = record { running = c .pre .0; listed = c .pre .1 }
