@@ -1,9 +1,9 @@
--- `choices::entries::wrong_lengths` meets its contract. Assumes nothing.
+-- `entries::wrong_lengths` meets its contract. Assumes nothing.
 use borrow.Author.Tests.{eq-eqb, ne-eqb}
 use mathlib.Core.Path.{sym, _∙_}
 use borrow.Author.Needs.{needs}
-use Rattle.choices.proofs.entries.wrong_lengths.Statement.{statement}
-use Rattle.choices.proofs.entries.wrong_lengths.Tie as tie
+use Rattle.entries.proofs.wrong_lengths.Statement.{statement}
+use Rattle.entries.proofs.wrong_lengths.Tie as tie
 
 too-many-variables-requires : tie.Need-too-many-variables-requires
 too-many-variables-requires c κs = search needs
