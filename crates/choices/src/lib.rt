@@ -1,4 +1,4 @@
-// What a step of the search chooses, and what is checked before the first: functions that only read.
+// What a step of the search chooses: functions that only read.
 ghost use mathlib.Core.Path.{_≡_};
 ghost use Prim.Native.Nat.{_-_, _/_, _≤_};
 ghost use lib.ListN.{length, getD};
@@ -159,5 +159,3 @@ pub fn last_mark(marks: &[u8], used: usize) -> Place
     }
     Place::Nowhere
 }
-
-pub mod entries; // what is checked before the first step

@@ -11,13 +11,14 @@ use Rattle.search.specs.Run.{Ending, Found, None, Halted, Done, ends, after, en
 use Rattle.search.proofs.Trails.{length-trail}
 use Rattle.choices.specs.Held.{lows}
 use Rattle.trails.specs.Running.{heldTrail, Running}
+use Rattle.stepping.specs.declared.Stepped.{Stepped}
+use Rattle.stepping.specs.declared.Stepped.the-variants.{MovedTo, Found as SaysFound, None as SaysNone}
+use Rattle.stepping.specs.Stepping.{Listed, nextOf, Steps}
+use Rattle.stepping.proofs.Choosing.{Standing}
 use Rattle.searcher.specs.declared.Answer.{Answer}
 use Rattle.searcher.specs.declared.Answer.the-variants.{Found as FoundAt, None as NoneAt, Halted as HaltedAt}
-use Rattle.searcher.specs.declared.Stepped.{Stepped}
-use Rattle.searcher.specs.declared.Stepped.the-variants.{MovedTo, Found as SaysFound, None as SaysNone}
 use Rattle.searcher.specs.Answers.{toldAnswer, usedOf}
-use Rattle.searcher.specs.Stepping.{Listed, nextOf, Steps, Ran}
-use Rattle.searcher.proofs.Choosing.{Standing}
+use Rattle.searcher.specs.Runs.{Ran}
 
 -- what a search comes to after n steps more
 abbrev counted : ℕ → Done → Done

@@ -1,5 +1,3 @@
--- Laws of the search in code. Appending: an entry more, and undoing. Choosing: one step. Budget: the loop. Calling: the whole call.
-pub mod Appending
-pub mod Choosing
+-- Laws of the search in code. Budget: the loop. Calling: the whole call.
 pub mod Budget
 pub mod Calling

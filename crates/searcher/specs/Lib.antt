@@ -1,3 +1,3 @@
--- The search in code. Answers: what its answers tell. Stepping: the contracts of a step and of a run.
+-- The search in code. Answers: what its answers tell. Runs: the contract of a run.
 pub mod Answers
-pub mod Stepping
+pub mod Runs

@@ -61,7 +61,7 @@ enum-told : tie.Need-enum-told
 enum-told c = search needs
 
 first-wrong-entry-requires : tie.Need-first-wrong-entry-requires
-first-wrong-entry-requires c κs = let z = lengths (c .before .before .before .before .before) in let i = z .inside in let n = z .literals in let m = z .bytes in (omega arith, omega arith)
+first-wrong-entry-requires c κs = let z = lengths (c .before .before .before .before .before) in let i = z .inside in let n = z .literals in let m = z .bytes in (z .few, (omega arith, omega arith))
 
 enum-known-p-2 : tie.Need-enum-known-p-2
 enum-known-p-2 c = search needs
