@@ -11,12 +11,10 @@ use Rattle.answers.specs.declared.Told.{Told}
 use Rattle.answers.specs.Told.{Row, turnedDown}
 use Rattle.answers.specs.Lent.{filled, leaves}
 use Rattle.answers.proofs.Rows.{Clear, answered-clear, clear-answered, no-cause, still-turned, turned-append}
-use Rattle.rules.specs.declared.Refusal.{Refusal}
-use Rattle.rules.specs.declared.Refusal.the-variants.{Length, Kind, Side, Size, NotACell}
 use Rattle.rules.specs.declared.Fault.{Fault}
 use Rattle.rules.specs.declared.Fault.the-variants.{Record as NotRead, DrawingLength as NotDrawn, DrawingByte, Touching, ClueNotMet, LinkUnmatched, NotTwoLinks, NotOneLoop}
-use Rattle.rules.specs.Record.{toldRefusal}
 use Rattle.rules.specs.Judge.{saysYes, toldFault}
+use Rattle.rules.proofs.Records.{refusal-number}
 use Rattle.encoder.specs.Lists.{upTo}
 use Rattle.encoder.proofs.Lists.{made-long}
 use Rattle.decoder.specs.declared.Undrawn.{Undrawn}
@@ -24,13 +22,6 @@ use Rattle.decoder.specs.declared.Undrawn.the-variants.{Record, ValuesLe
 use Rattle.decoder.specs.Answer.{toldUndrawn, valueRows}
 
 -- no refusal has the number 0
-refusal-number : (r : Refusal) → toldRefusal r .number ≡ 0 → ⊥
-refusal-number Length e = omega arith
-refusal-number Kind e = omega arith
-refusal-number Side e = omega arith
-refusal-number Size e = omega arith
-refusal-number (NotACell x) e = omega arith
-
 fault-number : (f : Fault) → toldFault f .number ≡ 0 → ⊥
 fault-number (NotRead r) e = refusal-number r e
 fault-number NotDrawn e = omega arith

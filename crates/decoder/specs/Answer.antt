@@ -1,8 +1,7 @@
--- What the decoder's answer tells, its rows of "Turned down" after the record reader's, and what its functions ask.
+-- What the decoder's answer tells, and its rows of "Turned down" after the record reader's.
 use Prim.Native.Nat.{ℕ}
 use lib.Dec.{eqb}
 use lib.ListN.{length}
-use mathlib.Core.Path.{_≡_}
 use mathlib.Core.Bool.{not}
 use mathlib.Core.List.{List, [], _∷_, _++_}
 use Rattle.answers.specs.declared.Told.{Told}
@@ -11,12 +10,10 @@ use Rattle.rules.specs.declared.Grid.{Grid}
 use Rattle.rules.specs.declared.Parsed.{Parsed}
 use Rattle.rules.specs.declared.Parsed.the-variants.{Accepted, Refused as NotRead}
 use Rattle.rules.specs.Record.{size, toldRefusal}
-use Rattle.rules.specs.Board.{Board, gridBoard}
+use Rattle.rules.specs.Board.{gridBoard}
 use Rattle.rules.specs.Judge.{judgeRows, saysYes, toldFault}
-use Rattle.encoder.specs.Variables.{Z, variableCount}
-use Rattle.encoder.specs.Decoding.{valueOf, drawnLink, drawnByte, decoded, wrongValue}
-use Rattle.encoder.proofs.Places.{rank}
-use Rattle.numbering.specs.Tables.{Table, WaysHeld}
+use Rattle.encoder.specs.Variables.{variableCount}
+use Rattle.encoder.specs.Decoding.{decoded, wrongValue}
 use Rattle.decoder.specs.declared.Undrawn.{Undrawn}
 use Rattle.decoder.specs.declared.Undrawn.the-variants.{Record, ValuesLength, DrawingLength, Value, Judged}
 use Rattle.decoder.specs.declared.Decoded.{Decoded}
@@ -49,17 +46,3 @@ valueRows v n values lent =
 -- the rows after the record reader's, over the grid that was read
 abbrev pub gridRows : Grid → List ℕ → List ℕ → List ℕ → List Row
 gridRows g s values lent = valueRows (variableCount (gridBoard g s)) (size g) values (length lent) ++ judgeRows (gridBoard g s) (decoded (gridBoard g s) values)
-
--- the byte of a cell in the drawing that values give
-abbrev pub byteAt : Board → List ℕ → ℕ → ℕ
-byteAt b values x = drawnByte (b .isOpen x) (valueOf b values (Z x)) (drawnLink b (valueOf b values) x)
-
--- what the functions ask that look at values: as many as there are variables, with F and the table of first E variables,
-pub record Valued (g : Grid) (s values : List ℕ) (f : ℕ) (firsts : List ℕ) : Type 0 where
-  pub ways : WaysHeld g s f firsts
-  pub long : length values ≡ variableCount (gridBoard g s)
-
--- and with the table of ranks
-pub record Numbered (g : Grid) (s values : List ℕ) (f : ℕ) (ranks firsts : List ℕ) : Type 0 where
-  pub valued : Valued g s values f firsts
-  pub ranked : Table (rank (gridBoard g s)) (size g) ranks

@@ -1,2 +1,2 @@
--- The decoder's answer in document 01's numbers, and what its functions ask.
+-- The decoder's answer in document 01's numbers.
 pub mod Answer

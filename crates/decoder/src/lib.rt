@@ -9,8 +9,10 @@ ghost use Rattle.rules.specs.Record.{size, Held};
 ghost use Rattle.rules.specs.Board.{gridBoard};
 ghost use Rattle.rules.specs.Judge.{judgeRows, saysYes, toldVerdict};
 ghost use Rattle.encoder.specs.Decoding.{decoded, decoderAnswer, decoderLeaves};
-ghost use Rattle.decoder.specs.Answer.{valueRows, gridRows, Numbered, passedUp, toldDecoded};
+ghost use Rattle.drawer.specs.Values.{Numbered};
+ghost use Rattle.decoder.specs.Answer.{valueRows, gridRows, passedUp, toldDecoded};
 use answers::Place;
+use drawer::draw;
 use judge::judge_grid;
 use numbering::fill_ranks;
 use numbering::fill_ways;
@@ -23,7 +25,6 @@ use rules::Verdict;
 use rules::record::read;
 
 pub mod told; // what the answers tell
-mod draw; // from values to bytes
 
 // Why values are turned down: the record's refusal, else 8, 7 and 9 of document 01's table, else the judge's.
 pub enum Undrawn {
@@ -100,7 +101,7 @@ fn judged(
     ensures { λ r. ⌜ now (drawing .exit) ≡ leaves (turnedDown (judgeRows (gridBoard g (now («record» .entry))) (decoded (gridBoard g (now («record» .entry))) (now (values .entry)))) saysYes) (now (drawing .entry)) (decoded (gridBoard g (now («record» .entry))) (now (values .entry))) ⌝ }
 {
     let mut own = [0u8; MOST_CELLS];
-    draw::draw(g, record, values, open, ranks, firsts, &mut own);
+    draw(g, record, values, open, ranks, firsts, &mut own);
     let n = g.size();
     let verdict = judge_grid(g, record, &own[..n]);
     let answered = answer(verdict);

@@ -1,7 +1,3 @@
--- Laws of reading a text, for the proofs of the reader.
-pub mod Runs
-pub mod Tokens
-pub mod Tests
-pub mod Heads
+-- Laws of reading a list, and of the reader's rows.
 pub mod Listings
 pub mod ReaderRows

@@ -1,6 +1,7 @@
 -- The loop that reads the list. Assumes nothing.
 use Prim.Native.Nat.{ℕ, suc, _+_, _≤_, _<_}
 use native.Mathlib.Omega.{arith}
+use native.Mathlib.Numerals.{add-one}
 use borrow.Author.Tests.{eq-eqb, ne-eqb}
 use lib.Dec.{eqb}
 use lib.IntN.{ℤ}
@@ -10,13 +11,22 @@ use mathlib.Core.Bool.{Bool, true, false, not, cond}
 use mathlib.Core.List.{List, [], _∷_, _++_, append-nil}
 use Rattle.answers.specs.Lent.{Wrote}
 use Rattle.answers.proofs.Lent.{wrote-nothing, wrote-after, wrote-recast}
-use Rattle.dimacs_reader.specs.declared.Cursor.{Cursor}
-use Rattle.dimacs_reader.specs.declared.Element.{Element}
-use Rattle.dimacs_reader.specs.declared.Element.the-variants.{Is as ElementIs, Refused as NoElement}
 use Rattle.dimacs.specs.Automaton.{endFrom, refusedFrom}
 use Rattle.dimacs.specs.Reader.{Header, State, clause, listFrom}
-use Rattle.dimacs_reader.specs.Cursors.{Run, Dead, headerWith, literal, closedAfter, ElementRead, Elemental, ListRead}
-use Rattle.dimacs_reader.proofs.Runs.{run-stay, run-then, run-dead, dead-step, dead-end}
+use Rattle.dimacs_cursor.specs.declared.Cursor.{Cursor}
+use Rattle.dimacs_cursor.specs.declared.Element.{Element}
+use Rattle.dimacs_cursor.specs.declared.Element.the-variants.{Is as ElementIs, Refused as NoElement}
+use Rattle.dimacs_cursor.specs.Cursors.{Run, Dead, headerWith, literal, closedAfter, ElementRead, Elemental}
+use Rattle.dimacs_cursor.proofs.Runs.{run-stay, run-then, run-dead, dead-step, dead-end}
+use Rattle.dimacs_reader.specs.Lists.{ListRead}
+
+-- the clauses that an element leaves closed
+module _ (x : ℕ) where
+  pub closed-zero : (k : ℕ) → x ≡ 0 → k + 1 ≡ closedAfter k x
+  closed-zero k e = rw (eq-eqb x 0 e) (add-one k)
+
+  pub closed-other : (k : ℕ) → (x ≡ 0 → ⊥) → k ≡ closedAfter k x
+  closed-other k n = rw (ne-eqb x 0 n)
 
 -- k clauses are closed, n elements read and written
 pub record Listing (text : List ℕ) (v c a : ℕ) (before after : List ℤ) (at n k : ℕ) (begun : Bool) : Type 0 where

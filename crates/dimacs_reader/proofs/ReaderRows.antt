@@ -12,17 +12,18 @@ use Rattle.answers.specs.Told.{answer, refusal}
 use Rattle.answers.specs.Lent.{filled, leaves}
 use Rattle.answers.proofs.Lent.{wrote-recast, wrote-filled}
 use Rattle.answers.proofs.Rows.{Tells, turns, passes, answers}
-use Rattle.dimacs_reader.specs.declared.Cursor.{Cursor}
-use Rattle.dimacs_reader.specs.declared.Head.{Head}
-use Rattle.dimacs_reader.specs.declared.Head.the-variants.{Is as HeadIs, Refused as NoHead}
-use Rattle.dimacs_reader.specs.declared.Listed.{Listed}
-use Rattle.dimacs_reader.specs.declared.Listed.the-variants.{Elements, Refused as NoList}
 use Rattle.dimacs.specs.Automaton.{next}
 use Rattle.dimacs.specs.Reader.{Header, State, line, clause, noHeader, headerIn, refusedAt, listOf, listFrom, headerOf}
-use Rattle.dimacs_reader.specs.Cursors.{Dead, headerWith, HeadRead, Heads, ListRead, Lists}
 use Rattle.dimacs.specs.Calls.{readerRows, readerAnswer, readerLeaves}
 use Rattle.answers.proofs.Settled.{short-by, long-enough, settled}
-use Rattle.dimacs_reader.proofs.Runs.{run-dead}
+use Rattle.dimacs_cursor.specs.declared.Cursor.{Cursor}
+use Rattle.dimacs_cursor.specs.declared.Head.{Head}
+use Rattle.dimacs_cursor.specs.declared.Head.the-variants.{Is as HeadIs, Refused as NoHead}
+use Rattle.dimacs_cursor.specs.Cursors.{Dead, headerWith, HeadRead, Heads}
+use Rattle.dimacs_cursor.proofs.Runs.{run-dead}
+use Rattle.dimacs_reader.specs.declared.Listed.{Listed}
+use Rattle.dimacs_reader.specs.declared.Listed.the-variants.{Elements, Refused as NoList}
+use Rattle.dimacs_reader.specs.Lists.{ListRead, Lists}
 
 pub head-read : (text : List ℕ) {t : Head} {v c : ℕ} {k : Cursor} → Heads text line 0 t → t ≡ HeadIs v c k → HeadRead text line 0 v c (k .at)
 head-read text d e = subst (Heads text line 0) e d

@@ -1,2 +1,2 @@
 -- What the contracts of the reader's parts cite.
-pub mod Cursors
+pub mod Lists

@@ -1,121 +1,24 @@
-// The reader: the list of a text, byte by byte.
+// The reader: the list of a text, token by token.
 ghost use mathlib.Core.Path.{_≡_};
-ghost use mathlib.Core.Bool.{Bool, true, not, _&&_};
 ghost use mathlib.Core.List.{[], _∷_};
-ghost use Prim.Native.Nat.{ℕ, _≤_, _<_};
-ghost use lib.Dec.{eqb};
-ghost use lib.ListN.{length};
+ghost use Prim.Native.Nat.{_≤_, _<_};
 ghost use Rattle.answers.specs.Lent.{Wrote};
 ghost use Rattle.cnf.specs.Literals.{mostVariables};
-ghost use Rattle.dimacs.specs.Text.{preamble};
-ghost use Rattle.dimacs.specs.Reader.{Header, Number, State, line, word, first, digits, clause, ofVariables, element, when, most, zeroAllowed, isDigit, afterNumber};
-ghost use Rattle.dimacs_reader.specs.Cursors.{ByteAt, isFirst, isNext, Passes, Numbers, Fields, headerWith, Heads, literal, behindNumber, closedAfter, Elemental, Lists, HeadRead};
+ghost use Rattle.dimacs.specs.Reader.{line};
 ghost use Rattle.dimacs.specs.Calls.{readerAnswer, readerLeaves};
 ghost use Rattle.dimacs.specs.Answers.{toldReading};
+ghost use Rattle.dimacs_cursor.specs.Cursors.{headerWith, literal, closedAfter, HeadRead};
+ghost use Rattle.dimacs_reader.specs.Lists.{Lists};
 use dimacs::ReadRefusal;
 use dimacs::Reading;
-
-// A place in a text.
-pub struct Cursor {
-    pub at: usize,
-}
-
-// What is passed over at a place: the place after it, or the place of the refusal.
-pub enum Passed {
-    To(Cursor),
-    Refused(usize),
-}
-
-// A number at a place: the number and the place after it, or the place of the refusal.
-pub enum Token {
-    Number(usize, Cursor),
-    Refused(usize),
-}
-
-// The header: V, C and the place after it, or the place of the refusal.
-pub enum Head {
-    Is(usize, usize, Cursor),
-    Refused(usize),
-}
-
-// An element: whether a minus is before it, its number and the place after it, or the place of the refusal.
-pub enum Element {
-    Is(bool, usize, Cursor),
-    Refused(usize),
-}
+use dimacs_cursor::Cursor;
+use dimacs_cursor::Element;
+use dimacs_cursor::Head;
 
 // The list: the count of its elements, or the place of the refusal.
 pub enum Listed {
     Elements(usize),
     Refused(usize),
-}
-
-// `p cnf `
-const WORD: [u8; 6] = [112, 32, 99, 110, 102, 32];
-
-fn byte_at(text: &[u8], at: usize) -> usize
-    requires { ⌜ at < length (now text) ⌝ }
-    ensures { λ r. ⌜ ByteAt (now (text .entry)) at r ⌝ }
-{
-    text[at] as usize
-}
-
-// A line that starts otherwise than with `c`.
-fn other_line(inside: bool, b: usize) -> bool
-    ensures { λ r. ⌜ r ≡ (not inside && not (eqb b 99)) ⌝ }
-{
-    if inside {
-        return false;
-    }
-    b != 99
-}
-
-fn is_digit(b: usize) -> bool
-    ensures { λ r. ⌜ r ≡ isDigit b ⌝ }
-{
-    if b < 48 {
-        return false;
-    }
-    b <= 57
-}
-
-// A byte as the first digit of a number.
-fn starts(b: usize, bound: usize, zero: bool) -> bool
-    ensures { λ r. ⌜ r ≡ isFirst b bound zero ⌝ }
-{
-    if b < 48 {
-        return false;
-    }
-    if b > 57 {
-        return false;
-    }
-    if b > 48 {
-        return b - 48 <= bound;
-    }
-    zero
-}
-
-// A digit after a number. The number that it would make is not computed, since it may be too large.
-fn goes_on(x: usize, d: usize, bound: usize) -> bool
-    ensures { λ r. ⌜ r ≡ isNext x d bound ⌝ }
-{
-    if x == 0 {
-        return false;
-    }
-    if x > bound / 10 {
-        return false;
-    }
-    d <= bound - x * 10
-}
-
-// The byte behind an element.
-fn behind(n: usize) -> usize
-    ensures { λ r. ⌜ r ≡ behindNumber n ⌝ }
-{
-    if n == 0 {
-        return 10;
-    }
-    32
 }
 
 // The clauses that are closed after an element.
@@ -137,156 +40,6 @@ fn put_literal(out: &mut [i32], at: usize, negative: bool, x: usize) -> usize
         return cnf::put_not(out, at, x);
     }
     cnf::put(out, at, x)
-}
-
-impl Cursor {
-    // Past the comment lines.
-    fn after_comments(self, text: &[u8]) -> Passed
-        ensures { λ r. ⌜ Passes (now (text .entry)) line (self .at) (word preamble) r ⌝ }
-    {
-        let mut at = self.at;
-        let mut inside = false;
-        while at < text.len() {
-            let b = byte_at(text, at);
-            if other_line(inside, b) {
-                return Passed::To(Cursor { at });
-            }
-            inside = b != 10;
-            at += 1;
-        }
-        Passed::Refused(at)
-    }
-
-    // Past `p cnf `.
-    fn word(self, text: &[u8]) -> Passed
-        ensures { λ r. ⌜ Passes (now (text .entry)) (word preamble) (self .at) (first ofVariables) r ⌝ }
-    {
-        let mut at = self.at;
-        let mut i: usize = 0;
-        while i < 6 {
-            if at >= text.len() {
-                return Passed::Refused(at);
-            }
-            if text[at] != WORD[i] {
-                return Passed::Refused(at);
-            }
-            at += 1;
-            i += 1;
-        }
-        Passed::To(Cursor { at })
-    }
-
-    // The digits after the first.
-    fn more_digits(self, text: &[u8], bound: usize, start: usize) -> Token
-        requires { ⌜ start ≤ bound ⌝ }
-        ensures { λ r. ⌜ ((n : Number) → most n ≡ bound → Numbers (now (text .entry)) n (digits n start) (self .at) r) ⌝ }
-    {
-        let mut x = start;
-        let mut at = self.at;
-        while at < text.len() {
-            let b = byte_at(text, at);
-            if !is_digit(b) {
-                return Token::Number(x, Cursor { at });
-            }
-            let d = b - 48;
-            if !goes_on(x, d, bound) {
-                return Token::Refused(at);
-            }
-            x = x * 10 + d;
-            at += 1;
-        }
-        Token::Refused(at) // the text ends too soon
-    }
-
-    // A number to a bound, 0 among them or not.
-    fn number(self, text: &[u8], bound: usize, zero: bool) -> Token
-        ensures { λ r. ⌜ ((n : Number) → most n ≡ bound → zeroAllowed n ≡ zero → Numbers (now (text .entry)) n (first n) (self .at) r) ⌝ }
-    {
-        let at = self.at;
-        if at >= text.len() {
-            return Token::Refused(at);
-        }
-        let b = byte_at(text, at);
-        if !starts(b, bound, zero) {
-            return Token::Refused(at);
-        }
-        let next = Cursor { at: at + 1 };
-        next.more_digits(text, bound, b - 48)
-    }
-
-    // A number of the header, and the byte after it.
-    fn field(self, text: &[u8], bound: usize, end: usize) -> Token
-        ensures { λ r. ⌜ ((n : Number) (after : ℕ → State) → most n ≡ bound → zeroAllowed n ≡ true → ((x b : ℕ) → afterNumber n x b ≡ when (eqb b end) (after x)) → Fields (now (text .entry)) n (self .at) after r) ⌝ }
-    {
-        match self.number(text, bound, true) {
-            Token::Number(x, next) => {
-                let at = next.at;
-                if byte_at(text, at) != end {
-                    return Token::Refused(at);
-                }
-                Token::Number(x, Cursor { at: at + 1 })
-            }
-            Token::Refused(at) => Token::Refused(at),
-        }
-    }
-
-    // V and C.
-    fn counts(self, text: &[u8]) -> Head
-        ensures { λ r. ⌜ Heads (now (text .entry)) (first ofVariables) (self .at) r ⌝ }
-    {
-        match self.field(text, 16777216, 32) {
-            Token::Number(variables, after) => match after.field(text, 18446744073709551615, 10) {
-                Token::Number(clauses, next) => Head::Is(variables, clauses, next),
-                Token::Refused(at) => Head::Refused(at),
-            },
-            Token::Refused(at) => Head::Refused(at),
-        }
-    }
-
-    // The header, after the comment lines.
-    fn header(self, text: &[u8]) -> Head
-        ensures { λ r. ⌜ Heads (now (text .entry)) line (self .at) r ⌝ }
-    {
-        match self.after_comments(text) {
-            Passed::To(first) => match first.word(text) {
-                Passed::To(next) => next.counts(text),
-                Passed::Refused(at) => Head::Refused(at),
-            },
-            Passed::Refused(at) => Head::Refused(at),
-        }
-    }
-
-    // An element after its sign, and the byte behind it.
-    fn unsigned(self, text: &[u8], variables: usize, negative: bool) -> Element
-        ensures { λ r. ⌜ ((h : Header) (k : ℕ) → h .variables ≡ variables → Elemental (now (text .entry)) h k (first (element h k negative)) (self .at) r) ⌝ }
-    {
-        match self.number(text, variables, !negative) {
-            Token::Number(x, next) => {
-                let at = next.at;
-                if byte_at(text, at) != behind(x) {
-                    return Element::Refused(at);
-                }
-                Element::Is(negative, x, Cursor { at: at + 1 })
-            }
-            Token::Refused(at) => Element::Refused(at),
-        }
-    }
-
-    // An element, where a clause may begin or go on.
-    fn element(self, text: &[u8], variables: usize) -> Element
-        requires { ⌜ self .at < length (now text) ⌝ }
-        ensures { λ r. ⌜ ((h : Header) (k : ℕ) (begun : Bool) → h .variables ≡ variables → (k ≡ h .clauses → ⊥) → Elemental (now (text .entry)) h k (clause h k begun) (self .at) r) ⌝ }
-    {
-        let at = self.at;
-        if byte_at(text, at) != 45 {
-            return self.unsigned(text, variables, false);
-        }
-        if variables == 0 {
-            return Element::Refused(at);
-        }
-        let next = Cursor { at: at + 1 };
-        next.unsigned(text, variables, true)
-    }
 }
 
 // The list after the header. Elements beyond the end of the buffer are counted and left out.

@@ -141,8 +141,7 @@ module _ {s : List ℕ} where
   pub all-right : SizeRight s → none ≡ firstWhere (wrongCell s) (size (sides s)) → answer (sides s .rows) (sides s .columns) 0 ≡ recordAnswer s
   all-right p e = past-size p (passes (sym e) answers)
 
--- What the reader told, for the calls that go on after it.
--- no refusal has the number 0
+-- What the reader told, for the calls that go on after it: no refusal has the number 0
 pub refusal-number : (r : Refusal) → toldRefusal r .number ≡ 0 → ⊥
 refusal-number Length e = omega arith
 refusal-number Kind e = omega arith

@@ -1,6 +1,6 @@
 -- `dimacs_reader::read_body` meets its contract. Assumes nothing.
 use native.Mathlib.Omega.{arith}
-use Rattle.dimacs_reader.specs.Cursors.{headerWith}
+use Rattle.dimacs_cursor.specs.Cursors.{headerWith}
 use Rattle.dimacs_reader.proofs.ReaderRows.{list-read, list-dead, body-refused, body-short, body-read}
 use borrow.Author.Needs.{needs}
 use Rattle.dimacs_reader.proofs.read_body.Statement.{statement}

@@ -5,7 +5,7 @@ use lib.ListN.{length}
 use mathlib.Core.Path.{refl}
 use Rattle.answers.proofs.Lent.{wrote-length}
 use Rattle.dimacs.specs.Reader.{clause}
-use Rattle.dimacs_reader.specs.Cursors.{headerWith, ElementRead, Elemental}
+use Rattle.dimacs_cursor.specs.Cursors.{headerWith, ElementRead, Elemental}
 use Rattle.dimacs_reader.proofs.Listings.{Listing, list-start, element-read, list-over, list-refused, list-more, list-begun, list-few, list-end}
 use Rattle.dimacs_reader.proofs.read_list.Statement.{statement}
 use Rattle.dimacs_reader.proofs.read_list.Tie as tie

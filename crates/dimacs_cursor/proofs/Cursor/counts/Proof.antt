@@ -1,0 +1,68 @@
+-- `dimacs_cursor::Cursor::counts` meets its contract. Assumes nothing.
+use Prim.Native.Nat.{ℕ}
+use mathlib.Core.Path.{refl}
+use mathlib.Core.Bool.{false}
+use Rattle.dimacs.specs.Reader.{State, first, clause, ofVariables, ofClauses}
+use Rattle.dimacs_cursor.specs.Cursors.{FieldRead, Fields, headerWith}
+use Rattle.dimacs_cursor.proofs.Runs.{run-then, run-dead}
+use Rattle.dimacs_cursor.proofs.Heads.{field-read, field-refused}
+use Rattle.dimacs_cursor.proofs.Cursor.counts.Statement.{statement}
+use Rattle.dimacs_cursor.proofs.Cursor.counts.Tie as tie
+
+-- V, and the state after it
+abbrev after-v : ℕ → State
+after-v x = first (ofClauses x)
+
+found-v : (c : tie.After-field) → Fields (c .before .before .args .text .now) ofVariables (c .before .before .args .self .at) after-v (c .field .result)
+found-v c = c .field .ensures ofVariables after-v refl refl (λ x b. refl)
+
+read-v : (c : tie.After-variables) → FieldRead (c .before .before .before .before .args .text .now) ofVariables (c .before .before .before .before .args .self .at) (after-v (c .variables .given .0 .0)) (c .variables .given .0 .0) (c .variables .given .0 .1 .0 .at)
+read-v c = field-read (c .before .before .before .before .args .text .now) (c .before .before .before .before .args .self .at) ofVariables after-v (found-v (c .before .before)) (c .variables .given .1)
+
+-- C, and the state after it
+abbrev after-c : ℕ → ℕ → State
+after-c v x = clause (headerWith v x) 0 false
+
+found-c : (c : tie.After-field2) → Fields (c .before .before .before .before .before .before .args .text .now) (ofClauses (c .before .before .variables .given .0 .0)) (c .before .before .variables .given .0 .1 .0 .at) (after-c (c .before .before .variables .given .0 .0)) (c .field2 .result)
+found-c c = c .field2 .ensures (ofClauses (c .before .before .variables .given .0 .0)) (after-c (c .before .before .variables .given .0 .0)) refl refl (λ x b. refl)
+
+field-requires : tie.Need-field-requires
+field-requires c κs = tt
+
+enum-known-variables : tie.Need-enum-known-variables
+enum-known-variables c = c .match .keys1
+
+field-requires-2 : tie.Need-field-requires-2
+field-requires-2 c κs = tt
+
+enum-known-clauses : tie.Need-enum-known-clauses
+enum-known-clauses c = c .match2 .keys1
+
+enum-known-at : tie.Need-enum-known-at
+enum-known-at c = c .match2 .keys2
+
+enum-known-at-2 : tie.Need-enum-known-at-2
+enum-known-at-2 c = c .match .keys2
+
+returns : tie.Need-returns
+returns c = record { run = run-then (read-v (c .before .before .before .before .before) .run) (field-read (c .before .before .before .before .before .before .before .before .before .args .text .now) (c .before .before .before .before .before .variables .given .0 .1 .0 .at) (ofClauses (c .before .before .before .before .before .variables .given .0 .0)) (after-c (c .before .before .before .before .before .variables .given .0 .0)) (found-c (c .before .before .before)) (c .before .clauses .given .1) .run); small = read-v (c .before .before .before .before .before) .small }
+
+returns-2 : tie.Need-returns-2
+returns-2 c = run-dead (read-v (c .before .before .before .before .before) .run) (field-refused (c .before .before .before .before .before .before .before .before .before .args .text .now) (c .before .before .before .before .before .variables .given .0 .1 .0 .at) (ofClauses (c .before .before .before .before .before .variables .given .0 .0)) (after-c (c .before .before .before .before .before .variables .given .0 .0)) (found-c (c .before .before .before)) (c .before .at .given .1))
+
+returns-3 : tie.Need-returns-3
+returns-3 c = field-refused (c .before .before .before .before .before .args .text .now) (c .before .before .before .before .before .args .self .at) ofVariables after-v (found-v (c .before .before .before)) (c .before .at2 .given .1)
+
+pub counts-spec : {M : Type 1} → statement M
+counts-spec =
+    tie.close
+    (tie.spec
+    field-requires
+    enum-known-variables
+    field-requires-2
+    enum-known-clauses
+    enum-known-at
+    enum-known-at-2
+    returns
+    returns-2
+    returns-3)

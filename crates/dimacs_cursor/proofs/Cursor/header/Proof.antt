@@ -1,0 +1,52 @@
+-- `dimacs_cursor::Cursor::header` meets its contract. Assumes nothing.
+use Rattle.dimacs.specs.Text.{preamble}
+use Rattle.dimacs.specs.Reader.{line, word, first, ofVariables}
+use Rattle.dimacs_cursor.proofs.Runs.{run-then, run-dead}
+use Rattle.dimacs_cursor.proofs.Heads.{head-after, pass-read, pass-refused}
+use Rattle.dimacs_cursor.proofs.Cursor.header.Statement.{statement}
+use Rattle.dimacs_cursor.proofs.Cursor.header.Tie as tie
+
+after-comments-requires : tie.Need-after-comments-requires
+after-comments-requires c κs = tt
+
+enum-known-first : tie.Need-enum-known-first
+enum-known-first c = c .match .keys1
+
+word-requires : tie.Need-word-requires
+word-requires c κs = tt
+
+enum-known-next : tie.Need-enum-known-next
+enum-known-next c = c .match2 .keys1
+
+counts-requires : tie.Need-counts-requires
+counts-requires c κs = tt
+
+enum-known-at : tie.Need-enum-known-at
+enum-known-at c = c .match2 .keys2
+
+enum-known-at-2 : tie.Need-enum-known-at-2
+enum-known-at-2 c = c .match .keys2
+
+returns : tie.Need-returns
+returns c = head-after (run-then (pass-read (c .before .before .before .before .before .before .before .before .before .before .args .text .now) line (c .before .before .before .before .before .before .before .before .before .before .args .self .at) (word preamble) (c .before .before .before .before .before .before .before .before .after-comments .ensures) (c .before .before .before .before .before .before .first .given .1)) (pass-read (c .before .before .before .before .before .before .before .before .before .before .args .text .now) (word preamble) (c .before .before .before .before .before .before .first .given .0 .0 .at) (first ofVariables) (c .before .before .before .before .word .ensures) (c .before .before .next .given .1))) (c .counts .result) (c .counts .ensures)
+
+returns-2 : tie.Need-returns-2
+returns-2 c = run-dead (pass-read (c .before .before .before .before .before .before .before .before .before .args .text .now) line (c .before .before .before .before .before .before .before .before .before .args .self .at) (word preamble) (c .before .before .before .before .before .before .before .after-comments .ensures) (c .before .before .before .before .before .first .given .1)) (pass-refused (c .before .before .before .before .before .before .before .before .before .args .text .now) (word preamble) (c .before .before .before .before .before .first .given .0 .0 .at) (first ofVariables) (c .before .before .before .word .ensures) (c .before .at .given .1))
+
+returns-3 : tie.Need-returns-3
+returns-3 c = pass-refused (c .before .before .before .before .before .args .text .now) line (c .before .before .before .before .before .args .self .at) (word preamble) (c .before .before .before .after-comments .ensures) (c .before .at2 .given .1)
+
+pub header-spec : {M : Type 1} → statement M
+header-spec =
+    tie.close
+    (tie.spec
+    after-comments-requires
+    enum-known-first
+    word-requires
+    enum-known-next
+    counts-requires
+    enum-known-at
+    enum-known-at-2
+    returns
+    returns-2
+    returns-3)

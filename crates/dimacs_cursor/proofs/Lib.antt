@@ -1,0 +1,5 @@
+-- Laws of reading tokens.
+pub mod Runs
+pub mod Tests
+pub mod Tokens
+pub mod Heads

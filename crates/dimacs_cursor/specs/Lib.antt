@@ -1,0 +1,2 @@
+-- What the contracts of the cursor's functions cite.
+pub mod Cursors
