@@ -1,0 +1,2 @@
+-- What a grid needs, and its rows 6 by lengths.
+pub mod Room

@@ -1,0 +1,2 @@
+-- How the call ends.
+pub mod Ends
