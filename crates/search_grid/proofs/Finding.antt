@@ -69,19 +69,32 @@ module _ {s : List ℕ} {needed : Needs} {ls ts : List ℤ} {ms vs ds : List ℕ
   abbrev m : ℕ
   m = needed .variables
 
+  abbrev n : ℕ
+  n = needed .cells
+
   abbrev done : Done
   done = solved (boardOf s) budget
 
   variables : m ≡ v
   variables = ap (λ (n : Needs). n .variables) (fits .needs)
 
-  front : {A : Type 0} (buf : List A) → m ≤ length buf → length (take m buf) ≡ v
-  front buf h = length-take-le m buf h ∙ variables
+  -- the parts that are lent on
+  ts-long : length (take m ts) ≡ v
+  ts-long = length-take-le m ts (fits .trail) ∙ variables
+
+  ms-long : length (take m ms) ≡ v
+  ms-long = length-take-le m ms (fits .marks) ∙ variables
+
+  vs-long : length (take m vs) ≡ v
+  vs-long = length-take-le m vs (fits .values) ∙ variables
+
+  ds-long : length (take n ds) ≡ boardOf s .size
+  ds-long = length-take-le n ds (fits .drawing) ∙ ap (λ (n : Needs). n .cells) (fits .needs)
 
   ok : IsAccepted v (clauseList (boardOf s)) (take m ts) (take m ms) 0
   ok =
       let c : Search = record { variables = v; list = clauseList (boardOf s); trail = take m ts; marks = take m ms; used = 0; budget = budget } in
-      searching.ok c (searching.begun-taken s c (record { grid = fits .accepted; variables = refl; list = refl; empty = refl; trail = front ts (fits .trail); marks = front ms (fits .marks) }))
+      searching.ok c (searching.begun-taken s c (record { grid = fits .accepted; variables = refl; list = refl; empty = refl; trail = ts-long; marks = ms-long }))
 
   legal : Legal v (done .trail)
   unfolding trailOf
@@ -97,25 +110,25 @@ module _ {s : List ℕ} {needed : Needs} {ls ts : List ℤ} {ms vs ds : List ℕ
       → (toldAnswer a ≡ searchAnswer m (take (needed .elements) ls) (take m ts) (take m ms) 0 budget)
       × ((us ≡ trailAfter m (take (needed .elements) ls) (take m ts) (take m ms) 0 budget) × (ns ≡ marksAfter m (take (needed .elements) ls) (take m ts) (take m ms) 0 budget))
       → Searched s budget a us ns
-  after-search a (t, (u, n)) =
+  after-search a (t, (u, k)) =
       let l = fits .clauses in
       record {
-        told = t ∙ (λ i. searchAnswer (variables i) (l i) (take m ts) (take m ms) 0 budget) ∙ begun.tells s (fits .accepted) budget (take m ts) (take m ms) (front ts (fits .trail)) (front ms (fits .marks));
-        trail = u ∙ (λ i. trailAfter (variables i) (l i) (take m ts) (take m ms) 0 budget) ∙ begun.trail-left s (fits .accepted) budget (take m ts) (take m ms) (front ts (fits .trail)) (front ms (fits .marks));
-        marks = n ∙ (λ i. marksAfter (variables i) (l i) (take m ts) (take m ms) 0 budget) ∙ begun.marks-left s (fits .accepted) budget (take m ts) (take m ms) (front ts (fits .trail)) (front ms (fits .marks));
+        told = t ∙ (λ i. searchAnswer (variables i) (l i) (take m ts) (take m ms) 0 budget) ∙ begun.tells s (fits .accepted) budget (take m ts) (take m ms) ts-long ms-long;
+        trail = u ∙ (λ i. trailAfter (variables i) (l i) (take m ts) (take m ms) 0 budget) ∙ begun.trail-left s (fits .accepted) budget (take m ts) (take m ms) ts-long ms-long;
+        marks = k ∙ (λ i. marksAfter (variables i) (l i) (take m ts) (take m ms) 0 budget) ∙ begun.marks-left s (fits .accepted) budget (take m ts) (take m ms) ts-long ms-long;
       }
 
   module _ {a : Answer} {us : List ℤ} {ns : List ℕ} (h : Searched s budget a us ns) (us-long : length us ≡ length (take m ts)) (ns-long : length ns ≡ length (take m ms)) where
+    trail-left : us ++ drop m ts ≡ filled ts (trailImage v (done .trail))
+    trail-left = part-filled ts us us-long (fits .trail) (h .trail)
+
+    marks-left : ns ++ drop m ms ≡ filled ms (marksImage v (done .trail))
+    marks-left = part-filled ms ns ns-long (fits .marks) (h .marks)
+
     pub unfound : ((c : Count) → a ≡ Found c → ⊥) → Ends s budget ts ms vs ds a (us ++ drop m ts) (ns ++ drop m ms) vs ds
-    unfound n =
-        let k : done .ending ≡ DoneFound → ⊥ = λ f. let w = only-found a done (h .told) f in n (w .0) (w .1) in
-        record {
-          told = h .told;
-          trail = part-filled ts us us-long (fits .trail) (h .trail);
-          marks = part-filled ms ns ns-long (fits .marks) (h .marks);
-          values = kept (done .ending) _ _ k;
-          drawing = kept (done .ending) _ _ k;
-        }
+    unfound other =
+        let k : done .ending ≡ DoneFound → ⊥ = λ f. let w = only-found a done (h .told) f in other (w .0) (w .1) in
+        record { told = h .told; trail = trail-left; marks = marks-left; values = kept (done .ending) _ _ k; drawing = kept (done .ending) _ _ k }
 
     module _ {c : Count} (e : a ≡ Found c) where
       ends-found : done .ending ≡ DoneFound
@@ -129,20 +142,20 @@ module _ {s : List ℕ} {needed : Needs} {ls ts : List ℤ} {ms vs ds : List ℕ
       held = subst (Legal v) (sym reads) legal
 
       pub literals : Literals (length (take m vs)) (take m (us ++ drop m ts))
-      literals = rw (front vs (fits .values), part-read ts us us-long (fits .trail)) (record { long = us-long ∙ front ts (fits .trail); each = λ i l. legal-at v us ns v held i l .proper })
+      literals = rw (vs-long, part-read ts us us-long (fits .trail)) (record { long = us-long ∙ ts-long; each = λ i l. legal-at v us ns v held i l .proper })
 
-      pub found : {ws es : List ℕ} → Gives (length (take m vs)) (take m (us ++ drop m ts)) ws → es ≡ decoderLeaves s (take m (ws ++ drop m vs)) (take (needed .cells) ds)
-          → length ws ≡ length (take m vs) → length es ≡ length (take (needed .cells) ds)
-          → Ends s budget ts ms vs ds a (us ++ drop m ts) (ns ++ drop m ms) (ws ++ drop m vs) (es ++ drop (needed .cells) ds)
+      pub found : {ws es : List ℕ} → Gives (length (take m vs)) (take m (us ++ drop m ts)) ws → es ≡ decoderLeaves s (take m (ws ++ drop m vs)) (take n ds)
+          → length ws ≡ length (take m vs) → length es ≡ length (take n ds)
+          → Ends s budget ts ms vs ds a (us ++ drop m ts) (ns ++ drop m ms) (ws ++ drop m vs) (es ++ drop n ds)
       found {ws} {es} g d ws-long es-long =
-          let given : Gives v us ws = rw (front vs (fits .values), part-read ts us us-long (fits .trail)) at g in
+          let given : Gives v us ws = rw (vs-long, part-read ts us us-long (fits .trail)) at g in
           let bytes = given ns held ∙ ap (trailBytes v) reads in
-          let yes = begun.decoder-says s (fits .accepted) budget ends-found (take (needed .cells) ds) (length-take-le (needed .cells) ds (fits .drawing) ∙ ap (λ (n : Needs). n .cells) (fits .needs)) in
-          let drawn = d ∙ ap (λ b. decoderLeaves s b (take (needed .cells) ds)) (part-read vs ws ws-long (fits .values) ∙ bytes) ∙ ap (λ t. leaves t (take (needed .cells) ds) (decoded (boardOf s) (trailBytes v (done .trail)))) yes in
+          let yes = begun.decoder-says s (fits .accepted) budget ends-found (take n ds) ds-long in
+          let drawn = d ∙ ap (λ b. decoderLeaves s b (take n ds)) (part-read vs ws ws-long (fits .values) ∙ bytes) ∙ ap (λ t. leaves t (take n ds) (decoded (boardOf s) (trailBytes v (done .trail)))) yes in
           record {
             told = h .told;
-            trail = part-filled ts us us-long (fits .trail) (h .trail);
-            marks = part-filled ms ns ns-long (fits .marks) (h .marks);
+            trail = trail-left;
+            marks = marks-left;
             values = rw ends-found (part-filled vs ws ws-long (fits .values) bytes);
             drawing = rw ends-found (part-filled ds es es-long (fits .drawing) drawn);
           }
