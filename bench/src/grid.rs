@@ -1,0 +1,146 @@
+//! Grid records: open ones, and ones dealt with a solution.
+
+pub const BLACK: u8 = 0x10;
+pub const CLUE: u8 = 0x20;
+
+/// North, east, south, west.
+pub const LINK: [u8; 4] = [1, 2, 4, 8];
+
+pub fn opposite(d: usize) -> usize {
+    (d + 2) % 4
+}
+
+#[derive(Clone, Copy)]
+pub struct Sides {
+    pub rows: usize,
+    pub columns: usize,
+}
+
+impl Sides {
+    pub fn size(self) -> usize {
+        self.rows * self.columns
+    }
+
+    pub fn neighbour(self, x: usize, d: usize) -> Option<usize> {
+        let (row, column) = (x / self.columns, x % self.columns);
+        match d {
+            0 => (row > 0).then(|| x - self.columns),
+            1 => (column + 1 < self.columns).then(|| x + 1),
+            2 => (row + 1 < self.rows).then(|| x + self.columns),
+            _ => (column > 0).then(|| x - 1),
+        }
+    }
+
+    /// The line of a clue, from its neighbour to the edge.
+    pub fn line(self, x: usize, d: usize) -> impl Iterator<Item = usize> {
+        std::iter::successors(self.neighbour(x, d), move |&y| self.neighbour(y, d))
+    }
+}
+
+pub fn record_of(sides: Sides, cells: &[u8]) -> Vec<u8> {
+    let length = (6 + cells.len()) as u16;
+    let mut record = length.to_le_bytes().to_vec();
+    record.extend([1, 0, sides.rows as u8, sides.columns as u8]);
+    record.extend(cells);
+    record
+}
+
+pub fn open(side: usize) -> Vec<u8> {
+    record_of(Sides { rows: side, columns: side }, &vec![0; side * side])
+}
+
+/// Numbers that are the same in every run (SplitMix64).
+struct Dice(u64);
+
+impl Dice {
+    fn below(&mut self, n: usize) -> usize {
+        self.0 = self.0.wrapping_add(0x9e3779b97f4a7c15);
+        let mut z = self.0;
+        z = (z ^ (z >> 30)).wrapping_mul(0xbf58476d1ce4e5b9);
+        z = (z ^ (z >> 27)).wrapping_mul(0x94d049bb133111eb);
+        ((z ^ (z >> 31)) % n as u64) as usize
+    }
+
+    fn shuffled(&mut self, n: usize) -> Vec<usize> {
+        let mut all: Vec<usize> = (0..n).collect();
+        for i in (1..n).rev() {
+            all.swap(i, self.below(i + 1));
+        }
+        all
+    }
+}
+
+/// A region of the squares between the cells, whose outline is one loop through cells.
+struct Region {
+    side: usize,
+    inside: Vec<bool>,
+}
+
+impl Region {
+    fn has(&self, row: isize, column: isize) -> bool {
+        let side = self.side as isize;
+        (0..side).contains(&row) && (0..side).contains(&column) && self.inside[(row * side + column) as usize]
+    }
+
+    /// May a square be added so that the outline stays one loop and passes two cells more? It must share exactly one side with
+    /// the region, and around it the region must be in one piece.
+    fn grows_by(&self, square: usize) -> bool {
+        const RING: [(isize, isize); 8] = [(-1, 0), (-1, 1), (0, 1), (1, 1), (1, 0), (1, -1), (0, -1), (-1, -1)];
+        let (row, column) = ((square / self.side) as isize, (square % self.side) as isize);
+        let ring = RING.map(|(r, c)| self.has(row + r, column + c));
+        let sides = (0..4).filter(|i| ring[2 * i]).count();
+        let changes = (0..8).filter(|&i| ring[i] != ring[(i + 1) % 8]).count();
+        !self.inside[square] && sides == 1 && changes == 2
+    }
+
+    /// Grown until the outline passes so many cells, or as far as it goes.
+    fn grown(side: usize, cells: usize, dice: &mut Dice) -> Region {
+        let mut region = Region { side, inside: vec![false; side * side] };
+        region.inside[dice.below(side * side)] = true;
+        for _ in (4..cells).step_by(2) {
+            let order = dice.shuffled(side * side);
+            let Some(square) = order.into_iter().find(|&s| region.grows_by(s)) else { break };
+            region.inside[square] = true;
+        }
+        region
+    }
+
+    /// The links of the outline.
+    fn outline(&self, sides: Sides) -> Vec<u8> {
+        let mut drawing = vec![0; sides.size()];
+        for row in 0..sides.rows as isize {
+            for column in 0..sides.columns as isize {
+                let x = row as usize * sides.columns + column as usize;
+                let (nw, ne) = (self.has(row - 1, column - 1), self.has(row - 1, column));
+                let (sw, se) = (self.has(row, column - 1), self.has(row, column));
+                for (d, link) in [nw != ne, ne != se, sw != se, nw != sw].into_iter().enumerate() {
+                    drawing[x] |= if link { LINK[d] } else { 0 };
+                }
+            }
+        }
+        drawing
+    }
+}
+
+/// A grid with a solution, and that solution: a loop through about 7 of 10 cells, of the others about half black and half clues, with
+/// the numbers that fit. Whether it has other solutions isn't looked at.
+pub fn dealt(side: usize, seed: u64) -> (Vec<u8>, Vec<u8>) {
+    let sides = Sides { rows: side, columns: side };
+    let mut dice = Dice(seed);
+    let mut drawing = Region::grown(side - 1, side * side * 7 / 10, &mut dice).outline(sides);
+    for x in dice.shuffled(sides.size()) {
+        if drawing[x] == 0 {
+            let beside_black = (0..4).any(|d| sides.neighbour(x, d).is_some_and(|y| drawing[y] == BLACK));
+            drawing[x] = if beside_black || dice.below(3) == 0 { CLUE } else { BLACK };
+        }
+    }
+    let mut cells = vec![0; sides.size()];
+    for x in 0..sides.size() {
+        if drawing[x] == CLUE {
+            let d = dice.below(4);
+            let black = sides.line(x, d).filter(|&y| drawing[y] == BLACK).count();
+            cells[x] = (d as u8 + 1) << 4 | black as u8;
+        }
+    }
+    (record_of(sides, &cells), drawing)
+}

@@ -1,0 +1,265 @@
+//! The library beside plain Rust, plain copies and outside solvers. See bench/run and docs/PERFORMANCE.md.
+
+mod clock;
+mod grid;
+mod library;
+mod plain;
+mod solvers;
+mod steps;
+mod table;
+
+use clock::{now, side_by_side, Times};
+use std::hint::black_box;
+use table::{fail, same, Goal, Row};
+
+const ROUNDS: usize = 15;
+
+/// A grid's clauses, from the library; equal to those from plain Rust.
+pub struct Clauses {
+    pub list: Vec<i32>,
+    pub variables: usize,
+}
+
+pub fn clauses_of(what: &str, record: &[u8]) -> Clauses {
+    let (number, answer) = library::encode(record, &mut []);
+    same(what, &number, &library::ROOM);
+    let mut list = vec![0; answer[0] as usize];
+    let (number, answer) = library::encode(record, &mut list);
+    let (plain, variables, clauses) = plain::encode(record);
+    same(what, &(number, answer), &(0, [plain.len() as u64, variables, clauses, 0]));
+    same(what, &list, &plain);
+    Clauses { list, variables: variables as usize }
+}
+
+/// A row in which more is better: so many units of work, in millions a second.
+fn speed_row(what: &str, against: &str, work: f64, unit: &str, times: Times, goal: Goal) -> Row {
+    let shown = |seconds: f64| format!("{:.0} {unit}/s", work / seconds / 1e6);
+    row(what, against, times, shown, 1.0 / times.ratio, goal)
+}
+
+/// A row in which less is better: seconds, as they are shown.
+fn time_row(what: &str, times: Times, shown: impl Fn(f64) -> String, goal: Goal) -> Row {
+    row(what, "plain Rust", times, shown, times.ratio, goal)
+}
+
+fn row(what: &str, against: &str, times: Times, shown: impl Fn(f64) -> String, ratio: f64, goal: Goal) -> Row {
+    Row { what: what.into(), against: against.into(), library: shown(times.a), other: shown(times.b), ratio, goal }
+}
+
+fn encoder_rows(rows: &mut Vec<Row>) {
+    for side in [6, 12, 24] {
+        let what = format!("encode, open {side}×{side}");
+        let record = grid::open(side);
+        let source = clauses_of(&what, &record).list;
+        let mut list = source.clone();
+        let mut copy = source.clone();
+        let mut encode = || same(&what, &library::encode(black_box(&record), black_box(&mut list)).0, &0);
+        let times = side_by_side(ROUNDS, &mut encode, &mut || black_box(&mut copy).copy_from_slice(black_box(&source)));
+        let goal = if side == 24 { Goal::AtLeast(1.0 / 3.0) } else { Goal::Shown };
+        rows.push(speed_row(&what, "plain copy", source.len() as f64, "M elements", times, goal));
+        if side == 24 {
+            let times = side_by_side(ROUNDS, &mut encode, &mut || drop(black_box(plain::encode(black_box(&record)))));
+            rows.push(speed_row(&what, "plain Rust", source.len() as f64, "M elements", times, Goal::Shown));
+        }
+        same(&what, &list, &source);
+    }
+}
+
+/// Where the solvers find the text; bench/run runs the bench from the root.
+const TEXT_FILE: &str = "target/bench/open-24.cnf";
+
+/// A text, and the list that it is of.
+struct Text {
+    clauses: Clauses,
+    bytes: Vec<u8>,
+}
+
+impl Text {
+    /// Of the open 24×24 grid.
+    fn new() -> Text {
+        let clauses = clauses_of("text, open 24×24", &grid::open(24));
+        let mut bytes = Vec::new();
+        plain::write(clauses.variables as u64, &clauses.list, &mut bytes);
+        if let Err(e) = std::fs::write(TEXT_FILE, &bytes) {
+            fail(TEXT_FILE, &e.to_string());
+        }
+        Text { clauses, bytes }
+    }
+
+    fn row(&self, what: &str, against: &str, times: Times, goal: Goal) -> Row {
+        speed_row(what, against, self.bytes.len() as f64, "MB", times, goal)
+    }
+
+    /// The rows of the writer or the reader: against a copy, plain Rust, and the solvers that are there.
+    fn rows(&self, rows: &mut Vec<Row>, what: &str, work: &mut dyn FnMut(), plain: &mut dyn FnMut()) {
+        let mut copy = self.bytes.clone();
+        let mut copying = || black_box(&mut copy).copy_from_slice(black_box(&self.bytes));
+        rows.push(self.row(what, "plain copy", side_by_side(ROUNDS, work, &mut copying), Goal::Shown));
+        rows.push(self.row(what, "plain Rust", side_by_side(ROUNDS, work, plain), Goal::Shown));
+        for solver in &solvers::SOLVERS {
+            let mut own = Vec::new();
+            let mut reported = Vec::new();
+            for _ in 0..3 {
+                let Some(seconds) = solver.parse_seconds(TEXT_FILE) else { break };
+                let start = now();
+                work();
+                own.push(now() - start);
+                reported.push(seconds);
+            }
+            if reported.len() == 3 {
+                let goal = if solver.name == "minisat" { Goal::AtLeast(1.0) } else { Goal::Shown };
+                let against = format!("parse time that {} reports", solver.name);
+                rows.push(self.row(what, &against, Times::of(own, reported), goal));
+            }
+        }
+    }
+
+    fn writer_rows(&self, rows: &mut Vec<Row>) {
+        let what = "write text, open 24×24";
+        let Clauses { list, variables } = &self.clauses;
+        let mut text = vec![0; self.bytes.len()];
+        let mut plain = Vec::with_capacity(self.bytes.len());
+        let mut work = || same(what, &library::write(*variables, black_box(list), black_box(&mut text)).0, &0);
+        self.rows(rows, what, &mut work, &mut || plain::write(*variables as u64, black_box(list), black_box(&mut plain)));
+        same(what, &text, &self.bytes);
+        same(what, &plain, &self.bytes);
+    }
+
+    fn reader_rows(&self, rows: &mut Vec<Row>) {
+        let what = "read text, open 24×24";
+        let mut list = vec![0; self.clauses.list.len()];
+        let mut plain = Vec::with_capacity(list.len());
+        let mut work = || same(what, &library::read(black_box(&self.bytes), black_box(&mut list)).0, &0);
+        self.rows(rows, what, &mut work, &mut || {
+            black_box(plain::read(black_box(&self.bytes), black_box(&mut plain))).expect("an accepted text");
+        });
+        same(what, &list, &self.clauses.list);
+        same(what, &plain, &self.clauses.list);
+    }
+}
+
+/// A small text with one byte changed, at every place: reader and plain Rust refuse alike.
+fn compare_refused_texts() {
+    let what = "read text, one byte changed";
+    let clauses = clauses_of(what, &grid::open(2));
+    let mut text = b"c 2x2\n".to_vec();
+    let mut body = Vec::new();
+    plain::write(clauses.variables as u64, &clauses.list, &mut body);
+    text.extend(body);
+    let mut list = vec![0; text.len()];
+    let mut plain = Vec::new();
+    for at in 0..text.len() {
+        let was = text[at];
+        for byte in *b"0139- c\np" {
+            text[at] = byte;
+            let told = library::read(&text, &mut list);
+            match plain::read(&text, &mut plain) {
+                Ok((variables, clauses)) => {
+                    same(what, &told, &(0, [plain.len() as u64, variables, clauses, 0]));
+                    same(what, &&list[..plain.len()], &&plain[..]);
+                }
+                Err(place) => same(what, &told, &(19, [place as u64, 0, 0, 0])),
+            }
+        }
+        text[at] = was;
+    }
+}
+
+/// The search from the empty trail by the library and by plain Rust, to the same end.
+fn search_row(what: &str, record: &[u8], budget: u64, goal: Goal) -> Row {
+    let Clauses { list, variables } = clauses_of(what, record);
+    let mut trails = (vec![0; variables], vec![0; variables]);
+    let mut marks = (vec![0; variables], vec![0; variables]);
+    let mut told = (0, [0; 4]);
+    let mut plain = (0, 0, 0);
+    let times = side_by_side(
+        ROUNDS,
+        &mut || told = library::search(variables, black_box(&list), &mut trails.0, &mut marks.0, 0, budget),
+        &mut || plain = plain::search(black_box(&list), &mut trails.1, &mut marks.1, budget),
+    );
+    let (answer, steps, used) = plain;
+    same(what, &told, &(0, [answer, steps, used, 0]));
+    same(what, &trails.0, &trails.1);
+    same(what, &marks.0, &marks.1);
+    let shown = |seconds: f64| {
+        let step = seconds * 1e9 / steps as f64;
+        format!("{step:.0} ns/step, {:.2} ns/step/element", step / list.len() as f64)
+    };
+    time_row(&format!("{what}: {} elements, {steps} steps", list.len()), times, shown, goal)
+}
+
+fn search_rows(rows: &mut Vec<Row>) {
+    for (side, budget) in [(4, 1000), (6, 500), (8, 200)] {
+        let what = format!("search, dealt {side}×{side}");
+        rows.push(search_row(&what, &grid::dealt(side, 1).0, budget, Goal::AtMost(1.1)));
+    }
+    for side in [2, 3, 4, 6, 8, 12, 16] {
+        let what = format!("search as the list grows, open {side}×{side}");
+        rows.push(search_row(&what, &grid::open(side), 50, Goal::Shown));
+    }
+}
+
+/// A trail handed in with as many entries as the open 12×12 grid has variables: what a call that goes on from there checks first.
+fn trail_row() -> Row {
+    const V: usize = 21552;
+    let what = format!("search, check of {V} entries handed in");
+    let mut trail: Vec<i32> = (1..=V as i32).map(|x| -x).collect();
+    let mut marks = vec![0; V];
+    let (mut handed, mut given) = (trail.clone(), marks.clone());
+    let times = side_by_side(
+        ROUNDS,
+        &mut || same(&what, &library::search(V, &[], black_box(&mut trail), &mut marks, V as u64, 0), &(0, [3, 0, V as u64, 0])),
+        &mut || same(&what, &plain::wrong_entry(black_box(&handed), &given), &None),
+    );
+    same(&what, &(&trail, &marks), &(&handed, &given));
+    for (at, literal, mark) in [(V - 1, 1, 0), (V / 2, 0, 0), (7, i32::MIN, 1), (0, -1, 2)] {
+        let was = (handed[at], given[at]);
+        (handed[at], given[at]) = (literal, mark);
+        let beside = plain::wrong_entry(&handed, &given).map(|i| i as u64);
+        let (number, answer) = library::search(V, &[], &mut handed, &mut given, V as u64, 0);
+        same(&what, &(number, Some(answer[0])), &(18, beside));
+        (handed[at], given[at]) = was;
+    }
+    time_row(&what, times, |seconds| format!("{:.1} ns/entry", seconds * 1e9 / V as f64), Goal::Shown)
+}
+
+/// The judge on a solved grid; and on the drawings with one byte changed, where it must refuse as plain Rust does.
+fn judge_row() -> Row {
+    let what = "judge, solved 24×24";
+    let (record, mut drawing) = grid::dealt(24, 1);
+    same(what, &library::judge(&record, &drawing), &(0, [0; 4]));
+    let times = side_by_side(ROUNDS, &mut || same(what, &library::judge(black_box(&record), black_box(&drawing)).0, &0), &mut || {
+        same(what, &plain::judge(black_box(&record), black_box(&drawing)), &(0, 0))
+    });
+    for x in 0..drawing.len() {
+        let was = drawing[x];
+        for byte in 0..=0x21 {
+            drawing[x] = byte;
+            let (number, beside) = plain::judge(&record, &drawing);
+            same(what, &library::judge(&record, &drawing), &(number, [beside, 0, 0, 0]));
+        }
+        drawing[x] = was;
+    }
+    time_row(what, times, |seconds| format!("{:.1} µs", seconds * 1e6), Goal::AtMost(2.0))
+}
+
+fn main() {
+    let words: Vec<String> = std::env::args().skip(1).collect();
+    match words.iter().map(String::as_str).collect::<Vec<_>>()[..] {
+        [] => {}
+        ["--steps"] => return steps::print(10.0),
+        ["--steps", seconds] if seconds.parse::<u32>().is_ok() => return steps::print(seconds.parse().unwrap_or(10.0)),
+        _ => fail("usage", "bench/run [--steps [SECONDS]]"),
+    }
+    table::print_machine();
+    let mut rows = Vec::new();
+    encoder_rows(&mut rows);
+    let text = Text::new();
+    text.writer_rows(&mut rows);
+    text.reader_rows(&mut rows);
+    compare_refused_texts();
+    search_rows(&mut rows);
+    rows.push(trail_row());
+    rows.push(judge_row());
+    table::print(&rows);
+}

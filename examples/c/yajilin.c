@@ -1,0 +1,194 @@
+/*
+ * yajilin FILE                      writes the clauses of the grid record in FILE as DIMACS text
+ * yajilin --solve [--steps N] FILE  searches them, and prints the drawing's bytes in hexadecimal, a row a line;
+ *                                   or `none`, or `halted` after N steps (without --steps there is no limit)
+ *
+ * Exit status: 0 written, found or none; 1 bad input; 2 bad usage; 3 halted.
+ */
+#include <errno.h>
+#include <stdio.h>
+#include <stdlib.h>
+#include <string.h>
+
+#include "yajilin.h"
+
+enum { FAILED = 1, USAGE = 2, HALTED = 3 };
+
+/* A record's length field has 16 bits. One byte more is read, so that a longer file is turned down as such. */
+enum { MOST_BYTES = 65536 };
+
+static uint8_t record[MOST_BYTES];
+static size_t record_bytes;
+
+/* A grid's clauses. */
+struct clauses {
+    int32_t *list;
+    size_t length;
+    uint64_t variables;
+};
+
+/* Words for the refusals that this program can meet. */
+static const char *cause(uint64_t number)
+{
+    switch (number) {
+    case YAJILIN_RECORD_LENGTH: return "not a record: under 6 bytes, or its length field isn't the file's length";
+    case YAJILIN_KIND: return "not a grid record: its kind isn't 1";
+    case YAJILIN_SIDES: return "a side isn't 1 to 24";
+    case YAJILIN_CELL_COUNT: return "the record's length doesn't fit its sides";
+    case YAJILIN_CELL_BYTE: return "a cell byte that isn't allowed";
+    default: return "turned down";
+    }
+}
+
+static void refuse(const char *what, uint64_t number, const uint64_t answer[4])
+{
+    fprintf(stderr, "yajilin: %s: refused %llu: %s", what, (unsigned long long)number, cause(number));
+    if (number == YAJILIN_CELL_BYTE)
+        fprintf(stderr, " (cell %llu, counted from 0)", (unsigned long long)answer[0]);
+    fputc('\n', stderr);
+    exit(FAILED);
+}
+
+/* Zeros, so that no buffer begins with indeterminate bytes. */
+static void *room(uint64_t count, size_t size)
+{
+    void *p = calloc(count ? count : 1, size);
+    if (p == NULL) {
+        fprintf(stderr, "yajilin: out of memory for %llu elements\n", (unsigned long long)count);
+        exit(FAILED);
+    }
+    return p;
+}
+
+static void read_record(const char *name)
+{
+    FILE *f = fopen(name, "rb");
+    if (f == NULL) {
+        fprintf(stderr, "yajilin: %s: %s\n", name, strerror(errno));
+        exit(FAILED);
+    }
+    record_bytes = fread(record, 1, sizeof record, f);
+    if (ferror(f)) {
+        fprintf(stderr, "yajilin: %s: %s\n", name, strerror(errno));
+        exit(FAILED);
+    }
+    fclose(f);
+}
+
+/* With no room at all the encoder says how much it needs. */
+static struct clauses encode(const char *name)
+{
+    struct clauses c;
+    uint64_t answer[4];
+    uint64_t number = yajilin_encode(record, record_bytes, NULL, 0, answer);
+    if (number != YAJILIN_ROOM)
+        refuse(name, number, answer);
+    c.length = answer[0];
+    c.list = room(c.length, sizeof *c.list);
+    number = yajilin_encode(record, record_bytes, c.list, c.length, answer);
+    if (number != 0)
+        refuse(name, number, answer);
+    c.variables = answer[1];
+    return c;
+}
+
+static int print_text(const struct clauses *c)
+{
+    uint64_t answer[4];
+    uint64_t number = yajilin_write(c->variables, c->list, c->length, NULL, 0, answer);
+    if (number != YAJILIN_ROOM)
+        refuse("writing", number, answer);
+    uint64_t bytes = answer[0];
+    uint8_t *text = room(bytes, 1);
+    number = yajilin_write(c->variables, c->list, c->length, text, bytes, answer);
+    if (number != 0)
+        refuse("writing", number, answer);
+    size_t written = fwrite(text, 1, bytes, stdout);
+    free(text);
+    return written == bytes ? 0 : FAILED;
+}
+
+/* A full trail as a value for each variable. */
+static uint8_t *values_of(const int32_t *trail, uint64_t variables)
+{
+    uint8_t *values = room(variables, 1);
+    for (uint64_t i = 0; i < variables; i++) {
+        if (trail[i] > 0)
+            values[trail[i] - 1] = 1;
+    }
+    return values;
+}
+
+static void print_drawing(const int32_t *trail, uint64_t variables)
+{
+    uint8_t drawing[YAJILIN_MOST_CELLS] = {0};
+    size_t columns = record[5], cells = record[4] * columns;
+    uint64_t answer[4];
+    uint8_t *values = values_of(trail, variables);
+    uint64_t number = yajilin_decode(record, record_bytes, values, variables, drawing, cells, answer);
+    if (number != 0)
+        refuse("decoding", number, answer);
+    free(values);
+    for (size_t x = 0; x < cells; x++)
+        printf("%02x%c", drawing[x], (x + 1) % columns == 0 ? '\n' : ' ');
+}
+
+static int solve(const struct clauses *c, uint64_t budget)
+{
+    int32_t *trail = room(c->variables, sizeof *trail);
+    uint8_t *marks = room(c->variables, 1);
+    uint64_t answer[4];
+    uint64_t number = yajilin_search(c->variables, c->list, c->length, trail, c->variables, marks, c->variables, 0, budget, answer);
+    if (number != 0)
+        refuse("searching", number, answer);
+    if (answer[0] == YAJILIN_FOUND)
+        print_drawing(trail, c->variables);
+    else
+        puts(answer[0] == YAJILIN_NONE ? "none" : "halted");
+    free(trail);
+    free(marks);
+    return answer[0] == YAJILIN_HALTED ? HALTED : 0;
+}
+
+static int usage(void)
+{
+    fputs("usage: yajilin [--solve [--steps N]] FILE\n", stderr);
+    return USAGE;
+}
+
+/* A number of steps, in decimal digits only. */
+static int read_steps(const char *word, uint64_t *steps)
+{
+    char *end;
+    if (word[0] < '0' || word[0] > '9')
+        return 0;
+    errno = 0;
+    *steps = strtoull(word, &end, 10);
+    return errno == 0 && *end == '\0';
+}
+
+int main(int argc, char **argv)
+{
+    int i = 1, solving = 0;
+    uint64_t budget = UINT64_MAX;
+    if (i < argc && strcmp(argv[i], "--solve") == 0) {
+        solving = 1;
+        i++;
+    }
+    if (solving && i + 1 < argc && strcmp(argv[i], "--steps") == 0) {
+        if (!read_steps(argv[i + 1], &budget))
+            return usage();
+        i += 2;
+    }
+    if (i + 1 != argc || strncmp(argv[i], "--", 2) == 0)
+        return usage();
+    read_record(argv[i]);
+    struct clauses c = encode(argv[i]);
+    int status = solving ? solve(&c, budget) : print_text(&c);
+    free(c.list);
+    if (fflush(stdout) != 0 || ferror(stdout)) {
+        fprintf(stderr, "yajilin: standard output: %s\n", strerror(errno));
+        return FAILED;
+    }
+    return status;
+}

@@ -1,0 +1,154 @@
+/*
+ * Yajilin: judge, encoder, decoder, search and DIMACS text.
+ *
+ * Link with target/staticlib/libffi.a, which `rt staticlib ffi` writes (x86-64, System V calls). Of the C library it
+ * needs memcpy and memset. It allocates nothing, keeps nothing between calls and does no input or output, so calls may
+ * run at the same time on buffers of their own.
+ *
+ * What every function has in common
+ *
+ * It returns 0 if the call was answered, else the number of a refusal (enum yajilin_refusal). All four words of `answer`
+ * are written: after a refusal answer[0] is the value beside it and the others are 0; after an answer they are what the
+ * function's comment says, and 0 where it says nothing.
+ *
+ * A refusal leaves every other buffer as it was. The causes are sought in the order in which the function's comment names
+ * them, each over the whole input before the next.
+ *
+ * What a caller must ensure
+ *
+ * - Each pointer is that of a buffer with at least as many elements as the length after it says (`answer`: four), aligned
+ *   for its type, at most 2^63 - 1 bytes. A buffer of length 0 is never looked at; its pointer may be null.
+ * - A buffer that a call writes overlaps no other buffer of that call.
+ * - While a call runs, nothing else writes its buffers or reads those that it writes.
+ *
+ * Nothing is asked of the contents of a buffer: whatever stands there, the call is answered or refused.
+ *
+ * A grid record, little-endian: bytes 0-1 its length, 2-3 the kind 1, byte 4 rows, byte 5 columns (1 to 24 each), then a
+ * byte for each of the N = rows * columns cells, row by row: 0x00 open, or a clue, 0x10 to 0x4F, whose upper four bits are
+ * its direction (1 north, 2 east, 3 south, 4 west) and whose lower four bits are its number. Cells are numbered from 0.
+ *
+ * A drawing has N bytes: 0x20 a clue, 0x10 black, else white with the sum of its links (1 north, 2 east, 4 south, 8 west).
+ *
+ * A clause list: literals as signed numbers, variables from 1, minus for "not"; 0 closes a clause. V is the number of
+ * variables, at most YAJILIN_MOST_VARIABLES.
+ */
+#ifndef YAJILIN_H
+#define YAJILIN_H
+
+#include <stddef.h>
+#include <stdint.h>
+
+#ifdef __cplusplus
+extern "C" {
+#endif
+
+#define YAJILIN_MOST_VARIABLES 16777216
+#define YAJILIN_MOST_CELLS 576
+
+/* The refusals, and the value beside each. Cells, indexes and bytes are counted from 0, variables from 1. */
+enum yajilin_refusal {
+    YAJILIN_RECORD_LENGTH = 1,   /* record under 6 bytes, or its length field isn't its length: 0 */
+    YAJILIN_KIND = 2,            /* kind not 1: 0 */
+    YAJILIN_SIDES = 3,           /* a side not 1 to 24: 0 */
+    YAJILIN_CELL_COUNT = 4,      /* length not 6 + N: 0 */
+    YAJILIN_CELL_BYTE = 5,       /* a cell byte that isn't allowed: the first such cell */
+    YAJILIN_ROOM = 6,            /* output shorter than needed: elements needed (2^64 - 1 if more) */
+    YAJILIN_DRAWING_LENGTH = 7,  /* drawing not N bytes: 0 */
+    YAJILIN_VALUE_COUNT = 8,     /* values not V bytes: 0 */
+    YAJILIN_VALUE = 9,           /* a value not 0 or 1: the first such variable */
+    YAJILIN_DRAWING_BYTE = 10,   /* over 0x20, 0x11 to 0x1F, or 0x20 and clue not together: the first such cell */
+    YAJILIN_TOUCHING = 11,       /* black beside black to its east or south: the first such cell */
+    YAJILIN_CLUE_NOT_MET = 12,   /* the line of a clue hasn't its number of black cells: the first such clue's cell */
+    YAJILIN_LINK_UNMATCHED = 13, /* a link unmatched or off the board: the first cell with one */
+    YAJILIN_NOT_TWO_LINKS = 14,  /* a white cell without exactly two links: the first such cell */
+    YAJILIN_NOT_ONE_LOOP = 15,   /* no white cell: 0; else the first white cell off the first white cell's loop */
+    YAJILIN_LIST = 16,           /* a literal beyond V: its index; else a list that doesn't end in 0: its length */
+    YAJILIN_SIZES = 17,          /* V too large, trail or marks not V long, used over V: 0 */
+    YAJILIN_ENTRY = 18,          /* a used entry 0, beyond V, on the variable of an earlier one, or with a mark not 0 or 1:
+                                    the first such entry's index */
+    YAJILIN_TEXT = 19            /* text outside the form: the first byte where no accepted text can go on, or the text's
+                                    length if it ends too soon */
+};
+
+/* What the search answers. */
+enum yajilin_search_answer {
+    YAJILIN_FOUND = 1,
+    YAJILIN_NONE = 2,
+    YAJILIN_HALTED = 3
+};
+
+/*
+ * Is the drawing a solution of the record's grid?
+ *
+ * Answered: it is. Refused: 1 to 5, 7, 10 to 15; of these 10 to 15 say why it is none.
+ */
+uint64_t yajilin_judge(const uint8_t *record, size_t record_bytes,
+                       const uint8_t *drawing, size_t drawing_bytes,
+                       uint64_t answer[4]);
+
+/*
+ * Writes the clauses of the record's grid into list.
+ *
+ * Answered: answer[0] elements written, answer[1] V, answer[2] clauses. Elements past these are untouched.
+ * Refused: 1 to 5, 6. With list_length 0 an accepted record is always refused as 6, with the elements needed.
+ */
+uint64_t yajilin_encode(const uint8_t *record, size_t record_bytes,
+                        int32_t *list, size_t list_length,
+                        uint64_t answer[4]);
+
+/*
+ * Draws the values, 0 or 1, of the V variables of the record's grid, in their order, into drawing.
+ *
+ * Answered: the drawing is a solution. Refused: 1 to 5, 8, 7 (drawing_bytes isn't N), 9, 10 to 15 (what the values draw is
+ * no solution; it isn't handed out). Only the variables for black cells and links are consulted.
+ */
+uint64_t yajilin_decode(const uint8_t *record, size_t record_bytes,
+                        const uint8_t *values, size_t values_bytes,
+                        uint8_t *drawing, size_t drawing_bytes,
+                        uint64_t answer[4]);
+
+/*
+ * Searches an assignment that satisfies the list, from the trail handed in, by at most budget steps. The first `used`
+ * entries of trail are literals that hold; the mark of each is 1 for a choice whose other value is untried, else 0. What
+ * stands after them isn't looked at. To begin empty, used is 0.
+ *
+ * Answered: answer[0] is an enum yajilin_search_answer, answer[1] the steps that this call made, answer[2] the used count.
+ * trail and marks have the trail that was reached, with 0 after the used entries. After YAJILIN_FOUND all V entries are
+ * used and their literals satisfy the list; after YAJILIN_NONE nothing that was open satisfies it; after YAJILIN_HALTED
+ * the call may be made again, with trail, marks and answer[2], to go on.
+ * Refused: 17 (trail_length and marks_bytes must both be V), 16, 18.
+ */
+uint64_t yajilin_search(uint64_t variables,
+                        const int32_t *list, size_t list_length,
+                        int32_t *trail, size_t trail_length,
+                        uint8_t *marks, size_t marks_bytes,
+                        uint64_t used, uint64_t budget,
+                        uint64_t answer[4]);
+
+/*
+ * Writes the DIMACS text of V and a clause list into text: `p cnf V C`, then a clause a line. No NUL is added.
+ *
+ * Answered: answer[0] bytes written. Bytes past these are untouched.
+ * Refused: 17 (V too large), 16, 6. With text_bytes 0 a good list is always refused as 6, with the bytes needed.
+ */
+uint64_t yajilin_write(uint64_t variables,
+                       const int32_t *list, size_t list_length,
+                       uint8_t *text, size_t text_bytes,
+                       uint64_t answer[4]);
+
+/*
+ * Reads a DIMACS text into list. The form is narrow: comment lines before the header only, then `p cnf V C` and C lines,
+ * each the literals of a clause and 0, single spaces, a line feed after every line, no plus and no leading zero.
+ *
+ * Answered: answer[0] elements written, answer[1] V, answer[2] clauses. Elements past these are untouched.
+ * Refused: 19, 6. A text has fewer elements than half its bytes, so a list of text_bytes / 2 is always enough.
+ */
+uint64_t yajilin_read(const uint8_t *text, size_t text_bytes,
+                      int32_t *list, size_t list_length,
+                      uint64_t answer[4]);
+
+#ifdef __cplusplus
+}
+#endif
+
+#endif
