@@ -1,2 +1,1 @@
-pub mod Cases  -- what a case hands back
 pub mod Small  -- the grids that are enumerated

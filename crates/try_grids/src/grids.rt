@@ -1,0 +1,37 @@
+// The records that are tried.
+ghost use Prim.Native.Nat.{_*_, _<_, _≤_};
+
+// The most bytes of a record: 24×24 has 6 + 576.
+pub const BYTES: usize = 582;
+
+// The cell that a digit makes: 0 open, 1 to 12 clues of every direction with number 0, 1 and 2, then open again.
+fn cell(digit: u64) -> u8 {
+    if digit == 0 {
+        return 0;
+    }
+    if digit > 12 {
+        return 0;
+    }
+    let clue = digit - 1;
+    (0x10 * (1 + clue % 4) + clue / 4) as u8
+}
+
+// The record of a grid whose cells are made of a number's digits to some base, the lowest first; zeros after it.
+pub fn numbered(rows: usize, columns: usize, base: u64, number: u64) -> [u8; BYTES]
+    requires { ⌜ (rows ≤ 24) × (columns ≤ 24) × (rows * columns ≤ 576) ⌝ }
+    requires { ⌜ 0 < base ⌝ }
+{
+    let end = 6 + rows * columns;
+    let mut record = [0u8; BYTES];
+    record[0] = (end % 256) as u8;
+    record[1] = (end / 256) as u8;
+    record[2] = 1;
+    record[4] = rows as u8;
+    record[5] = columns as u8;
+    let mut rest = number;
+    for i in 6..end {
+        record[i] = cell(rest % base);
+        rest = rest / base;
+    }
+    record
+}
