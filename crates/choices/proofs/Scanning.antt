@@ -64,10 +64,6 @@ module _ {w : Values} {ls : List ℤ} {start i : ℕ} {bad : Bool} (f : Failing 
     unfolding firstClause
     fail-next z b = record { seen = omega arith; rest = rw add-one (begin w (suc i) (drop (suc i) ls) ∙ (rw (b, z, firstClause) at here)) }
 
-    pub fail-past : closes (getD ls i (pos 0)) ≡ false → bad ≡ false → Failing w ls start (i + 1) bad
-    unfolding firstClause
-    fail-past z b = record { seen = omega arith; rest = rw add-one (rw b (rw (b, z, firstClause) at here)) }
-
     pub fail-false : closes (getD ls i (pos 0)) ≡ false → fails w (getD ls i (pos 0)) ≡ true → Failing w ls start (i + 1) bad
     unfolding firstClause everyLiteral
     fail-false z k = record { seen = omega arith; rest = rw add-one (by bad here) }

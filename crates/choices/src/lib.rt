@@ -48,10 +48,6 @@ pub fn first_failed(list: &[i32], marks: &[u8]) -> Place
                 start = i;
                 continue 'clauses;
             }
-            // a clause that stands needs no further value
-            if !bad {
-                continue;
-            }
             if number(marks, k) != 2 - k % 2 {
                 bad = false;
             }

@@ -5,12 +5,11 @@ use mathlib.Core.Path.{_≡_}
 use mathlib.Core.Bool.{false, true}
 use Rattle.cnf.specs.Literals.{closes}
 use Rattle.choices.proofs.Literals.{Read, code-two, code-within, code-not, code-zero, read-fails, read-stands}
-use borrow.Author.Tests.{not-true}
 use borrow.Author.Needs.{needs}
 use native.Mathlib.Omega.{arith}
 use Prim.Native.Nat.{_-_, _≤_}
 use Rattle.choices.specs.Held.{held}
-use Rattle.choices.proofs.Scanning.{Failing, fail-start, fail-none, fail-found, fail-next, fail-past, fail-false, fail-other}
+use Rattle.choices.proofs.Scanning.{Failing, fail-start, fail-none, fail-found, fail-next, fail-false, fail-other}
 use Rattle.choices.proofs.first_failed.Statement.{statement}
 use Rattle.choices.proofs.first_failed.Tie as tie
 
@@ -33,8 +32,8 @@ lit c = getD (c .before .before .before .before .before .args .list .now) (c .be
 not-closed : (c : tie.Else2 Inv-loop μ-loop Inv-clauses μ-clauses) → closes (lit (c .before)) ≡ false
 not-closed c = code-not (lit (c .before)) (c .before .code-at .ensures) (c .if2 .left)
 
-read : (c : tie.After-number Inv-loop μ-loop Inv-clauses μ-clauses) → Read (c .before .before .before .before .before .before .before .before .args .marks .now) (lit (c .before .before .before)) (c .before .before .before .code-at .result) (c .number .result)
-read c = record { code = c .before .before .before .code-at .ensures; some = c .before .before .if2 .left; number = c .number .ensures }
+read : (c : tie.After-number Inv-loop μ-loop Inv-clauses μ-clauses) → Read (c .before .before .before .before .before .before .before .args .marks .now) (lit (c .before .before)) (c .before .before .code-at .result) (c .number .result)
+read c = record { code = c .before .before .code-at .ensures; some = c .before .if2 .left; number = c .number .ensures }
 
 clauses-holds : tie.Need-clauses-holds Inv-loop μ-loop Inv-clauses μ-clauses
 clauses-holds c = fail-start
@@ -54,29 +53,23 @@ clauses-less c = omega arith
 clauses-again : tie.Need-clauses-again Inv-loop μ-loop Inv-clauses μ-clauses
 clauses-again c = fail-next (c .before .before .before .before .loop .inv .1) (omega arith) (code-zero (lit (c .before .before)) (c .before .before .code-at .ensures) (c .before .if2 .taken)) (c .if3 .left)
 
+number-requires : tie.Need-number-requires Inv-loop μ-loop Inv-clauses μ-clauses
+number-requires c κs = (code-two (lit (c .before)) (c .before .code-at .ensures) (c .if2 .left), code-within (c .before .before .before .before .before .before .pre) (c .before .before .before .loop .i) (omega arith) (c .before .code-at .ensures))
+
+sub-if4 : tie.Need-sub-if4 Inv-loop μ-loop Inv-clauses μ-clauses
+sub-if4 c = omega arith
+
 loop-less : tie.Need-loop-less Inv-loop μ-loop Inv-clauses μ-clauses
 loop-less c = omega arith
 
 loop-again : tie.Need-loop-again Inv-loop μ-loop Inv-clauses μ-clauses
-loop-again c = (omega arith, fail-past (c .before .before .before .before .loop .inv .1) (omega arith) (not-closed (c .before)) (not-true _ (c .if4 .taken)))
-
-number-requires : tie.Need-number-requires Inv-loop μ-loop Inv-clauses μ-clauses
-number-requires c κs = (code-two (lit (c .before .before)) (c .before .before .code-at .ensures) (c .before .if2 .left), code-within (c .before .before .before .before .before .before .before .pre) (c .before .before .before .before .loop .i) (omega arith) (c .before .before .code-at .ensures))
-
-sub-if5 : tie.Need-sub-if5 Inv-loop μ-loop Inv-clauses μ-clauses
-sub-if5 c = omega arith
+loop-again c = (omega arith, fail-other (c .before .before .before .before .before .loop .inv .1) (omega arith) (not-closed (c .before .before)) (read-stands (lit (c .before .before .before)) (read (c .before)) (c .if4 .taken)))
 
 loop-less-2 : tie.Need-loop-less-2 Inv-loop μ-loop Inv-clauses μ-clauses
 loop-less-2 c = omega arith
 
 loop-again-2 : tie.Need-loop-again-2 Inv-loop μ-loop Inv-clauses μ-clauses
-loop-again-2 c = (omega arith, fail-other (c .before .before .before .before .before .before .loop .inv .1) (omega arith) (not-closed (c .before .before .before)) (read-stands (lit (c .before .before .before .before)) (read (c .before)) (c .if5 .taken)))
-
-loop-less-3 : tie.Need-loop-less-3 Inv-loop μ-loop Inv-clauses μ-clauses
-loop-less-3 c = omega arith
-
-loop-again-3 : tie.Need-loop-again-3 Inv-loop μ-loop Inv-clauses μ-clauses
-loop-again-3 c = (omega arith, fail-false (c .before .before .before .before .before .before .loop .inv .1) (omega arith) (not-closed (c .before .before .before)) (read-fails (lit (c .before .before .before .before)) (read (c .before)) (c .if5 .left)))
+loop-again-2 c = (omega arith, fail-false (c .before .before .before .before .before .loop .inv .1) (omega arith) (not-closed (c .before .before)) (read-fails (lit (c .before .before .before)) (read (c .before)) (c .if4 .left)))
 
 returns : tie.Need-returns Inv-loop μ-loop Inv-clauses μ-clauses
 returns c = fail-none (c .before .loop .inv .1) (c .if1 .taken)
@@ -98,13 +91,11 @@ first-failed-spec =
     add-i
     clauses-less
     clauses-again
+    number-requires
+    sub-if4
     loop-less
     loop-again
-    number-requires
-    sub-if5
     loop-less-2
     loop-again-2
-    loop-less-3
-    loop-again-3
     returns
     returns-2)
