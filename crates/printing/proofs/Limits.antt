@@ -1,4 +1,5 @@
--- The number of the programs' refusal, beside that of a call whose first rows are the record reader's too. Assumes nothing.
+-- The programs' refusals: which they are, beside those of a call that begins with the record reader's rows too, and that what is printed fits.
+-- Assumes nothing.
 use Prim.Native.Nat.{ℕ, _≤_}
 use native.Mathlib.Omega.{arith}
 use lib.Dec.{eqb, ltb}
@@ -7,7 +8,6 @@ use lib.Seq.{length-take-le}
 use borrow.Author.Tests.{eq-eqb, ne-eqb, eqb-true, ltb-false}
 use mathlib.Core.Path.{_≡_, refl, sym, _∙_, ap}
 use mathlib.Core.Bool.{Bool, true, false, cond}
-use mathlib.Core.Logic.{_⊎_, inl, inr}
 use mathlib.Core.Option.{Option, none, some}
 use mathlib.Core.List.{List, [], _∷_, _++_}
 use Rattle.answers.specs.declared.Told.{Told}
@@ -27,16 +27,15 @@ use Rattle.encoder.proofs.Lists.{all-left, all-right}
 use Rattle.printing.specs.Lines.{refusedLine}
 use Rattle.printing.specs.Programs.{mostElements, mostHeld, needsMore, programRows, programNumber, printed}
 
--- rows turn a call down whatever comes after them, or none has its cause
-pub turned-or-clear : (rs : List Row) → ((qs ps : List Row) (t u : Told) → turnedDown (rs ++ qs) t ≡ turnedDown (rs ++ ps) u) ⊎ Clear rs
-turned-or-clear [] = inr tt
-turned-or-clear (r ∷ rs) = by (r .beside) refl (turned-or-clear rs)
+-- calls with the same first rows tell the same number, if they do wherever these are passed
+same-rows : (rs qs ps : List Row) (t u : Told) → (Clear rs → turnedDown qs t .number ≡ turnedDown ps u .number) → turnedDown (rs ++ qs) t .number ≡ turnedDown (rs ++ ps) u .number
+same-rows [] qs ps t u h = h tt
+same-rows (r ∷ rs) qs ps t u h = by (r .beside) refl (same-rows rs qs ps t u)
   where
-    by : (o : Option ℕ) → r .beside ≡ o → ((qs ps : List Row) (t u : Told) → turnedDown (rs ++ qs) t ≡ turnedDown (rs ++ ps) u) ⊎ Clear rs
-        → ((qs ps : List Row) (t u : Told) → turnedDown (r ∷ rs ++ qs) t ≡ turnedDown (r ∷ rs ++ ps) u) ⊎ Clear (r ∷ rs)
-    by (some v) e go = inl (λ qs ps t u. ap (λ o. unless (r .number) o (turnedDown (rs ++ qs) t)) e ∙ sym (ap (λ o. unless (r .number) o (turnedDown (rs ++ ps) u)) e))
-    by none e (inl go) = inl (λ qs ps t u. ap (unless (r .number) (r .beside)) (go qs ps t u))
-    by none e (inr go) = inr (e, go)
+    by : (o : Option ℕ) → r .beside ≡ o → ((Clear rs → turnedDown qs t .number ≡ turnedDown ps u .number) → turnedDown (rs ++ qs) t .number ≡ turnedDown (rs ++ ps) u .number)
+        → unless (r .number) o (turnedDown (rs ++ qs) t) .number ≡ unless (r .number) o (turnedDown (rs ++ ps) u) .number
+    by none e go = go (λ c. h (e, c))
+    by (some v) e go = refl
 
 -- the number that row 6 gives
 abbrev pub limited : Bool → ℕ
@@ -65,11 +64,7 @@ module _ (s : List ℕ) where
 
   -- the same refusal as that of another call
   pub same-number : (qs : List Row) (t : Told) → (Clear (recordRows s) → turnedDown qs t .number ≡ limited (needsMore (boardOf s))) → turnedDown (recordRows s ++ qs) t .number ≡ programNumber s
-  same-number qs t h = by (turned-or-clear (recordRows s))
-    where
-      by : ((qs ps : List Row) (t u : Told) → turnedDown (recordRows s ++ qs) t ≡ turnedDown (recordRows s ++ ps) u) ⊎ Clear (recordRows s) → turnedDown (recordRows s ++ qs) t .number ≡ programNumber s
-      by (inl e) = ap (λ (t : Told). t .number) (e qs (row 6 (cause (needsMore (boardOf s))) ∷ []) t (answer 0 0 0))
-      by (inr c) = ap (λ (t : Told). t .number) (left c qs t) ∙ h c ∙ sym (left-to-limits c)
+  same-number qs t h = same-rows (recordRows s) qs (row 6 (cause (needsMore (boardOf s))) ∷ []) t (answer 0 0 0) h
 
 -- what is printed
 pub printed-refused : {n m : ℕ} (text : List ℕ) → n ≡ m → (m ≡ 0 → ⊥) → refusedLine n ≡ printed m text
@@ -87,7 +82,7 @@ rows-most (r ∷ rs) t a h = by (r .beside) (rows-most rs t (a .1) h)
     by none i = i
     by (some v) i = a .0
 
-pub line-short : (s : List ℕ) → length (refusedLine (programNumber s)) ≤ 10
+line-short : (s : List ℕ) → length (refusedLine (programNumber s)) ≤ 10
 line-short s =
     let m = rows-most (programRows s) (answer 0 0 0) (omega arith, (omega arith, (omega arith, (omega arith, (omega arith, (omega arith, tt)))))) (omega arith) in
     let d = digits-few 0 (programNumber s) (omega arith) in
