@@ -130,7 +130,7 @@ fn put_element(text: &mut [u8], at: usize, list: &[i32], i: usize) -> usize
     put_field(text, first, k / 2, b' ')
 }
 
-fn put_lines(text: &mut [u8], at: usize, list: &[i32]) -> usize
+pub fn put_lines(text: &mut [u8], at: usize, list: &[i32]) -> usize
     requires { ⌜ at + length (lines (now list)) < 18446744073709551616 ⌝ }
     ensures { λ r. ⌜ Wrote (now (text .entry)) at (lines (now (list .entry))) (now (text .exit)) r ⌝ }
 {
@@ -155,7 +155,7 @@ fn put_preamble(text: &mut [u8]) -> usize
     put_byte(text, f, b' ')
 }
 
-fn put_header(text: &mut [u8], variables: usize, clauses: usize) -> usize
+pub fn put_header(text: &mut [u8], variables: usize, clauses: usize) -> usize
     requires { ⌜ length (headerLine variables clauses) < 18446744073709551616 ⌝ }
     ensures { λ r. ⌜ Wrote (now (text .entry)) 0 (headerLine variables clauses) (now (text .exit)) r ⌝ }
 {

@@ -1,0 +1,3 @@
+-- How the program goes on after the encoder's call, and that what it prints fits.
+pub mod Ends
+pub mod Fits

@@ -1,0 +1,78 @@
+-- `print_clauses::clauses_text` meets its contract. Assumes nothing.
+use native.Mathlib.Omega.{arith}
+use Rattle.print_clauses.proofs.Ends.{Encodes, ends-refused, ends-large, listed-inside, listed-long, listed-fits, ends-listed}
+use borrow.Author.Needs.{needs}
+use Rattle.print_clauses.proofs.clauses_text.Statement.{statement}
+use Rattle.print_clauses.proofs.clauses_text.Tie as tie
+
+call : (c : tie.After-encode) → Encodes (c .before .before .before .before .args .«record» .now) (c .encode .result) (c .encode .last .1 .0)
+call c = record { told = c .encode .ensures .0; left = c .encode .ensures .1 }
+
+slice-aggregate-encode : tie.Need-slice-aggregate-encode
+slice-aggregate-encode c = search needs
+
+encode-requires : tie.Need-encode-requires
+encode-requires c κs = search needs
+
+enum-known-e : tie.Need-enum-known-e
+enum-known-e c = search needs
+
+enum-told : tie.Need-enum-told
+enum-told c = search needs
+
+told-requires : tie.Need-told-requires
+told-requires c κs = search needs
+
+put-refused-requires : tie.Need-put-refused-requires
+put-refused-requires c κs = search needs
+
+same-length : tie.Need-same-length
+same-length c = search needs
+
+returns : tie.Need-returns
+returns c = ends-refused (call (c .before .before .before .before .before .before .before .before)) (c .before .before .before .before .before .enum-told .given .1) (c .before .before .before .told .ensures) (c .before .before .put-refused .ensures)
+
+put-refused-requires-2 : tie.Need-put-refused-requires-2
+put-refused-requires-2 c κs = search needs
+
+same-length-2 : tie.Need-same-length-2
+same-length-2 c = search needs
+
+returns-2 : tie.Need-returns-2
+returns-2 c = ends-large (call (c .before .before .before .before .before .before .before .before .before)) (c .before .before .before .before .before .before .e .given .1) (omega (arith, c .before .before .before .before .if1 .taken)) (c .before .before .put-refused2 .ensures)
+
+array-share-prefix-list : tie.Need-array-share-prefix-list
+array-share-prefix-list c = listed-inside (call (c .before .before .before .before .before .before)) (c .before .before .before .e .given .1)
+
+slice-aggregate-put-text : tie.Need-slice-aggregate-put-text
+slice-aggregate-put-text c = listed-long (call (c .before .before .before .before .before .before .before)) (c .before .before .before .before .e .given .1)
+
+put-text-requires : tie.Need-put-text-requires
+put-text-requires c κs = listed-fits (call (c .before .before .before .before .before .before .before)) (c .before .before .before .before .e .given .1) (omega (arith, c .before .before .if1 .left))
+
+same-length-3 : tie.Need-same-length-3
+same-length-3 c = search needs
+
+returns-3 : tie.Need-returns-3
+returns-3 c = ends-listed (call (c .before .before .before .before .before .before .before .before .before .before)) (c .before .before .before .before .before .before .before .e .given .1) (omega (arith, c .before .before .before .before .before .if1 .left)) (c .before .before .put-text .ensures)
+
+pub clauses-text-spec : {M : Type 1} → statement M
+clauses-text-spec =
+    tie.close
+    (tie.spec
+    slice-aggregate-encode
+    encode-requires
+    enum-known-e
+    enum-told
+    told-requires
+    put-refused-requires
+    same-length
+    returns
+    put-refused-requires-2
+    same-length-2
+    returns-2
+    array-share-prefix-list
+    slice-aggregate-put-text
+    put-text-requires
+    same-length-3
+    returns-3)

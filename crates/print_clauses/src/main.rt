@@ -1,0 +1,53 @@
+// Program 1: reads a record on standard input and prints its grid's clauses as DIMACS text, or one line such as `refused 3`.
+ghost use mathlib.Core.List.{_++_};
+ghost use Prim.Native.Nat.{_+_, _<_};
+ghost use lib.ListN.{length};
+ghost use Rattle.answers.specs.Lent.{Wrote};
+ghost use Rattle.dimacs.specs.Text.{lines, headerLine};
+ghost use Rattle.printing.specs.Programs.{printedClauses};
+use dimacs_writer::put_header;
+use dimacs_writer::put_lines;
+use encode::Encoded;
+use encode::encode;
+use printing::put_refused;
+
+// The list elements that the program holds.
+const MOST_ELEMENTS: usize = 8192;
+
+// The variables that it holds.
+const MOST_VARIABLES: usize = 4096;
+
+// The header, then one clause a line.
+fn put_text(text: &mut [u8], variables: usize, clauses: usize, list: &[i32]) -> usize
+    requires { ⌜ length (headerLine variables clauses) + length (lines (now list)) < 18446744073709551616 ⌝ }
+    ensures { λ r. ⌜ Wrote (now (text .entry)) 0 (headerLine variables clauses ++ lines (now (list .entry))) (now (text .exit)) r ⌝ }
+{
+    let first = put_header(text, variables, clauses);
+    put_lines(text, first, list)
+}
+
+// Writes what the program prints for the bytes on its standard input; returns how many bytes that is.
+fn clauses_text(record: &[u8], text: &mut [u8]) -> usize
+    ensures { λ r. ⌜ Wrote (now (text .entry)) 0 (printedClauses (now («record» .entry))) (now (text .exit)) r ⌝ }
+{
+    let mut list = [0i32; MOST_ELEMENTS];
+    let e = encode(record, &mut list);
+    let Encoded::Listed(c) = e else {
+        return put_refused(text, e.told().number as usize);
+    };
+    let elements = c.elements;
+    let variables = c.variables;
+    if variables > MOST_VARIABLES {
+        return put_refused(text, 6);
+    }
+    put_text(text, variables, c.clauses, &list[..elements])
+}
+
+// No record has more than 65,535 bytes, so 65,536 of a longer input are enough to refuse it.
+fn main() {
+    let mut record = io::large_buffer();
+    let read = io::read_full(0, &mut record);
+    let mut text = io::large_buffer();
+    let printed = clauses_text(&record[..read], &mut text);
+    io::write_all(1, &text[..printed]);
+}

@@ -1,0 +1,2 @@
+-- How the program goes on after the solver's call, and that what it prints fits.
+pub mod Ends

@@ -1,0 +1,119 @@
+-- `solve::solution_text` meets its contract. Assumes nothing.
+use mathlib.Core.Path.{refl, ap}
+use Rattle.solver.specs.Solving.{Lent}
+use Rattle.solve.proofs.Ends.{Solves, ends-refused, ends-none, ends-halted, found-held, found-inside, ends-found}
+use borrow.Author.Needs.{needs}
+use Rattle.solve.proofs.solution_text.Statement.{statement}
+use Rattle.solve.proofs.solution_text.Tie as tie
+
+call : (c : tie.After-solve) → Solves (c .before .before .before .before .before .before .before .before .args .«record» .now) (c .solve .result) (c .solve .last .1 .1 .1 .1 .1 .0)
+call c = record { told = c .solve .ensures .0; left = ap (λ (l : Lent). l .drawing) (c .solve .ensures .1) }
+
+slice-aggregate-solve : tie.Need-slice-aggregate-solve
+slice-aggregate-solve c = refl
+
+slice-aggregate-solve-2 : tie.Need-slice-aggregate-solve-2
+slice-aggregate-solve-2 c = refl
+
+slice-aggregate-solve-3 : tie.Need-slice-aggregate-solve-3
+slice-aggregate-solve-3 c = refl
+
+slice-aggregate-solve-4 : tie.Need-slice-aggregate-solve-4
+slice-aggregate-solve-4 c = refl
+
+slice-aggregate-solve-5 : tie.Need-slice-aggregate-solve-5
+slice-aggregate-solve-5 c = refl
+
+solve-requires : tie.Need-solve-requires
+solve-requires c κs = search needs
+
+enum-told : tie.Need-enum-told
+enum-told c = search needs
+
+slice-aggregate-put-cells : tie.Need-slice-aggregate-put-cells
+slice-aggregate-put-cells c = search needs
+
+put-cells-requires : tie.Need-put-cells-requires
+put-cells-requires c κs = (found-held (call (c .before .before .before .before .before .before .before .before .before)) (c .before .before .enum-told .given .1), found-inside (call (c .before .before .before .before .before .before .before .before .before)) (c .before .before .enum-told .given .1))
+
+enum-told-2 : tie.Need-enum-told-2
+enum-told-2 c = search needs
+
+slice-aggregate-put-word : tie.Need-slice-aggregate-put-word
+slice-aggregate-put-word c = search needs
+
+put-word-requires : tie.Need-put-word-requires
+put-word-requires c κs = search needs
+
+enum-told-3 : tie.Need-enum-told-3
+enum-told-3 c = search needs
+
+slice-aggregate-put-word-2 : tie.Need-slice-aggregate-put-word-2
+slice-aggregate-put-word-2 c = search needs
+
+put-word-requires-2 : tie.Need-put-word-requires-2
+put-word-requires-2 c κs = search needs
+
+enum-told-4 : tie.Need-enum-told-4
+enum-told-4 c = search needs
+
+told-requires : tie.Need-told-requires
+told-requires c κs = search needs
+
+put-refused-requires : tie.Need-put-refused-requires
+put-refused-requires c κs = search needs
+
+same-length : tie.Need-same-length
+same-length c = search needs
+
+returns : tie.Need-returns
+returns c = ends-found (call (c .before .before .before .before .before .before .before .before .before .before .before .before)) (c .before .before .before .before .before .enum-told .given .1) (c .before .before .put-cells .ensures)
+
+same-length-2 : tie.Need-same-length-2
+same-length-2 c = search needs
+
+returns-2 : tie.Need-returns-2
+returns-2 c = ends-none (call (c .before .before .before .before .before .before .before .before .before .before .before .before)) (c .before .before .before .before .before .enum-told2 .given .1) (c .before .before .put-word .ensures)
+
+same-length-3 : tie.Need-same-length-3
+same-length-3 c = search needs
+
+returns-3 : tie.Need-returns-3
+returns-3 c = ends-halted (call (c .before .before .before .before .before .before .before .before .before .before .before .before)) (c .before .before .before .before .before .enum-told3 .given .1) (c .before .before .put-word2 .ensures)
+
+same-length-4 : tie.Need-same-length-4
+same-length-4 c = search needs
+
+returns-4 : tie.Need-returns-4
+returns-4 c = ends-refused (call (c .before .before .before .before .before .before .before .before .before .before .before .before)) (c .before .before .before .before .before .enum-told4 .given .1) (c .before .before .before .told .ensures) (c .before .before .put-refused .ensures)
+
+pub solution-text-spec : {M : Type 1} → statement M
+solution-text-spec =
+    tie.close
+    (tie.spec
+    slice-aggregate-solve
+    slice-aggregate-solve-2
+    slice-aggregate-solve-3
+    slice-aggregate-solve-4
+    slice-aggregate-solve-5
+    solve-requires
+    enum-told
+    slice-aggregate-put-cells
+    put-cells-requires
+    enum-told-2
+    slice-aggregate-put-word
+    put-word-requires
+    enum-told-3
+    slice-aggregate-put-word-2
+    put-word-requires-2
+    enum-told-4
+    told-requires
+    put-refused-requires
+    same-length
+    returns
+    same-length-2
+    returns-2
+    same-length-3
+    returns-3
+    same-length-4
+    returns-4)

@@ -1,0 +1,72 @@
+// Program 2: reads a record on standard input, searches with budget 1,000,000 and prints the drawing, `none` or `halted`, or one line such
+// as `refused 3`.
+ghost use Prim.Native.Nat.{_≤_};
+ghost use lib.ListN.{length, take};
+ghost use Rattle.answers.specs.Lent.{Wrote};
+ghost use Rattle.rules.specs.Record.{sides, size, Held};
+ghost use Rattle.printing.specs.Lines.{drawingText};
+ghost use Rattle.printing.specs.Programs.{printedSolution};
+use printing::put_drawing;
+use printing::put_refused;
+use printing::put_word;
+use solve_grid::Solved;
+use solve_grid::solve;
+
+// The list elements that the program holds.
+const MOST_ELEMENTS: usize = 8192;
+
+// The variables that it holds.
+const MOST_VARIABLES: usize = 4096;
+
+// The most cells that a grid has.
+const MOST_CELLS: usize = 576;
+
+// The most steps that the search makes.
+const BUDGET: u64 = 1000000;
+
+// The drawing of a record's grid, a row a line.
+fn put_cells(text: &mut [u8], record: &[u8], drawing: &[u8]) -> usize
+    requires { ⌜ Held (sides (now «record»)) (now «record») ⌝ }
+    requires { ⌜ size (sides (now «record»)) ≤ length (now drawing) ⌝ }
+    ensures { λ r. ⌜ Wrote (now (text .entry)) 0 (drawingText (sides (now («record» .entry)) .columns) (take (size (sides (now («record» .entry)))) (now (drawing .entry)))) (now (text .exit)) r ⌝ }
+{
+    let rows = record[4] as usize;
+    let columns = record[5] as usize;
+    let n = rows * columns;
+    put_drawing(text, columns, &drawing[..n])
+}
+
+// Writes what the program prints for the bytes on its standard input; returns how many bytes that is.
+fn solution_text(record: &[u8], text: &mut [u8]) -> usize
+    ensures { λ r. ⌜ Wrote (now (text .entry)) 0 (printedSolution (now («record» .entry))) (now (text .exit)) r ⌝ }
+{
+    let mut list = [0i32; MOST_ELEMENTS];
+    let mut trail = [0i32; MOST_VARIABLES];
+    let mut marks = [0u8; MOST_VARIABLES];
+    let mut values = [0u8; MOST_VARIABLES];
+    let mut drawing = [0u8; MOST_CELLS];
+    let answer = solve(
+        record,
+        &mut list,
+        &mut trail,
+        &mut marks,
+        &mut values,
+        &mut drawing,
+        BUDGET,
+    );
+    match answer {
+        Solved::Found(_) => put_cells(text, record, &drawing),
+        Solved::None(_) => put_word(text, 0, b"none\n"),
+        Solved::Halted(_) => put_word(text, 0, b"halted\n"),
+        Solved::Refused(_) => put_refused(text, answer.told().number as usize),
+    }
+}
+
+// No record has more than 65,535 bytes, so 65,536 of a longer input are enough to refuse it.
+fn main() {
+    let mut record = io::large_buffer();
+    let read = io::read_full(0, &mut record);
+    let mut text = io::buffer();
+    let printed = solution_text(&record[..read], &mut text);
+    io::write_all(1, &text[..printed]);
+}
