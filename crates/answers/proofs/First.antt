@@ -128,6 +128,11 @@ module _ {p : ℕ → Bool} {n i : ℕ} (s : Seeking p n i) where
   pub seek-none : {m : ℕ} → n ≤ i → n ≡ m → none ≡ firstWhere p m
   seek-none h e = let w = s .within in sym (none-first p n (λ k l. s .none-yet k (omega arith))) ∙ ap (firstWhere p) e
 
+-- nothing was found: the test did not hold
+pub not-found : (t : Bool) (n : ℕ) → found t n none ≡ none → t ≡ false
+not-found true n e = absurd (Option·some-ne-none n e)
+not-found false n e = refl
+
 -- what a search answered, as the definition has it
 pub found-at : {q : Place} {x : ℕ} {o : Option ℕ} → q ≡ At x → placed q ≡ o → some x ≡ o
 found-at e h = sym (ap placed e) ∙ h

@@ -1,14 +1,16 @@
 -- Row 6, and what a call with a lent buffer tells and leaves once the rows are gone through. Assumes nothing.
 use Prim.Native.Nat.{ℕ, _≤_, _<_, _^_}
 use native.Mathlib.Omega.{arith}
-use borrow.Author.Tests.{ne-eqb, lt-ltb, le-ltb}
+use borrow.Author.Tests.{ne-eqb, lt-ltb, le-ltb, ltb-false}
+use lib.Dec.{ltb}
 use mathlib.Core.Path.{_≡_, _∙_, ap}
 use mathlib.Core.Bool.{cond}
 use mathlib.Core.Option.{none, some}
 use mathlib.Core.List.{List}
 use Rattle.answers.specs.declared.Told.{Told}
 use Rattle.answers.specs.Told.{Row, turnedDown}
-use Rattle.answers.specs.Lent.{tooShort, leaves}
+use Rattle.answers.specs.Lent.{capped, tooShort, leaves}
+use Rattle.answers.proofs.First.{not-found}
 use Rattle.answers.proofs.Rows.{Tells, tells}
 
 -- a count below 2^64 against the room
@@ -21,6 +23,9 @@ module _ (room : ℕ) {needed : ℕ} where
 
   pub long-enough : needed ≤ room → tooShort room needed ≡ none
   long-enough l = rw (le-ltb room needed l)
+
+  pub enough : tooShort room needed ≡ none → needed ≤ room
+  enough e = ltb-false room needed (not-found (ltb room needed) (capped needed) e)
 
 -- a refusal leaves all as it was
 pub untouched : {A : Type 0} (t : Told) (before after : A) → (t .number ≡ 0 → ⊥) → leaves t before after ≡ before

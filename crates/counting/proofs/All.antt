@@ -5,7 +5,7 @@ use lib.ListN.{length, length-append}
 use mathlib.Core.Path.{_≡_, refl, sym, _∙_, ap, subst}
 use mathlib.Core.List.{List, [], _∷_, _++_}
 use Rattle.rules.specs.declared.Grid.{Grid}
-use Rattle.rules.specs.Record.{size, puzzle, mostCells, Held}
+use Rattle.rules.specs.Record.{size, puzzle, Held}
 use Rattle.rules.specs.Board.{Board, gridBoard}
 use Rattle.encoder.specs.Lists.{upTo, each, keep}
 use Rattle.encoder.specs.Variables.{openCount, variableCount}

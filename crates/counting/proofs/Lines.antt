@@ -8,7 +8,7 @@ use mathlib.Core.Bool.{Bool, true, false}
 use mathlib.Core.List.{List, [], _∷_}
 use Rattle.answers.specs.Lists.{tally, howMany}
 use Rattle.rules.specs.Board.{Board}
-use Rattle.encoder.specs.Clauses.{cellClauses, lineClauses}
+use Rattle.encoder.specs.Clauses.{lineClauses}
 use Rattle.encoder.proofs.Counts.{pairCount, pair-count, Sized, sized-none, sized-append, sized-is, cell-clue, cell-open}
 
 pub pairs-half : (n : ℕ) → n * (n - 1) / 2 ≡ pairCount n

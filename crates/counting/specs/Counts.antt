@@ -1,5 +1,5 @@
 -- What the counting pass answers, and what it adds up: of each cell the clauses of all families, counted by products.
-use Prim.Native.Nat.{ℕ, suc, _+_, _*_, _-_, _<_, _^_}
+use Prim.Native.Nat.{ℕ, _+_, _*_, _-_, _<_, _^_}
 use lib.ListN.{length}
 use mathlib.Core.List.{List, _++_}
 use Rattle.rules.specs.declared.Grid.{Grid}

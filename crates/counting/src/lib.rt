@@ -21,12 +21,10 @@ use numbering::variable_count;
 use rules::Cell;
 use rules::Direction;
 use rules::Grid;
+use rules::MOST_CELLS;
 use rules::board::go;
 use rules::board::line_end;
 use rules::board::opposite;
-
-// The most cells that a grid has.
-const MOST_CELLS: usize = 576;
 
 // Some clauses, and their elements with the closing zeros.
 pub struct Amount {

@@ -19,6 +19,7 @@ use numbering::fill_ways;
 use numbering::variable_count;
 use rules::Fault;
 use rules::Grid;
+use rules::MOST_CELLS;
 use rules::Parsed;
 use rules::Refusal;
 use rules::Verdict;
@@ -40,9 +41,6 @@ pub enum Decoded {
     Drawn,
     Refused(Undrawn),
 }
-
-// The most cells that a grid has.
-const MOST_CELLS: usize = 576;
 
 // 9: the first value that is not 0 or 1.
 fn wrong_value(values: &[u8]) -> Place

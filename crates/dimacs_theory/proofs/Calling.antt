@@ -8,18 +8,19 @@ use lib.ListN.{length, take}
 use lib.Seq.{take-append-seam}
 use mathlib.Core.Path.{_≡_, refl, _∙_, ap}
 use mathlib.Core.Bool.{Bool, true, false}
-use mathlib.Core.Option.{Option, none, some, Option·some-ne-none}
+use mathlib.Core.Option.{Option, none, some}
 use mathlib.Core.List.{List, [], _∷_}
 use Rattle.answers.specs.declared.Told.{Told}
 use Rattle.answers.specs.Told.{answer, cause, unless}
 use Rattle.answers.specs.Lists.{tally}
-use Rattle.answers.specs.Lent.{capped, tooShort, filled, leaves}
+use Rattle.answers.specs.Lent.{tooShort, filled, leaves}
+use Rattle.answers.proofs.Rows.{no-cause}
+use Rattle.answers.proofs.Settled.{enough}
 use Rattle.cnf.specs.Literals.{closes, mostVariables, tooManyVariables, wrongList}
 use Rattle.cnf.specs.Clauses.{clauseCount}
 use Rattle.dimacs.specs.Text.{textOf, Writable}
 use Rattle.dimacs.specs.Reader.{refusedAt, listOf}
 use Rattle.dimacs.specs.Calls.{writerAnswer, readerAnswer}
-use Rattle.dimacs_theory.proofs.Closings.{found-none}
 use Rattle.dimacs_theory.specs.Reading.{ReadAs, Writes, Reads, written, elementsRead}
 
 -- a row that did not turn the call down
@@ -27,20 +28,13 @@ past : (n : ℕ) (o : Option ℕ) (t : Told) → (n ≡ 0 → ⊥) → unless n 
 past n none t z e = (refl, e)
 past n (some v) t z e = absurd (z e)
 
-enough : (room needed : ℕ) → tooShort room needed ≡ none → needed ≤ room
-enough room needed e = ltb-false room needed (found-none (ltb room needed) (capped needed) e)
-
-cause-none : (t : Bool) → cause t ≡ none → t ≡ false
-cause-none true e = absurd (Option·some-ne-none 0 e)
-cause-none false e = refl
-
 module _ (v : ℕ) (ls : List ℤ) (buf : List ℕ) where
   pub writer-passed : clauseCount ls < 2 ^ 64 → writerAnswer v ls buf .number ≡ 0 → Writable v ls × (length (textOf v ls) ≤ length buf)
   writer-passed c e =
       let a = past 17 (cause (tooManyVariables v)) _ (omega arith) e in
       let b = past 16 (wrongList v ls) _ (omega arith) (a .1) in
       let d = past 6 (tooShort (length buf) (length (textOf v ls))) _ (omega arith) (b .1) in
-      (record { few = ltb-false mostVariables v (cause-none _ (a .0)); right = b .0; counted = c }, enough (length buf) (length (textOf v ls)) (d .0))
+      (record { few = ltb-false mostVariables v (no-cause _ (a .0)); right = b .0; counted = c }, enough (length buf) (d .0))
 
   module _ (w : Writable v ls) (h : length (textOf v ls) ≤ length buf) where
     pub writer-answers : Writes v ls buf (textOf v ls)
@@ -57,7 +51,7 @@ module _ (text : List ℕ) (buf : List ℤ) where
   reader-passed e =
       let a = past 19 (refusedAt text) _ (omega arith) e in
       let b = past 6 (tooShort (length buf) (length (listOf text))) _ (omega arith) (a .1) in
-      (a .0, enough (length buf) (length (listOf text)) (b .0))
+      (a .0, enough (length buf) (b .0))
 
   module _ {v : ℕ} {ls : List ℤ} (r : ReadAs text v ls) (h : length ls ≤ length buf) where
     pub reader-answers : Reads text buf v ls

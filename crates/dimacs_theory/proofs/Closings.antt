@@ -10,7 +10,7 @@ use mathlib.Core.Option.{Option, none, some, Option·some-ne-none}
 use mathlib.Core.List.{List, [], _∷_}
 use Rattle.answers.specs.First.{found, firstWhere}
 use Rattle.answers.specs.Lists.{tally}
-use Rattle.answers.proofs.First.{first-none, none-first}
+use Rattle.answers.proofs.First.{first-none, none-first, not-found}
 use Rattle.cnf.specs.Literals.{closes, beyondAt, unclosed, orElse, wrongList}
 use Rattle.cnf.specs.Clauses.{clauseCount}
 
@@ -40,10 +40,6 @@ neither : (first second : Option ℕ) → orElse first second ≡ none → (firs
 neither none second e = (refl, e)
 neither (some i) second e = absurd (Option·some-ne-none i e)
 
-pub found-none : (t : Bool) (i : ℕ) → found t i none ≡ none → t ≡ false
-found-none true i e = absurd (Option·some-ne-none i e)
-found-none false i e = refl
-
 -- a list that passes ..
 module _ (v : ℕ) where
   closing-on : {begun : Bool} (l : ℤ) (ls : List ℤ) → ((i : ℕ) → i < suc (length ls) → beyondAt v (l ∷ ls) i ≡ false) → unclosed (l ∷ ls) ≡ false → Closing v begun (l ∷ ls)
@@ -55,7 +51,7 @@ module _ (v : ℕ) where
   closing [] e = done
   closing (l ∷ ls) e =
       let n = neither (firstWhere (beyondAt v (l ∷ ls)) (length (l ∷ ls))) (found (unclosed (l ∷ ls)) (length (l ∷ ls)) none) e in
-      closing-on l ls (first-none (beyondAt v (l ∷ ls)) (length (l ∷ ls)) (n .0)) (found-none (unclosed (l ∷ ls)) (length (l ∷ ls)) (n .1))
+      closing-on l ls (first-none (beyondAt v (l ∷ ls)) (length (l ∷ ls)) (n .0)) (not-found (unclosed (l ∷ ls)) (length (l ∷ ls)) (n .1))
 
   -- .. and back
   within : {begun : Bool} {ls : List ℤ} → Closing v begun ls → (i : ℕ) → i < length ls → beyondAt v ls i ≡ false

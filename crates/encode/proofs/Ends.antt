@@ -1,14 +1,13 @@
 -- How the call ends: what it tells and what it leaves in the lent list. Assumes nothing.
-use Prim.Native.Nat.{ℕ, _+_, _≤_, _<_, _^_}
+use Prim.Native.Nat.{ℕ, _≤_, _<_, _^_}
 use native.Mathlib.Omega.{arith}
-use lib.IntN.{ℤ, natAbs}
+use lib.IntN.{ℤ}
 use lib.ListN.{length, replicate}
 use mathlib.Core.Path.{_≡_, refl, sym, _∙_, ap, subst}
-use mathlib.Core.List.{List, _++_}
+use mathlib.Core.List.{List}
 use Rattle.answers.specs.declared.Told.{Told}
 use Rattle.answers.specs.Told.{refusal, Row, turnedDown}
 use Rattle.answers.specs.Lent.{Wrote, filled, leaves}
-use Rattle.answers.specs.Lists.{All}
 use Rattle.answers.proofs.Lent.{wrote-filled}
 use Rattle.answers.proofs.Rows.{Tells, answers, turns, passes}
 use Rattle.answers.proofs.Settled.{short-by, long-enough, untouched, settled}
@@ -19,7 +18,6 @@ use Rattle.rules.specs.declared.Refusal.{Refusal}
 use Rattle.rules.specs.Record.{recordAnswer, size, mostCells, toldRefusal, toldParsed}
 use Rattle.rules.specs.Board.{gridBoard, boardOf}
 use Rattle.rules.proofs.Records.{refusal-number, passes-up, read-sides, read-held, is-accepted, goes-on}
-use Rattle.cnf.specs.Literals.{mostVariables}
 use Rattle.encoder.specs.Variables.{openCount, ways, variableCount}
 use Rattle.encoder.specs.Clauses.{clauseList}
 use Rattle.encoder.specs.Encoding.{encoderAnswer, encoderLeaves}

@@ -14,7 +14,6 @@ use Rattle.rules.specs.Board.{Board, gridBoard}
 use Rattle.encoder.specs.Clauses.{clauseList}
 use Rattle.encoder.specs.Small.{Small}
 use Rattle.counting.specs.declared.Counts.{Counts}
-use Rattle.counting.specs.Counts.{countsOf}
 use Rattle.encode.specs.declared.Unlisted.{Unlisted}
 use Rattle.encode.specs.declared.Unlisted.the-variants.{Record, TooShort}
 use Rattle.encode.specs.declared.Encoded.{Encoded}

@@ -16,6 +16,7 @@ use families::all_families;
 use numbering::fill_ranks;
 use numbering::fill_ways;
 use rules::Grid;
+use rules::MOST_CELLS;
 use rules::Parsed;
 use rules::Refusal;
 use rules::record::read;
@@ -53,9 +54,6 @@ impl Encoded {
         }
     }
 }
-
-// The most cells that a grid has.
-const MOST_CELLS: usize = 576;
 
 // Writes the clauses, with ranks and first E variables in tables that are filled once.
 fn write_list(g: Grid, record: &[u8], list: &mut [i32]) -> usize

@@ -18,14 +18,12 @@ use checks::drawing::other;
 use rules::Direction;
 use rules::Fault;
 use rules::Grid;
+use rules::MOST_CELLS;
 use rules::Parsed;
 use rules::Verdict;
 use rules::board::go;
 use rules::board::opposite;
 use rules::record::read;
-
-// The most cells that a grid has.
-const MOST_CELLS: usize = 576;
 
 // The steps left after one that leads to y: none if the walk is back at s.
 fn left_after(y: usize, s: usize, left: usize) -> usize

@@ -5,18 +5,17 @@ use lib.Dec.{ltb}
 use lib.IntN.{ℤ, pos}
 use lib.ListN.{length, take, replicate, length-append, length-replicate}
 use lib.Seq.{take-at}
-use borrow.Author.Tests.{lt-ltb, le-ltb, ltb-false}
+use borrow.Author.Tests.{lt-ltb, le-ltb}
 use mathlib.Core.Path.{_≡_, refl, sym, _∙_, ap}
 use mathlib.Core.Bool.{Bool, true, false}
-use mathlib.Core.Option.{none, Option·some-ne-none}
 use mathlib.Core.List.{List, _++_}
 use Rattle.answers.specs.declared.Told.{Told}
 use Rattle.answers.specs.Told.{turnedDown}
-use Rattle.answers.specs.First.{found}
-use Rattle.answers.specs.Lent.{capped, tooShort, filled, leaves, Wrote}
+use Rattle.answers.specs.Lent.{filled, leaves, Wrote}
 use Rattle.answers.proofs.Bools.{or-right}
 use Rattle.answers.proofs.Lent.{wrote-recast}
 use Rattle.answers.proofs.Rows.{Clear, answered-clear, clear-answered}
+use Rattle.answers.proofs.Settled.{enough}
 use Rattle.rules.specs.Record.{recordRows}
 use Rattle.rules.specs.Board.{boardOf}
 use Rattle.rules.proofs.Records.{refusal-number}
@@ -40,13 +39,6 @@ use Rattle.print_clauses.proofs.Fits.{text-fits}
 unlisted-number : (u : Unlisted) → toldUnlisted u .number ≡ 0 → ⊥
 unlisted-number (Record r) e = refusal-number r e
 unlisted-number (TooShort n) e = omega arith
-
-enough : (room needed : ℕ) → tooShort room needed ≡ none → needed ≤ room
-enough room needed e = by (ltb room needed) refl e
-  where
-    by : (b : Bool) → ltb room needed ≡ b → found b (capped needed) none ≡ none → needed ≤ room
-    by true h e = absurd (Option·some-ne-none (capped needed) e)
-    by false h e = ltb-false room needed h
 
 -- the list that the program lends
 abbrev pub zeros : List ℤ
@@ -122,7 +114,7 @@ module _ {s : List ℕ} {e : Encoded} {new : List ℤ} (w : Encodes s e new) whe
     module _ (h : c .variables ≤ mostHeld) where
       unrefused : programNumber s ≡ 0
       unrefused =
-          let short = enough (length zeros) (length (clauseList (boardOf s))) (parts .1 .0) in
+          let short : length (clauseList (boardOf s)) ≤ length zeros = enough (length zeros) (parts .1 .0) in
           let few = le-ltb mostElements (length (clauseList (boardOf s))) (omega (arith, length-replicate mostElements (pos 0))) in
           left-to-limits s (parts .0) ∙ rw (few, le-ltb mostHeld (variableCount (boardOf s)) (omega (arith, variables)))
 

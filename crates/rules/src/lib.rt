@@ -18,6 +18,9 @@ pub enum CellByte {
     NotAllowed,
 }
 
+// The most cells that a grid has.
+pub const MOST_CELLS: usize = 576;
+
 // The parsed grid: its sides. The cells stay in the record.
 pub struct Grid {
     pub rows: usize,

@@ -13,14 +13,14 @@ use Rattle.answers.specs.First.{firstWhere}
 use Rattle.answers.specs.Lists.{All}
 use Rattle.answers.specs.Told.{cause}
 use Rattle.answers.proofs.Bools.{or-neither}
-use Rattle.answers.proofs.First.{first-none, none-first}
+use Rattle.answers.proofs.First.{first-none, none-first, not-found}
 use Rattle.answers.proofs.Rows.{no-cause}
 use Rattle.cnf.specs.Literals.{tooManyVariables, beyondAt, unclosed, orElse}
 use Rattle.cnf.specs.Clauses.{split}
 use Rattle.search.specs.Trail.{Entry, Trail, laid, trailImage, marksImage, trailOf}
 use Rattle.search.specs.Run.{wrongLengths, wrongEntryAt, IsAccepted}
 use Rattle.search.proofs.Trails.{length-laid, read-image}
-use Rattle.search_theory.proofs.Lists.{found-none, Proper, proper-clauses}
+use Rattle.search_theory.proofs.Lists.{Proper, proper-clauses}
 use Rattle.search_theory.proofs.Legal.{Legal, read-legal, legal-read}
 use Rattle.search_theory.proofs.Full.{legal-length}
 
@@ -39,7 +39,7 @@ module _ {v : ℕ} {ls ts : List ℤ} {ms : List ℕ} {used : ℕ} (ok : IsAccep
   list-right : ((i : ℕ) → i < length ls → beyondAt v ls i ≡ false) × (unclosed ls ≡ false)
   list-right =
       let n = neither (firstWhere (beyondAt v ls) (length ls)) _ (ok .clear .1 .0) in
-      (first-none (beyondAt v ls) (length ls) (n .0), found-none (unclosed ls) (length ls) (n .1))
+      (first-none (beyondAt v ls) (length ls) (n .0), not-found (unclosed ls) (length ls) (n .1))
 
   pub accepted-closed : unclosed ls ≡ false
   accepted-closed = list-right .1

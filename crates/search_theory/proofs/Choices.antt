@@ -16,12 +16,12 @@ use mathlib.Core.List.{List, [], _∷_}
 use Rattle.answers.specs.First.{found}
 use Rattle.answers.specs.Lists.{All, Some}
 use Rattle.answers.proofs.Bools.{clash, or-cases, or-left}
-use Rattle.answers.proofs.First.{first-some, first-none}
+use Rattle.answers.proofs.First.{first-some, first-none, not-found}
 use Rattle.cnf.specs.Literals.{closes, codeOf, orElse, unclosed}
 use Rattle.cnf.specs.Clauses.{splitStep, split}
 use Rattle.search.specs.Trail.{Value, True, False, Unassigned, isFalse, isUnassigned, literalValue, Values}
 use Rattle.search.specs.Step.{everyLiteral, firstClause, fails, failedAt, failsBut, byValue, forcedAt, failedClause, forcedPlace, lowestUnassigned}
-use Rattle.search_theory.proofs.Lists.{all-map, nothing, found-some, found-none}
+use Rattle.search_theory.proofs.Lists.{all-map, nothing, found-some}
 use Rattle.search_theory.proofs.Legal.{AllAssigned}
 
 -- a clause whose literals all pass a test, and one with a literal that does not
@@ -190,7 +190,7 @@ unfolding failedClause forcedPlace lowestUnassigned
 choice-laws v ls w u =
     record {
       failed = λ {i} h. clause-some (failedAt w) _ ls i (λ j r e k. every-true (fails w) r (found-some (everyLiteral (fails w) r) j k .0)) true 0 ls refl h;
-      none-failed = λ h. clause-none (failedAt w) _ (λ j l r c k. every-false (fails w) l r c (found-none (everyLiteral (fails w) (l ∷ r)) j k)) true 0 ls u h;
+      none-failed = λ h. clause-none (failedAt w) _ (λ j l r c k. every-false (fails w) l r c (not-found (everyLiteral (fails w) (l ∷ r)) j k)) true 0 ls u h;
       forced = λ {i} h. clause-some (forcedAt w) _ ls i (forced-at w ls i) true 0 ls refl h;
       free = λ {n} h. let l = first-some (λ n. isUnassigned (w (suc n))) v n h in (l .below, l .holds);
       none-free = λ h. first-none (λ n. isUnassigned (w (suc n))) v h;

@@ -21,10 +21,6 @@ pub found-some : (b : Bool) (n : ℕ) {i : ℕ} → found b n none ≡ some i �
 found-some true n {i} h = (refl, Option·some-injective n i h)
 found-some false n h = nothing h
 
-pub found-none : (b : Bool) (n : ℕ) → found b n none ≡ none → b ≡ false
-found-none true n h = nothing (sym h)
-found-none false n h = refl
-
 pub all-map : {A : Type 0} {P Q : A → Type 0} → ((x : A) → P x → Q x) → (xs : List A) → All P xs → All Q xs
 all-map f [] h = tt
 all-map f (x ∷ xs) h = (f x (h .0), all-map f xs (h .1))

@@ -9,6 +9,7 @@ ghost use Rattle.printing.specs.Programs.{printedSolution};
 use printing::put_drawing;
 use printing::put_refused;
 use printing::put_word;
+use rules::MOST_CELLS;
 use solve_grid::Solved;
 use solve_grid::solve;
 
@@ -17,9 +18,6 @@ const MOST_ELEMENTS: usize = 8192;
 
 // The variables that it holds.
 const MOST_VARIABLES: usize = 4096;
-
-// The most cells that a grid has.
-const MOST_CELLS: usize = 576;
 
 // The most steps that the search makes.
 const BUDGET: u64 = 1000000;

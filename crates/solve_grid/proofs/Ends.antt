@@ -1,19 +1,16 @@
 -- How the call ends: what it tells and what it leaves in the five buffers. Assumes nothing.
-use Prim.Native.Nat.{ℕ, _≤_}
+use Prim.Native.Nat.{ℕ}
 use native.Mathlib.Omega.{arith}
-use lib.Dec.{ltb}
 use lib.IntN.{ℤ}
 use lib.ListN.{length, take, drop, length-append}
 use lib.Seq.{take-at}
-use borrow.Author.Tests.{ltb-false}
 use mathlib.Core.Path.{_≡_, refl, sym, _∙_, ap}
-use mathlib.Core.Option.{none}
 use mathlib.Core.List.{List, [], _∷_}
 use Rattle.answers.specs.declared.Told.{Told}
 use Rattle.answers.specs.Told.{refusal, answer, row, turnedDown}
-use Rattle.answers.specs.Lent.{capped, tooShort, filled, leaves}
+use Rattle.answers.specs.Lent.{tooShort, filled, leaves}
 use Rattle.answers.proofs.Rows.{Clear, answered-clear, clear-answered, turned-append}
-use Rattle.answers.proofs.Settled.{untouched}
+use Rattle.answers.proofs.Settled.{untouched, enough}
 use Rattle.rules.specs.declared.Grid.{Grid}
 use Rattle.rules.specs.declared.Parsed.{Parsed}
 use Rattle.rules.specs.declared.Parsed.the-variants.{Accepted, Refused as NotRead}
@@ -25,7 +22,6 @@ use Rattle.encoder.specs.Variables.{variableCount}
 use Rattle.encoder.specs.Clauses.{clauses, clauseList}
 use Rattle.encoder.specs.Encoding.{encoderAnswer, encoderLeaves}
 use Rattle.search.specs.Run.{Done, toldDone}
-use Rattle.search_theory.proofs.Lists.{found-none}
 use Rattle.searcher.specs.declared.Answer.{Answer}
 use Rattle.searcher.specs.declared.Answer.the-variants.{Found, None, Halted, Lengths as WrongLengths, List as WrongList, Entry as WrongEntry}
 use Rattle.searcher.specs.Answers.{toldAnswer}
@@ -50,9 +46,6 @@ ended-told (WrongEntry i) d e = let z = ap (λ (t : Told). t .number) e in absur
 
 abbrev lengthsOf : Lent → Lengths
 lengthsOf lent = record { list = length (lent .list); trail = length (lent .trail); marks = length (lent .marks); values = length (lent .values); drawing = length (lent .drawing) }
-
-enough : (room needed : ℕ) → tooShort room needed ≡ none → needed ≤ room
-enough room needed e = ltb-false room needed (found-none (ltb room needed) (capped needed) e)
 
 module _ (s : List ℕ) (budget : ℕ) (lent : Lent) where
   abbrev done : Done
@@ -109,10 +102,10 @@ module _ (s : List ℕ) (budget : ℕ) (lent : Lent) where
             needs = refl;
             clauses = ap (take (length cs)) encoded ∙ take-at cs _ (length cs) refl;
             list = omega (arith, ap length encoded, length-append cs (drop (length cs) (lent .list)));
-            trail = enough _ _ c2;
-            marks = enough _ _ c3;
-            values = enough _ _ c4;
-            drawing = enough _ _ c5;
+            trail = enough _ c2;
+            marks = enough _ c3;
+            values = enough _ c4;
+            drawing = enough _ c5;
           })
 
       pub ends-solved : {x : Solved} {a : Answer} {us : List ℤ} {ns ws es : List ℕ} → x ≡ endedAs a → Ends s budget (lent .trail) (lent .marks) (lent .values) (lent .drawing) a us ns ws es → CallEnds (toldSolved x) (lentOf ls us ns ws es)
