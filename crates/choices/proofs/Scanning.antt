@@ -4,9 +4,9 @@ use native.Mathlib.Omega.{arith}
 use native.Mathlib.Numerals.{add-one}
 use lib.Dec.{eqb}
 use lib.IntN.{ℤ, pos}
-use lib.ListN.{length, getD, drop, drop-of-length-le}
-use lib.Seq.{drop-cons}
-use mathlib.Core.Path.{_≡_, refl, _∙_, ap}
+use lib.ListN.{length, getD, drop, drop-of-length-le, length-drop}
+use lib.Seq.{drop-cons, drop-drop}
+use mathlib.Core.Path.{_≡_, refl, sym, _∙_, ap}
 use mathlib.Core.Bool.{Bool, true, false, _&&_, _||_, cond}
 use mathlib.Core.Option.{Option, none, some}
 use mathlib.Core.List.{List, [], _∷_}
@@ -18,19 +18,64 @@ use Rattle.search.specs.Step.{everyLiteral, firstClause, fails, failedAt, fails
 use Rattle.choices.specs.declared.Clause.{Clause}
 use Rattle.choices.specs.declared.Clause.the-variants.{Fails, Forces, Passed}
 use Rattle.choices.specs.Held.{held}
-use Rattle.choices.specs.Clause.{met, closed}
+use Rattle.choices.specs.Clause.{met, closed, clauseLength}
 use Rattle.choices.proofs.Literals.{Read, code-not, read-value, fails-is}
 
--- the rest of the list, in a clause that begins at start and whose literals so far are all false exactly if bad
-abbrev failedRest : Values → Bool → ℕ → ℕ → List ℤ → Option ℕ
-failedRest w true start i r = found (everyLiteral (fails w) r) start (firstClause (failedAt w) false i r)
-failedRest w false start i r = firstClause (failedAt w) false i r
+-- 1. To the end of a clause
 
-pub record Failing (w : Values) (ls : List ℤ) (start i : ℕ) (bad : Bool) : Type 0 where
+length-most : (r : List ℤ) → clauseLength r ≤ length r
+unfolding clauseLength
+length-most [] = omega arith
+length-most (l ∷ r) = by (closes l) (length-most r)
+  where
+    by : (b : Bool) → clauseLength r ≤ length r → cond b 1 (suc (clauseLength r)) ≤ suc (length r)
+    by true h = omega arith
+    by false h = omega arith
+
+-- what is left of the clause is passed over
+passed-over : (look : ℕ → List ℤ → Option ℕ) (i : ℕ) (r : List ℤ) → firstClause look true (i + clauseLength r) (drop (clauseLength r) r) ≡ firstClause look false i r
+unfolding firstClause clauseLength
+passed-over look i [] = refl
+passed-over look i (l ∷ r) = by (closes l) (passed-over look (suc i) r)
+  where
+    by : (b : Bool) → firstClause look true (suc i + clauseLength r) (drop (clauseLength r) r) ≡ firstClause look false (suc i) r
+        → firstClause look true (i + cond b 1 (suc (clauseLength r))) (drop (cond b 1 (suc (clauseLength r))) (l ∷ r)) ≡ firstClause look b (suc i) r
+    by true h = rw add-one
+    by false h = let e : i + suc (clauseLength r) ≡ suc i + clauseLength r = omega arith in rw e h
+
+-- at j, on the way from i
+pub record Passing (ls : List ℤ) (i j : ℕ) : Type 0 where
+  pub seen : j ≤ length ls
+  pub rest : j + clauseLength (drop j ls) ≡ i + clauseLength (drop i ls)
+
+pub pass-start : {ls : List ℤ} (i : ℕ) → i ≤ length ls → Passing ls i i
+pass-start i h = record { seen = h; rest = refl }
+
+module _ {ls : List ℤ} {i j : ℕ} (p : Passing ls i j) where
+  pub pass-none : length ls ≤ j → j ≡ i + clauseLength (drop i ls)
+  unfolding clauseLength
+  pass-none h = let e : j + 0 ≡ j = omega arith in sym e ∙ (rw (drop-of-length-le ls h) at (p .rest))
+
+  module _ (h : j < length ls) where
+    pass-here : j + clauseLength (getD ls j (pos 0) ∷ drop (suc j) ls) ≡ i + clauseLength (drop i ls)
+    pass-here = rw (drop-cons ls j (pos 0) h) at (p .rest)
+
+    pub pass-end : closes (getD ls j (pos 0)) ≡ true → j + 1 ≡ i + clauseLength (drop i ls)
+    unfolding clauseLength
+    pass-end z = rw z at pass-here
+
+    pub pass-on : closes (getD ls j (pos 0)) ≡ false → Passing ls i (j + 1)
+    unfolding clauseLength
+    pass-on z = record { seen = omega arith; rest = rw add-one (let e : suc j + clauseLength (drop (suc j) ls) ≡ j + suc (clauseLength (drop (suc j) ls)) = omega arith in e ∙ (rw z at pass-here)) }
+
+-- 2. Failed clauses
+
+-- in a clause that begins at start and whose literals so far are all false
+pub record Failing (w : Values) (ls : List ℤ) (start i : ℕ) : Type 0 where
   pub seen : i ≤ length ls
-  pub rest : failedRest w bad start i (drop i ls) ≡ failedClause w ls
+  pub rest : found (everyLiteral (fails w) (drop i ls)) start (firstClause (failedAt w) false i (drop i ls)) ≡ failedClause w ls
 
-begin : (w : Values) (i : ℕ) (r : List ℤ) → failedRest w true i i r ≡ firstClause (failedAt w) true i r
+begin : (w : Values) (i : ℕ) (r : List ℤ) → found (everyLiteral (fails w) r) i (firstClause (failedAt w) false i r) ≡ firstClause (failedAt w) true i r
 unfolding firstClause everyLiteral
 begin w i [] = refl
 begin w i (l ∷ r) = by (closes l || (fails w l && everyLiteral (fails w) r)) (firstClause (failedAt w) (closes l) (suc i) r)
@@ -39,46 +84,43 @@ begin w i (l ∷ r) = by (closes l || (fails w l && everyLiteral (fails w) r)) (
     by true o = refl
     by false o = refl
 
-pub fail-start : {w : Values} {ls : List ℤ} → Failing w ls 0 0 true
+pub fail-start : {w : Values} {ls : List ℤ} → Failing w ls 0 0
 unfolding failedClause
 fail-start {w} {ls} = record { seen = omega arith; rest = begin w 0 ls }
 
-module _ {w : Values} {ls : List ℤ} {start i : ℕ} {bad : Bool} (f : Failing w ls start i bad) where
+module _ {w : Values} {ls : List ℤ} {start i : ℕ} (f : Failing w ls start i) where
   pub fail-none : length ls ≤ i → none ≡ failedClause w ls
   unfolding firstClause everyLiteral
-  fail-none h = by bad (rw (drop-of-length-le ls h) at (f .rest))
-    where
-      by : (b : Bool) → failedRest w b start i [] ≡ failedClause w ls → none ≡ failedClause w ls
-      by true e = e
-      by false e = e
+  fail-none h = rw (drop-of-length-le ls h) at (f .rest)
 
   module _ (h : i < length ls) where
-    here : failedRest w bad start i (getD ls i (pos 0) ∷ drop (suc i) ls) ≡ failedClause w ls
+    here : found (everyLiteral (fails w) (getD ls i (pos 0) ∷ drop (suc i) ls)) start (firstClause (failedAt w) false i (getD ls i (pos 0) ∷ drop (suc i) ls)) ≡ failedClause w ls
     here = rw (drop-cons ls i (pos 0) h) at (f .rest)
 
-    pub fail-found : closes (getD ls i (pos 0)) ≡ true → bad ≡ true → some start ≡ failedClause w ls
+    pub fail-found : closes (getD ls i (pos 0)) ≡ true → some start ≡ failedClause w ls
     unfolding everyLiteral
-    fail-found z b = rw (b, z, everyLiteral) at here
+    fail-found z = rw (z, everyLiteral) at here
 
-    pub fail-next : closes (getD ls i (pos 0)) ≡ true → bad ≡ false → Failing w ls (i + 1) (i + 1) true
-    unfolding firstClause
-    fail-next z b = record { seen = omega arith; rest = rw add-one (begin w (suc i) (drop (suc i) ls) ∙ (rw (b, z, firstClause) at here)) }
+    module _ (z : closes (getD ls i (pos 0)) ≡ false) where
+      pub fail-false : fails w (getD ls i (pos 0)) ≡ true → Failing w ls start (i + 1)
+      unfolding firstClause everyLiteral
+      fail-false k = record { seen = omega arith; rest = rw add-one (rw (z, k) at here) }
 
-    pub fail-false : closes (getD ls i (pos 0)) ≡ false → fails w (getD ls i (pos 0)) ≡ true → Failing w ls start (i + 1) bad
-    unfolding firstClause everyLiteral
-    fail-false z k = record { seen = omega arith; rest = rw add-one (by bad here) }
-      where
-        by : (b : Bool) → failedRest w b start i (getD ls i (pos 0) ∷ drop (suc i) ls) ≡ failedClause w ls → failedRest w b start (suc i) (drop (suc i) ls) ≡ failedClause w ls
-        by true e = rw (z, k) at e
-        by false e = rw z at e
+      -- a literal that is not false: the next clause
+      pub fail-other : {r : ℕ} → fails w (getD ls i (pos 0)) ≡ false → r ≡ i + 1 + clauseLength (drop (i + 1) ls) → Failing w ls r r
+      unfolding firstClause everyLiteral
+      fail-other {r} k e =
+          let rest : List ℤ = drop (suc i) ls in
+          let m = length-most rest in
+          let l = length-drop (suc i) ls in
+          let q : r ≡ suc i + clauseLength rest = e ∙ (rw add-one refl) in
+          let past : firstClause (failedAt w) false (suc i) rest ≡ failedClause w ls = (rw (z, k) at here) in
+          record {
+            seen = omega arith;
+            rest = rw q (begin w (suc i + clauseLength rest) (drop (suc i + clauseLength rest) ls) ∙ ap (firstClause (failedAt w) true (suc i + clauseLength rest)) (sym (drop-drop (clauseLength rest) (suc i) ls)) ∙ passed-over (failedAt w) (suc i) rest ∙ past);
+          }
 
-    pub fail-other : closes (getD ls i (pos 0)) ≡ false → fails w (getD ls i (pos 0)) ≡ false → Failing w ls start (i + 1) false
-    unfolding firstClause everyLiteral
-    fail-other z k = record { seen = omega arith; rest = rw add-one (by bad here) }
-      where
-        by : (b : Bool) → failedRest w b start i (getD ls i (pos 0) ∷ drop (suc i) ls) ≡ failedClause w ls → failedRest w false start (suc i) (drop (suc i) ls) ≡ failedClause w ls
-        by true e = rw (z, k) at e
-        by false e = rw z at e
+-- 3. Forced literals
 
 -- the rest of the list, after a part of a clause
 abbrev forcedRest : Values → Clause → ℕ → List ℤ → Option ℕ

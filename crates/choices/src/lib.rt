@@ -1,12 +1,12 @@
 // What a step of the search chooses: functions that only read.
 ghost use mathlib.Core.Path.{_≡_};
-ghost use Prim.Native.Nat.{_-_, _/_, _≤_};
-ghost use lib.ListN.{length, getD};
+ghost use Prim.Native.Nat.{_+_, _-_, _/_, _≤_};
+ghost use lib.ListN.{length, getD, drop};
 ghost use Rattle.answers.specs.First.{placed};
 ghost use Rattle.search.specs.Trail.{isUnassigned};
 ghost use Rattle.search.specs.Step.{failedClause, forcedPlace, lowestUnassigned};
 ghost use Rattle.choices.specs.Held.{valueOf, held, lastMarked, Within};
-ghost use Rattle.choices.specs.Clause.{met, closed};
+ghost use Rattle.choices.specs.Clause.{met, closed, clauseLength};
 use answers::Place;
 use cnf::code_at;
 
@@ -26,15 +26,30 @@ fn number(marks: &[u8], k: usize) -> usize
     (marks[k / 2 - 1] / 2) as usize
 }
 
-// Where the first failed clause begins.
+// The place after the clause that stands at i: after its closing 0, or the list's end.
+fn after_clause(list: &[i32], i: usize) -> usize
+    requires { ⌜ i ≤ length (now list) ⌝ }
+    ensures { λ r. ⌜ r ≡ i + clauseLength (drop i (now (list .entry))) ⌝ }
+{
+    let mut j = i;
+    while j < list.len() {
+        let k = code_at(list, j);
+        j += 1;
+        if k == 0 {
+            return j;
+        }
+    }
+    j
+}
+
+// Where the first failed clause begins. At the first literal that is not false the rest of its clause is passed over.
 pub fn first_failed(list: &[i32], marks: &[u8]) -> Place
     requires { ⌜ Within (length (now marks)) (now list) ⌝ }
     ensures { λ r. ⌜ placed r ≡ failedClause (held (now (marks .entry))) (now (list .entry)) ⌝ }
 {
     let mut start: usize = 0;
-    let mut i: usize = 0;
     let found: Place = 'clauses: loop {
-        let mut bad = true;
+        let mut i = start;
         loop {
             if i >= list.len() {
                 break 'clauses Place::Nowhere;
@@ -42,14 +57,11 @@ pub fn first_failed(list: &[i32], marks: &[u8]) -> Place
             let k = code_at(list, i);
             i += 1;
             if k == 0 {
-                if bad {
-                    break 'clauses Place::At(start);
-                }
-                start = i;
-                continue 'clauses;
+                break 'clauses Place::At(start);
             }
             if number(marks, k) != 2 - k % 2 {
-                bad = false;
+                start = after_clause(list, i);
+                continue 'clauses;
             }
         }
     };

@@ -1,29 +1,29 @@
 -- `choices::first_failed` meets its contract: both loops keep `Failing`. Assumes nothing.
+use Prim.Native.Nat.{_-_, _≤_}
+use native.Mathlib.Omega.{arith}
+use borrow.Author.Needs.{needs}
 use lib.IntN.{ℤ, pos}
 use lib.ListN.{getD, length}
-use mathlib.Core.Path.{_≡_}
-use mathlib.Core.Bool.{false, true}
+use mathlib.Core.Path.{_≡_, refl}
+use mathlib.Core.Bool.{false}
 use Rattle.cnf.specs.Literals.{closes}
-use Rattle.choices.proofs.Literals.{Read, code-two, code-within, code-not, code-zero, read-fails, read-stands}
-use borrow.Author.Needs.{needs}
-use native.Mathlib.Omega.{arith}
-use Prim.Native.Nat.{_-_, _≤_}
 use Rattle.choices.specs.Held.{held}
-use Rattle.choices.proofs.Scanning.{Failing, fail-start, fail-none, fail-found, fail-next, fail-false, fail-other}
+use Rattle.choices.proofs.Literals.{Read, code-two, code-within, code-not, code-zero, read-fails, read-stands}
+use Rattle.choices.proofs.Scanning.{Failing, fail-start, fail-none, fail-found, fail-false, fail-other}
 use Rattle.choices.proofs.first_failed.Statement.{statement}
 use Rattle.choices.proofs.first_failed.Tie as tie
 
 abbrev Inv-loop : tie.InvT-loop
-Inv-loop list marks start₀ i₀ bad₀ start i bad = (i₀ ≤ i) × Failing (held marks) list start i bad
+Inv-loop list marks start₀ i₀ start i = (start ≡ i₀) × (start ≤ i) × Failing (held marks) list start i
 
 abbrev μ-loop : tie.MeasureT-loop
-μ-loop list marks start₀ i₀ bad₀ start i bad = length list - i
+μ-loop list marks start₀ i₀ start i = length list - i
 
 abbrev Inv-clauses : tie.InvT-clauses
-Inv-clauses list marks start₀ i₀ start i = Failing (held marks) list start i true
+Inv-clauses list marks start₀ start = Failing (held marks) list start start
 
 abbrev μ-clauses : tie.MeasureT-clauses
-μ-clauses list marks start₀ i₀ start i = length list - i
+μ-clauses list marks start₀ start = length list - start
 
 -- the literal that was read
 abbrev lit : tie.After-code-at Inv-loop μ-loop Inv-clauses μ-clauses → ℤ
@@ -39,7 +39,7 @@ clauses-holds : tie.Need-clauses-holds Inv-loop μ-loop Inv-clauses μ-clauses
 clauses-holds c = fail-start
 
 loop-holds : tie.Need-loop-holds Inv-loop μ-loop Inv-clauses μ-clauses
-loop-holds c = (omega arith, c .clauses .inv)
+loop-holds c = (refl, omega arith, c .clauses .inv)
 
 code-at-requires : tie.Need-code-at-requires Inv-loop μ-loop Inv-clauses μ-clauses
 code-at-requires c κs = search needs
@@ -47,35 +47,32 @@ code-at-requires c κs = search needs
 add-i : tie.Need-add-i Inv-loop μ-loop Inv-clauses μ-clauses
 add-i c = omega arith
 
-clauses-less : tie.Need-clauses-less Inv-loop μ-loop Inv-clauses μ-clauses
-clauses-less c = omega arith
-
-clauses-again : tie.Need-clauses-again Inv-loop μ-loop Inv-clauses μ-clauses
-clauses-again c = fail-next (c .before .before .before .before .loop .inv .1) (omega arith) (code-zero (lit (c .before .before)) (c .before .before .code-at .ensures) (c .before .if2 .taken)) (c .if3 .left)
-
 number-requires : tie.Need-number-requires Inv-loop μ-loop Inv-clauses μ-clauses
 number-requires c κs = (code-two (lit (c .before)) (c .before .code-at .ensures) (c .if2 .left), code-within (c .before .before .before .before .before .before .pre) (c .before .before .before .loop .i) (omega arith) (c .before .code-at .ensures))
 
-sub-if4 : tie.Need-sub-if4 Inv-loop μ-loop Inv-clauses μ-clauses
-sub-if4 c = omega arith
+sub-if3 : tie.Need-sub-if3 Inv-loop μ-loop Inv-clauses μ-clauses
+sub-if3 c = omega arith
+
+after-clause-requires : tie.Need-after-clause-requires Inv-loop μ-loop Inv-clauses μ-clauses
+after-clause-requires c κs = omega arith
+
+clauses-less : tie.Need-clauses-less Inv-loop μ-loop Inv-clauses μ-clauses
+clauses-less c = omega (arith, c .after-clause .ensures)
+
+clauses-again : tie.Need-clauses-again Inv-loop μ-loop Inv-clauses μ-clauses
+clauses-again c = fail-other (c .before .before .before .before .before .before .loop .inv .2) (omega arith) (not-closed (c .before .before .before)) (read-stands (lit (c .before .before .before .before)) (read (c .before .before)) (c .before .if3 .taken)) (c .after-clause .ensures)
 
 loop-less : tie.Need-loop-less Inv-loop μ-loop Inv-clauses μ-clauses
 loop-less c = omega arith
 
 loop-again : tie.Need-loop-again Inv-loop μ-loop Inv-clauses μ-clauses
-loop-again c = (omega arith, fail-other (c .before .before .before .before .before .loop .inv .1) (omega arith) (not-closed (c .before .before)) (read-stands (lit (c .before .before .before)) (read (c .before)) (c .if4 .taken)))
-
-loop-less-2 : tie.Need-loop-less-2 Inv-loop μ-loop Inv-clauses μ-clauses
-loop-less-2 c = omega arith
-
-loop-again-2 : tie.Need-loop-again-2 Inv-loop μ-loop Inv-clauses μ-clauses
-loop-again-2 c = (omega arith, fail-false (c .before .before .before .before .before .loop .inv .1) (omega arith) (not-closed (c .before .before)) (read-fails (lit (c .before .before .before)) (read (c .before)) (c .if4 .left)))
+loop-again c = (c .before .before .before .before .before .loop .inv .0, omega arith, fail-false (c .before .before .before .before .before .loop .inv .2) (omega arith) (not-closed (c .before .before)) (read-fails (lit (c .before .before .before)) (read (c .before)) (c .if3 .left)))
 
 returns : tie.Need-returns Inv-loop μ-loop Inv-clauses μ-clauses
-returns c = fail-none (c .before .loop .inv .1) (c .if1 .taken)
+returns c = fail-none (c .before .loop .inv .2) (c .if1 .taken)
 
 returns-2 : tie.Need-returns-2 Inv-loop μ-loop Inv-clauses μ-clauses
-returns-2 c = fail-found (c .before .before .before .before .loop .inv .1) (omega arith) (code-zero (lit (c .before .before)) (c .before .before .code-at .ensures) (c .before .if2 .taken)) (c .if3 .taken)
+returns-2 c = fail-found (c .before .before .before .loop .inv .2) (omega arith) (code-zero (lit (c .before)) (c .before .code-at .ensures) (c .if2 .taken))
 
 pub first-failed-spec : {M : Type 1} → statement M
 first-failed-spec =
@@ -89,13 +86,12 @@ first-failed-spec =
     loop-holds
     code-at-requires
     add-i
+    number-requires
+    sub-if3
+    after-clause-requires
     clauses-less
     clauses-again
-    number-requires
-    sub-if4
     loop-less
     loop-again
-    loop-less-2
-    loop-again-2
     returns
     returns-2)
