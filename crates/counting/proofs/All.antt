@@ -11,11 +11,10 @@ use Rattle.encoder.specs.Lists.{upTo, each, keep}
 use Rattle.encoder.specs.Variables.{openCount, variableCount}
 use Rattle.encoder.specs.Clauses.{Clause, touchingAt, linksAt, startAt, distanceAt, someStart, start, touching, clueLines, links, distance, clauses, written, clauseList}
 use Rattle.encoder.proofs.Lists.{each-append}
-use Rattle.encoder.proofs.Emitting.{each-next, atCell}
+use Rattle.encoder.proofs.Emitting.{each-next, atCell, below-each}
 use Rattle.encoder.proofs.Counts.{Sized, sized-none, sized-append, some-start-sized}
 use Rattle.clue_clauses.specs.Line.{clueAt}
 use Rattle.clue_clauses.proofs.Family.{lines-cells}
-use Rattle.families.proofs.EachCell.{below-each}
 use Rattle.counting.specs.declared.Amount.{Amount}
 use Rattle.counting.specs.Counts.{countsOf, cellFamilies, Amounts}
 

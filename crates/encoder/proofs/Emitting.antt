@@ -2,6 +2,7 @@
 -- the turn of a loop is `wrote-recast (sym law) (wrote-after inv ensures)`. Assumes nothing.
 use Prim.Native.Nat.{ℕ, zero, suc, _+_, _*_, _-_, _≤_, _<_}
 use native.Mathlib.Omega.{arith}
+use native.Mathlib.Numerals.{add-one}
 use lib.Dec.{ltb}
 use lib.IntN.{ℤ}
 use lib.ListN.{length, length-append}
@@ -72,6 +73,13 @@ module _ (b : Board) (x : ℕ) where
 
   pub ways-shut : b .isOpen x ≡ false → waysBelow b (x + 1) ≡ waysBelow b x
   ways-shut h = ways-next ∙ ap (λ l. waysBelow b x + length l) (at-shut (outgoing b) h) ∙ omega arith
+
+-- the open cells before x, cell by cell
+pub below-each : (b : Board) {A : Type 0} (F : ℕ → List A) (x : ℕ) → each (below b x) F ≡ each (upTo x) (atCell b F)
+below-each b F zero = refl
+below-each b F (suc x) =
+    let e : 0 + x ≡ x = omega arith in
+    ap (λ n. each (below b n) F) (sym (add-one x)) ∙ each-cell b x F ∙ (λ t. below-each b F x t ++ atCell b F (sym e t)) ∙ sym (each-next (atCell b F) 0 x) ∙ ap (λ n. each (upTo n) (atCell b F)) (add-one x)
 
 -- the cells of lower rank are the open ones before x
 keep-all : {A : Type 0} (p : A → Bool) (xs : List A) → ((x : A) → x ∈ xs → p x ≡ true) → keep p xs ≡ xs

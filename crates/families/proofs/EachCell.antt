@@ -1,11 +1,10 @@
 -- The families cell by cell: what an open cell and a clue give, and what all of them give. Assumes nothing.
-use Prim.Native.Nat.{ℕ, zero, suc, _+_, _*_, _≤_, _<_}
+use Prim.Native.Nat.{ℕ, _+_, _*_, _≤_, _<_}
 use native.Mathlib.Omega.{arith}
 use native.Mathlib.Nat.{mul-le-mul}
-use native.Mathlib.Numerals.{add-one}
 use lib.IntN.{pos}
 use lib.ListN.{getD}
-use mathlib.Core.Path.{_≡_, refl, sym, _∙_, ap}
+use mathlib.Core.Path.{_≡_, sym, _∙_, ap}
 use mathlib.Core.Bool.{true}
 use mathlib.Core.List.{List, [], _∷_, _++_, map, append-nil}
 use Rattle.rules.specs.declared.Grid.{Grid}
@@ -17,7 +16,7 @@ use Rattle.encoder.specs.Lists.{upTo, each, joined}
 use Rattle.encoder.specs.Variables.{S, opens, openCount, number}
 use Rattle.encoder.specs.Clauses.{Clause, someStart, start, startAt, signed}
 use Rattle.encoder.proofs.Places.{below, rank, place-s}
-use Rattle.encoder.proofs.Emitting.{each-next, atCell, each-cell, at-open, at-shut, listOf, list-each}
+use Rattle.encoder.proofs.Emitting.{atCell, below-each, at-open, at-shut, listOf, list-each}
 use Rattle.numbering.proofs.Numbers.{bit-off, bit-on}
 use Rattle.emit.specs.Shapes.{literals, allOf}
 use Rattle.cell_clauses.specs.declared.Around.{Around}
@@ -38,15 +37,8 @@ family-list Start b law x h = start-list b law x h
 family-list Distance b law x h = distance-list b law x h
 
 module _ (b : Board) where
-  -- cell by cell
-  pub below-each : {A : Type 0} (F : ℕ → List A) (x : ℕ) → each (below b x) F ≡ each (upTo x) (atCell b F)
-  below-each F zero = refl
-  below-each F (suc x) =
-      let e : 0 + x ≡ x = omega arith in
-      ap (λ n. each (below b n) F) (sym (add-one x)) ∙ each-cell b x F ∙ (λ t. below-each F x t ++ atCell b F (sym e t)) ∙ sym (each-next (atCell b F) 0 x) ∙ ap (λ n. each (upTo n) (atCell b F)) (add-one x)
-
   pub cells-each : (F : ℕ → List Clause) {n : ℕ} → n ≡ b .size → listOf b (each (opens b) F) ≡ each (upTo n) (λ x. listOf b (atCell b F x))
-  cells-each F q = ap (listOf b) (below-each F (b .size)) ∙ list-each b (atCell b F) (upTo (b .size)) ∙ ap (λ n. each (upTo n) (λ x. listOf b (atCell b F x))) (sym q)
+  cells-each F q = ap (listOf b) (below-each b F (b .size)) ∙ list-each b (atCell b F) (upTo (b .size)) ∙ ap (λ n. each (upTo n) (λ x. listOf b (atCell b F x))) (sym q)
 
   -- [all S]
   pub start-parts : Laws b → {f : ℕ} → f ≡ openCount b → listOf b (start b) ≡ joined (allOf (f + 1) f ∷ listOf b (each (opens b) (startAt b)) ∷ [])
