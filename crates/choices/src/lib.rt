@@ -8,6 +8,7 @@ ghost use Rattle.search.specs.Step.{failedClause, forcedPlace, lowestUnassigned
 ghost use Rattle.choices.specs.Held.{valueOf, held, lastMarked, Within};
 ghost use Rattle.choices.specs.Clause.{met, closed, clauseLength};
 use answers::Place;
+use cnf::closes_at;
 use cnf::code_at;
 
 // The clause at hand: its literals so far are all false; or false but for one, unassigned, with this code and this first place;
@@ -33,9 +34,9 @@ fn after_clause(list: &[i32], i: usize) -> usize
 {
     let mut j = i;
     while j < list.len() {
-        let k = code_at(list, j);
+        let end = closes_at(list, j);
         j += 1;
-        if k == 0 {
+        if end {
             return j;
         }
     }

@@ -1,5 +1,5 @@
 -- Laws of a signed 32-bit number: read, tested against 0, negated, cast to an unsigned one. Assumes nothing.
-use mathlib.Core.Path.{_≡_, refl, ap}
+use mathlib.Core.Path.{_≡_, refl, sym, _∙_, ap}
 use mathlib.Core.Bool.{true, false}
 use Prim.Native.Nat.{ℕ, zero, suc, _+_, _*_, _<_, _^_}
 use native.Mathlib.Omega.{arith}
@@ -11,7 +11,7 @@ use lib.Dec.{T}
 use mir.Syntax.{w32, w64}
 use mir.Val.{Fits, SFits, toZ, ofZ}
 use mir.Facts.{toZ-ofZ, sfits-widen}
-use Rattle.cnf.specs.Literals.{codeOf}
+use Rattle.cnf.specs.Literals.{closes, codeOf}
 
 -- what a goal has in the place of an i32 z that stands in a local
 abbrev pub Read : ℤ → ℤ
@@ -37,6 +37,18 @@ module _ (z : ℤ) (f : SFits w32 z) where
 
   wide-is : Wide z ≡ z
   wide-is = rw (toZ-ofZ f) (toZ-ofZ (sfits-widen tt f))
+
+  -- compared with 0, as it stands in a local
+  pub zero-closes : ofZ w32 z ≡ 0 → true ≡ closes z
+  zero-closes e = ap (λ n. closes (toZ w32 n)) (sym e) ∙ ap closes (toZ-ofZ f)
+
+  pub other-goes-on : (ofZ w32 z ≡ 0 → ⊥) → false ≡ closes z
+  other-goes-on n = go z n
+    where
+      go : (x : ℤ) → (ofZ w32 x ≡ 0 → ⊥) → false ≡ closes x
+      go (pos zero) n = absurd (n refl)
+      go (pos (suc m)) n = refl
+      go (negsuc m) n = refl
 
   module _ (h : ltZ (Read z) (pos 0) ≡ true) where
     minus : pos 0 -ℤ Wide z ≡ pos (natAbs z)

@@ -6,7 +6,7 @@ ghost use lib.ListN.{length, getD};
 ghost use lib.IntN.{pos, negℤ};
 ghost use Rattle.answers.specs.First.{placed, firstWhere};
 ghost use Rattle.answers.specs.Lent.{Wrote};
-ghost use Rattle.cnf.specs.Literals.{codeOf, mostVariables, tooManyVariables, beyondAt, unclosed, wrongList};
+ghost use Rattle.cnf.specs.Literals.{closes, codeOf, mostVariables, tooManyVariables, beyondAt, unclosed, wrongList};
 ghost use Rattle.cnf.specs.Clauses.{clauseCount};
 use answers::Place;
 
@@ -22,6 +22,18 @@ pub fn code_at(list: &[i32], i: usize) -> usize
     } else {
         (l as usize) * 2
     }
+}
+
+// Does a clause end at a place?
+pub fn closes_at(list: &[i32], i: usize) -> bool
+    requires { ⌜ i < length (now list) ⌝ }
+    ensures { λ r. ⌜ r ≡ closes (getD (now (list .entry)) i (pos 0)) ⌝ }
+{
+    let l = list[i];
+    if l == 0 {
+        return true;
+    }
+    false
 }
 
 // Writes a variable, or 0, at a place, if the place is inside; returns the next place.

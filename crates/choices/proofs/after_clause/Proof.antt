@@ -2,9 +2,8 @@
 use Prim.Native.Nat.{_-_}
 use native.Mathlib.Omega.{arith}
 use borrow.Author.Needs.{needs}
-use lib.IntN.{ℤ, pos}
-use lib.ListN.{getD, length}
-use Rattle.choices.proofs.Literals.{code-not, code-zero}
+use lib.ListN.{length}
+use mathlib.Core.Path.{sym, _∙_}
 use Rattle.choices.proofs.Scanning.{Passing, pass-start, pass-none, pass-end, pass-on}
 use Rattle.choices.proofs.after_clause.Statement.{statement}
 use Rattle.choices.proofs.after_clause.Tie as tie
@@ -15,27 +14,23 @@ Inv-loop list i j₀ j = Passing list i j
 abbrev μ-loop : tie.MeasureT-loop
 μ-loop list i j₀ j = length list - j
 
--- the literal that was read
-abbrev lit : tie.After-code-at Inv-loop μ-loop → ℤ
-lit c = getD (c .before .before .before .args .list .now) (c .before .before .loop .j) (pos 0)
-
 loop-holds : tie.Need-loop-holds Inv-loop μ-loop
 loop-holds c = pass-start (c .args .i) (c .pre)
 
-code-at-requires : tie.Need-code-at-requires Inv-loop μ-loop
-code-at-requires c κs = search needs
+closes-at-requires : tie.Need-closes-at-requires Inv-loop μ-loop
+closes-at-requires c κs = search needs
 
 add-j : tie.Need-add-j Inv-loop μ-loop
 add-j c = search needs
 
 returns : tie.Need-returns Inv-loop μ-loop
-returns c = pass-end (c .before .before .before .loop .inv) (omega arith) (code-zero (lit (c .before)) (c .before .code-at .ensures) (c .if1 .taken))
+returns c = pass-end (c .before .before .before .loop .inv) (omega arith) (sym (c .before .closes-at .ensures) ∙ c .if1 .taken)
 
 loop-less : tie.Need-loop-less Inv-loop μ-loop
 loop-less c = search needs
 
 loop-again : tie.Need-loop-again Inv-loop μ-loop
-loop-again c = pass-on (c .before .before .before .loop .inv) (omega arith) (code-not (lit (c .before)) (c .before .code-at .ensures) (c .if1 .left))
+loop-again c = pass-on (c .before .before .before .loop .inv) (omega arith) (sym (c .before .closes-at .ensures) ∙ c .if1 .left)
 
 returns-2 : tie.Need-returns-2 Inv-loop μ-loop
 returns-2 c = pass-none (c .before .loop .inv) (omega arith)
@@ -47,7 +42,7 @@ after-clause-spec =
     Inv-loop
     μ-loop
     loop-holds
-    code-at-requires
+    closes-at-requires
     add-j
     returns
     loop-less
