@@ -3,7 +3,7 @@
 -- "After" is what it leaves in a lent buffer. The function whose contract carries each to the code:
 --   recordAnswer                            the record reader, `rules::record::read`
 --   judgeAnswer                             the judge, `judge::judge`
---   encoderAnswer, encoderLeaves            the encoder (its clauses: `families::all_families`)
+--   encoderAnswer, encoderLeaves            the encoder, `encode::encode`
 --   decoderAnswer, decoderLeaves            the decoder, `decoder::decode`
 --   searchAnswer, trailAfter, marksAfter    the search, `searcher::search` (here `told`, `trailLeft`, `marksLeft` of what the call gets)
 --   writerAnswer, writerLeaves              the text writer, `dimacs_writer::write`
