@@ -1,7 +1,7 @@
 // Clause lists: the check of V and of a list, the number of clauses, and the few functions that touch an i32.
 ghost use mathlib.Core.Path.{_≡_};
 ghost use mathlib.Core.List.{[], _∷_};
-ghost use Prim.Native.Nat.{_+_, _<_, _≤_};
+ghost use Prim.Native.Nat.{_+_, _/_, _%_, _^_, _<_, _≤_};
 ghost use lib.ListN.{length, getD};
 ghost use lib.IntN.{pos, negℤ};
 ghost use Rattle.answers.specs.First.{placed, firstWhere};
@@ -10,18 +10,41 @@ ghost use Rattle.cnf.specs.Literals.{closes, codeOf, mostVariables, tooM
 ghost use Rattle.cnf.specs.Clauses.{clauseCount};
 use answers::Place;
 
+// The variable of the literal at a place; 0 for the closing 0.
+fn variable_at(list: &[i32], i: usize) -> usize
+    requires { ⌜ i < length (now list) ⌝ }
+    ensures { λ r. ⌜ r ≡ codeOf (getD (now (list .entry)) i (pos 0)) / 2 ⌝ }
+    ensures { λ r. ⌜ r < 2 ^ 32 ⌝ }
+{
+    let l = list[i];
+    if l < 0 {
+        let m: i64 = l as i64;
+        (-m) as usize
+    } else {
+        l as usize
+    }
+}
+
+// 1 for "not", else 0.
+fn negation_at(list: &[i32], i: usize) -> usize
+    requires { ⌜ i < length (now list) ⌝ }
+    ensures { λ r. ⌜ r ≡ codeOf (getD (now (list .entry)) i (pos 0)) % 2 ⌝ }
+{
+    let l = list[i];
+    if l < 0 {
+        return 1;
+    }
+    0
+}
+
 // The code of the literal at a place: twice its variable, and 1 more for "not".
 pub fn code_at(list: &[i32], i: usize) -> usize
     requires { ⌜ i < length (now list) ⌝ }
     ensures { λ r. ⌜ r ≡ codeOf (getD (now (list .entry)) i (pos 0)) ⌝ }
 {
-    let l = list[i];
-    if l < 0 {
-        let m: i64 = l as i64;
-        ((-m) as usize) * 2 + 1
-    } else {
-        (l as usize) * 2
-    }
+    let variable = variable_at(list, i);
+    let negation = negation_at(list, i);
+    variable * 2 + negation
 }
 
 // Does a clause end at a place?

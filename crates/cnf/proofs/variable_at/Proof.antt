@@ -1,7 +1,6 @@
--- `cnf::code_at` meets its contract. Assumes nothing.
+-- `cnf::variable_at` meets its contract. Assumes nothing.
 use borrow.Author.Needs.{needs}
-use mathlib.Core.Path.{_≡_, ap, _∙_}
-use Prim.Native.Nat.{ℕ, _+_, _*_}
+use mathlib.Core.Path.{_≡_, ap}
 use native.Mathlib.Omega.{arith}
 use lib.IntN.{ℤ, pos, natAbs}
 use lib.ListN.{getD}
@@ -9,8 +8,8 @@ use mir.Syntax.{w32}
 use mir.Val.{SFits}
 use mir.Facts.{toZ-ofZ}
 use Rattle.cnf.proofs.Signed.{Minus, wide, minus-fits, minus-cast, minus-is, minus-code, plus-cast, plus-code, size-fits}
-use Rattle.cnf.proofs.code_at.Statement.{statement}
-use Rattle.cnf.proofs.code_at.Tie as tie
+use Rattle.cnf.proofs.variable_at.Statement.{statement}
+use Rattle.cnf.proofs.variable_at.Tie as tie
 
 -- the literal that was read, and that it is one of 32 bits
 abbrev lit : tie.After-l → ℤ
@@ -38,26 +37,17 @@ cast-result c = minus-cast (lit (c .before)) (lit-fits (c .before)) (c .if1 .tak
 size : (c : tie.Then1) → natAbs (Minus (lit (c .before))) ≡ natAbs (lit (c .before))
 size c = ap natAbs (minus-is (lit (c .before)) (lit-fits (c .before)) (c .if1 .taken))
 
-mul-result : tie.Need-mul-result
-mul-result c = omega (arith, size c, size-fits (lit (c .before)) (lit-fits (c .before)))
-
-add-result : tie.Need-add-result
-add-result c = omega (arith, size c, size-fits (lit (c .before)) (lit-fits (c .before)))
-
 cast-result-2 : tie.Need-cast-result-2
 cast-result-2 c = plus-cast (lit (c .before)) (lit-fits (c .before)) (c .if1 .left)
 
-mul-result-2 : tie.Need-mul-result-2
-mul-result-2 c = omega (arith, size-fits (lit (c .before)) (lit-fits (c .before)), ap natAbs (toZ-ofZ (lit-fits (c .before))))
-
 returns : tie.Need-returns
-returns c = ap (λ (n : ℕ). n * 2 + 1) (size c) ∙ minus-code (lit (c .before)) (lit-fits (c .before)) (c .if1 .taken)
+returns c = (omega (arith, size c, minus-code (lit (c .before)) (lit-fits (c .before)) (c .if1 .taken)), omega (arith, size c, size-fits (lit (c .before)) (lit-fits (c .before))))
 
 returns-2 : tie.Need-returns-2
-returns-2 c = plus-code (lit (c .before)) (lit-fits (c .before)) (c .if1 .left)
+returns-2 c = (omega (arith, plus-code (lit (c .before)) (lit-fits (c .before)) (c .if1 .left)), omega (arith, size-fits (lit (c .before)) (lit-fits (c .before)), ap natAbs (toZ-ofZ (lit-fits (c .before)))))
 
-pub code-at-spec : {M : Type 1} → statement M
-code-at-spec =
+pub variable-at-spec : {M : Type 1} → statement M
+variable-at-spec =
     tie.close
     (tie.spec
     mul-l
@@ -65,9 +55,6 @@ code-at-spec =
     cast-m
     sub-result
     cast-result
-    mul-result
-    add-result
     cast-result-2
-    mul-result-2
     returns
     returns-2)
