@@ -2,16 +2,17 @@
 use Prim.Native.Nat.{ℕ, _+_, _-_, _≤_, _<_, _^_}
 use native.Mathlib.Omega.{arith}
 use lib.Dec.{eqb, ltb}
-use lib.ListN.{length}
+use lib.ListN.{length, replicate, length-replicate}
 use borrow.Author.Tests.{eq-eqb, le-ltb}
 use mathlib.Core.Path.{_≡_, refl, sym, _∙_, ap, subst}
-use mathlib.Core.Bool.{Bool, false, cond}
+use mathlib.Core.Bool.{Bool, false}
 use mathlib.Core.Logic.{_↔_, _⊎_, inl, inr, ⊎-elim}
 use mathlib.Core.Option.{none}
 use mathlib.Core.List.{List}
 use Rattle.answers.specs.declared.Told.{Told}
 use Rattle.answers.specs.First.{firstWhere}
 use Rattle.answers.specs.Told.{cause}
+use Rattle.answers.specs.Lent.{leaves}
 use Rattle.answers.proofs.Bools.{clash}
 use Rattle.answers.proofs.First.{none-first}
 use Rattle.rules.specs.Board.{boardOf}
@@ -20,10 +21,11 @@ use Rattle.cnf.specs.Literals.{mostVariables, tooManyVariables, wrongList}
 use Rattle.cnf.specs.Clauses.{Satisfies}
 use Rattle.encoder.specs.Variables.{variableCount}
 use Rattle.encoder.specs.Clauses.{clauseList}
-use Rattle.encoder.specs.Decoding.{Satisfying, DecodesTo}
+use Rattle.encoder.specs.Decoding.{decoded, bytesOf, Satisfying, DecodesTo}
 use Rattle.encoder_theory.proofs.Theorems.{decodes-to-solution, comes-from-one, never-turned-down}
 use Rattle.search.specs.Trail.{Trail, Open, trailOf, valuesOf}
 use Rattle.search.specs.Run.{Ending, Found, None, Halted, Done, endingNumber, toldDone, searched, wrongLengths, wrongEntryAt, IsAccepted}
+use Rattle.search.proofs.Endings.{same-ending}
 use Rattle.search_theory.specs.Openings.{OpenAt, NoneOpenAt, FoundOne}
 use Rattle.search_theory.proofs.Legal.{Legal}
 use Rattle.search_theory.proofs.Accepted.{accepted-legal}
@@ -31,15 +33,6 @@ use Rattle.search_theory.proofs.Theorems as search
 use Rattle.demands.specs.Searches.{Search, told, trailLeft, marksLeft, IsTaken, Says, steps, begins, endsAt, BegunOn}
 
 -- 1. Any search
-
--- the answer that has the number
-abbrev endingOf : ℕ → Ending
-endingOf n = cond (eqb n 1) Found (cond (eqb n 2) None Halted)
-
-ending-back : (x : Ending) → endingOf (endingNumber x) ≡ x
-ending-back Found = refl
-ending-back None = refl
-ending-back Halted = refl
 
 module _ (c : Search) (taken : IsTaken c) where
   pub ok : IsAccepted (c .variables) (c .list) (c .trail) (c .marks) (c .used)
@@ -55,7 +48,7 @@ module _ (c : Search) (taken : IsTaken c) where
   said x e = ap (λ (t : Told). t .first) tells ∙ ap endingNumber e
 
   saying : (x : Ending) → Says c x → done .ending ≡ x
-  saying x e = sym (ending-back (done .ending)) ∙ ap endingOf (sym (ap (λ (t : Told). t .first) tells) ∙ e) ∙ ending-back x
+  saying x e = same-ending (done .ending) x (sym (ap (λ (t : Told). t .first) tells) ∙ e)
 
   counted : steps c ≡ done .steps
   counted = ap (λ (t : Told). t .second) tells
@@ -88,6 +81,13 @@ module _ (c : Search) (taken : IsTaken c) where
 pub says-both : {A : Type 0} (x y : Ending) (c : Search) → Says c x → Says c y → eqb (endingNumber x) (endingNumber y) ≡ false → A
 says-both x y c h k e = clash (eq-eqb (endingNumber x) (endingNumber y) (sym h ∙ k)) e
 
+-- what the decoder hands out is what it draws
+pub hands : (s : List ℕ) {a : List Bool} {ds : List ℕ} → DecodesTo s a ds → decoded (boardOf s) (bytesOf a) ≡ ds
+hands s {a} h =
+    let zeros : List ℕ = replicate (boardOf s .size) 0 in
+    let long : length zeros ≡ boardOf s .size = length-replicate (boardOf s .size) 0 in
+    sym (ap (λ t. leaves t zeros (decoded (boardOf s) (bytesOf a))) (h .says zeros long)) ∙ h .hands zeros long
+
 module _ (s : List ℕ) (c : Search) (b : BegunOn s c) where
   pub begun-taken : IsTaken c
   begun-taken = search.accepted (c .variables) (c .list) (c .trail) (c .marks) (c .used) (c .budget) .0 (record { clear = (ap cause lengths, (list, (entries, tt))) })
@@ -118,7 +118,7 @@ module _ (s : List ℕ) (c : Search) (b : BegunOn s c) where
         isOpen = subst (Open a) (sym (ap (trailOf (c .trail) (c .marks)) (b .empty))) (inl tt);
       }
 
-  satisfying : {t : Trail} {a : List Bool} → OpenAt (c .variables) (c .list) t a → Satisfying s a
+  pub satisfying : {t : Trail} {a : List Bool} → OpenAt (c .variables) (c .list) t a → Satisfying s a
   satisfying {a = a} o = record { gives = o .assignment ∙ b .variables; satisfies = subst (Satisfies a) (b .list) (o .satisfies) }
 
   pub found-decodes : Says c Found → (ds : List ℕ) × DecodesTo s (valuesOf (c .variables) (endsAt c)) ds × SolutionBytes (boardOf s) ds

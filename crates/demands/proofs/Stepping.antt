@@ -43,7 +43,7 @@ module _ (v : ℕ) (ls : List ℤ) where
   one-more m (none-left l h a) = none-left (moves m l) (omega arith) a
   one-more m (halted l) = halted (moves m l)
 
-  comes-to : (b : ℕ) (t : Trail) → ComesTo v ls t b (run v ls b t)
+  pub comes-to : (b : ℕ) (t : Trail) → ComesTo v ls t b (run v ls b t)
   unfolding run
   comes-to zero t = halted stays
   comes-to (suc b) t = by (step v ls t) (listed t) (comes-to b)

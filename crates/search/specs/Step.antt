@@ -86,9 +86,12 @@ abbrev pub undone : Option Trail → Next
 undone (some u) = Moved u
 undone none = AnsweredNone
 
+abbrev pub undoes : Trail → Next
+undoes t = undone (undo t)
+
 -- a failed clause: undo
 abbrev pub onFailed : Option ℕ → Trail → Next → Next
-onFailed (some i) t later = undone (undo t)
+onFailed (some i) t later = undoes t
 onFailed none t later = later
 
 -- a clause that forces a literal: append that, mark 0

@@ -16,15 +16,14 @@ use Rattle.encoder.specs.Decoding.{decoded, decoderLeaves}
 use Rattle.search.specs.Trail.{trailImage, marksImage, trailOf}
 use Rattle.search.specs.Run.{Ending, Found as DoneFound, None as DoneNone, Halted as DoneHalted, Done, IsAccepted, endingNumber, toldDone, searchAnswer, trailAfter, marksAfter}
 use Rattle.search.proofs.Trails.{read-image}
+use Rattle.search.proofs.Endings.{same-ending}
 use Rattle.search_theory.proofs.Legal.{Legal}
 use Rattle.search_theory.proofs.Accepted.{accepted-legal}
 use Rattle.search_theory.proofs.Theorems as search
-use Rattle.demands.specs.Searches.{Search}
-use Rattle.demands.proofs.Searching as searching
 use Rattle.trails.proofs.Entries.{legal-at}
 use Rattle.searcher.specs.declared.Answer.{Answer}
 use Rattle.searcher.specs.declared.Count.{Count}
-use Rattle.searcher.specs.declared.Answer.the-variants.{Found, None, Halted, Lengths, List as NotAList, Entry}
+use Rattle.searcher.specs.declared.Answer.the-variants.{Found, None, Halted, Lengths, List as NotAList, Entry, Untrue}
 use Rattle.searcher.specs.Answers.{toldAnswer}
 use Rattle.solver.specs.Solving.{solved, trailBytes, atFound}
 use Rattle.rooms.specs.declared.Needs.{Needs}
@@ -39,6 +38,7 @@ only-found (Halted c) d t f = let z = ap (λ (u : Told). u .first) t ∙ ap endi
 only-found Lengths d t f = let z = ap (λ (u : Told). u .number) t in absurd (omega arith)
 only-found (NotAList i) d t f = let z = ap (λ (u : Told). u .number) t in absurd (omega arith)
 only-found (Entry i) d t f = let z = ap (λ (u : Told). u .number) t in absurd (omega arith)
+only-found Untrue d t f = let z = ap (λ (u : Told). u .number) t in absurd (omega arith)
 
 kept : {A : Type 0} (x : Ending) (before after : A) → (x ≡ DoneFound → ⊥) → before ≡ atFound x before after
 kept DoneFound before after n = absurd (n refl)
@@ -92,9 +92,7 @@ module _ {s : List ℕ} {needed : Needs} {ls ts : List ℤ} {ms vs ds : List ℕ
   ds-long = length-take-le n ds (fits .drawing) ∙ ap (λ (n : Needs). n .cells) (fits .needs)
 
   ok : IsAccepted v (clauseList (boardOf s)) (take m ts) (take m ms) 0
-  ok =
-      let c : Search = record { variables = v; list = clauseList (boardOf s); trail = take m ts; marks = take m ms; used = 0; budget = budget } in
-      searching.ok c (searching.begun-taken s c (record { grid = fits .accepted; variables = refl; list = refl; empty = refl; trail = ts-long; marks = ms-long }))
+  ok = begun.taken s (fits .accepted) budget (take m ts) (take m ms) ts-long ms-long
 
   legal : Legal v (done .trail)
   unfolding trailOf
@@ -132,7 +130,7 @@ module _ {s : List ℕ} {needed : Needs} {ls ts : List ℤ} {ms vs ds : List ℕ
 
     module _ {c : Count} (e : a ≡ Found c) where
       ends-found : done .ending ≡ DoneFound
-      ends-found = begun.says-found (done .ending) (ap (λ (t : Told). t .first) (sym (h .told) ∙ ap toldAnswer e))
+      ends-found = same-ending (done .ending) DoneFound (ap (λ (t : Told). t .first) (sym (h .told) ∙ ap toldAnswer e))
 
       -- the buffers hold the trail, which is full
       reads : trailOf us ns v ≡ done .trail

@@ -1,5 +1,5 @@
 -- An accepted list and trail: what their rows say, and that what a search leaves is accepted again. Assumes nothing.
-use Prim.Native.Nat.{ℕ, _-_, _<_}
+use Prim.Native.Nat.{ℕ, _-_, _≤_, _<_}
 use native.Mathlib.Omega.{arith}
 use lib.Dec.{eqb, ltb}
 use lib.IntN.{ℤ, pos}
@@ -50,18 +50,20 @@ module _ {v : ℕ} {ls ts : List ℤ} {ms : List ℕ} {used : ℕ} (ok : IsAccep
   pub accepted-legal : Legal v (trailOf ts ms used)
   accepted-legal = read-legal v ts ms used (first-none (wrongEntryAt v ts ms) used (ok .clear .1 .1 .0))
 
-  -- the same list with another legal trail
+  few : tooManyVariables v ≡ false
+  few =
+      let h = or-neither _ (ltb v used) (no-cause (wrongLengths v ts ms used) (ok .clear .0)) in
+      let k = or-neither _ (not (eqb (length ms) v)) (h .0) in
+      or-neither (tooManyVariables v) (not (eqb (length ts) v)) (k .0) .0
+
+  -- the same list with another legal trail, in buffers of V elements
+  pub accepted-other : (us : List ℤ) (ns : List ℕ) (n : ℕ) → length us ≡ v → length ns ≡ v → n ≤ v → Legal v (trailOf us ns n) → IsAccepted v ls us ns n
+  accepted-other us ns n p q h l =
+      let lengths : wrongLengths v us ns n ≡ false = rw (few, p, q, eq-eqb v v refl, le-ltb v n h) in
+      record { clear = (ap cause lengths, (ok .clear .1 .0, (none-first _ n (legal-read v us ns n l), tt))) }
+
+  -- in its image
   pub accepted-image : (t : Trail) → Legal v t → IsAccepted v ls (trailImage v t) (marksImage v t) (length t)
-  accepted-image t l = record { clear = (ap cause lengths, (ok .clear .1 .0, (none-first _ (length t) entries, tt))) }
-    where
-      entries : (i : ℕ) → i < length t → wrongEntryAt v (trailImage v t) (marksImage v t) i ≡ false
-      entries = legal-read v (trailImage v t) (marksImage v t) (length t) (subst (Legal v) (sym (read-image v t)) l)
-
-      few : tooManyVariables v ≡ false
-      few =
-          let h = or-neither _ (ltb v used) (no-cause (wrongLengths v ts ms used) (ok .clear .0)) in
-          let k = or-neither _ (not (eqb (length ms) v)) (h .0) in
-          or-neither (tooManyVariables v) (not (eqb (length ts) v)) (k .0) .0
-
-      lengths : wrongLengths v (trailImage v t) (marksImage v t) (length t) ≡ false
-      lengths = rw (few, length-image (λ e. e .literal) (pos 0) v t l, length-image (λ e. e .mark) 0 v t l, eq-eqb v v refl, le-ltb v (length t) (legal-length v t l))
+  accepted-image t l =
+      accepted-other (trailImage v t) (marksImage v t) (length t) (length-image (λ e. e .literal) (pos 0) v t l) (length-image (λ e. e .mark) 0 v t l)
+      (legal-length v t l) (subst (Legal v) (sym (read-image v t)) l)

@@ -1,5 +1,5 @@
--- The laws of a step's three choices: what is chosen fails, is forced, is unassigned; where no clause is chosen none fails, where no
--- variable is chosen each is assigned. The theory rests on the record `Laws` and never looks at how a choice is sought. Assumes nothing.
+-- The laws of a step's three choices: what is chosen fails, is forced, is unassigned, with lower variables assigned; where no clause is
+-- chosen none fails, where no variable is chosen each is assigned. The theory rests on the record `Laws` and never looks at how a choice is sought. Assumes nothing.
 use Prim.Native.Nat.{ℕ, suc, _-_, _<_}
 use native.Mathlib.Omega.{arith}
 use native.Mathlib.Numerals.{add-one}
@@ -43,6 +43,7 @@ pub record Laws (v : ℕ) (ls : List ℤ) (w : Values) : Type 0 where
   pub none-failed : failedClause w ls ≡ none → All (Misses (fails w)) (split ls)
   pub forced : {i : ℕ} → forcedPlace w ls ≡ some i → Some (Forces w (getD ls i (pos 0))) (split ls)
   pub free : {n : ℕ} → lowestUnassigned v w ≡ some n → (n < v) × (isUnassigned (w (suc n)) ≡ true)
+  pub lowest : {n : ℕ} → lowestUnassigned v w ≡ some n → AllAssigned n w
   pub none-free : lowestUnassigned v w ≡ none → AllAssigned v w
 
 -- the first clause of a list, with what holds of it
@@ -193,5 +194,6 @@ choice-laws v ls w u =
       none-failed = λ h. clause-none (failedAt w) _ (λ j l r c k. every-false (fails w) l r c (not-found (everyLiteral (fails w) (l ∷ r)) j k)) true 0 ls u h;
       forced = λ {i} h. clause-some (forcedAt w) _ ls i (forced-at w ls i) true 0 ls refl h;
       free = λ {n} h. let l = first-some (λ n. isUnassigned (w (suc n))) v n h in (l .below, l .holds);
+      lowest = λ {n} h. first-some (λ n. isUnassigned (w (suc n))) v n h .first;
       none-free = λ h. first-none (λ n. isUnassigned (w (suc n))) v h;
     }

@@ -1,4 +1,5 @@
--- Theorems about the search. Read Theorems.antt: it states the results. The others are in the order of the proofs.
+-- Theorems about the search. Read Theorems.antt (the search), Following.antt (`next`) and Listing.antt (calls carried on until "none"): they state the results.
+-- The others are in the order of the proofs.
 pub mod Theorems
 pub mod Lists
 pub mod Values
@@ -10,3 +11,7 @@ pub mod Undoing
 pub mod Steps
 pub mod Runs
 pub mod Accepted
+pub mod Orders
+pub mod Calls
+pub mod Following
+pub mod Listing

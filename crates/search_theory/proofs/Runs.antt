@@ -29,6 +29,7 @@ pub record Ended (v : ℕ) (ls : List ℤ) (t : Trail) (b : ℕ) (d : Done) : Ty
   pub same : (a : List Bool) → Satisfies a ls → Open a t ↔ Open a (d .trail)
   pub within : d .steps ≤ b
   pub few : d .steps ≤ number v t
+  pub falls : number v (d .trail) ≤ number v t
   pub means : Means v ls t b (d .ending) (d .steps) (d .trail)
 
 module _ {v : ℕ} {ls : List ℤ} (closed : unclosed ls ≡ false) (proper : All (All (Proper v)) (split ls)) where
@@ -36,7 +37,7 @@ module _ {v : ℕ} {ls : List ℤ} (closed : unclosed ls ≡ false) (proper : Al
   stays : {t : Trail} {b : ℕ} → Legal v t → (x : Ending) (n : ℕ) → n ≤ b → n ≤ 1 → Means v ls t b x n t → Ended v ls t b (ends x n t)
   stays {t} l x n h k m =
       let p = number-more v t in
-      record { legal = l; same = λ a s. (λ o. o, λ o. o); within = h; few = omega arith; means = m }
+      record { legal = l; same = λ a s. (λ o. o, λ o. o); within = h; few = omega arith; falls = omega arith; means = m }
 
   -- a step, and what a search with the rest of the budget comes to
   one-step : {t : Trail} {b : ℕ} → Legal v t → (x : Next) → Stepped v ls t x → ((u : Trail) → Legal v u → Ended v ls u b (run v ls b u))
@@ -45,11 +46,13 @@ module _ {v : ℕ} {ls : List ℤ} (closed : unclosed ls ≡ false) (proper : Al
       let e = go u m in
       let w = e .within in
       let n = e .few in
+      let d = e .falls in
       record {
         legal = e .legal;
         same = λ a s. (λ k. e .same a s .0 (o a s .0 k), λ k. o a s .1 (e .same a s .1 k));
         within = omega arith;
         few = omega arith;
+        falls = omega arith;
         means = later (run v ls b u .ending) (run v ls b u .steps) (run v ls b u .trail) (e .means);
       }
     where

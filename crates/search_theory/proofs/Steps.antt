@@ -62,8 +62,12 @@ module _ {v : ℕ} {ls : List ℤ} (t : Trail) (law : Laws v ls (variableValue t
       meet (λ c k o. meet (λ x q. ⊎-elim (λ e. ap (value a) (sym e) ∙ q) (λ h. clash q (literal-false a t g x h))) c o (k .others)) (split ls) f s
 
   -- none that satisfies the list agrees with a trail under which a clause fails
-  refuted : {i : ℕ} → failedClause (variableValue t) ls ≡ some i → (a : List Bool) → Satisfies a ls → Agrees a t → ⊥
+  pub refuted : {i : ℕ} → failedClause (variableValue t) ls ≡ some i → (a : List Bool) → Satisfies a ls → Agrees a t → ⊥
   refuted h a s g = meet (λ c k o. meet (λ x q w. clash q (literal-false a t g x w)) c o k) (split ls) (law .failed h) s
+
+  -- a trail under which every variable is assigned and no clause fails satisfies the list
+  pub satisfied : AllAssigned v (variableValue t) → failedClause (variableValue t) ls ≡ none → Satisfies (valuesOf v t) ls
+  satisfied all f = all-zip (some-zip (literal-true v t all)) (split ls) (law .none-failed f) proper
 
   on-forced : (l : ℤ) → Some (Forces (variableValue t) l) (split ls) → Stepped v ls t (Moved (entry l 0 ∷ t))
   on-forced l f = append (entry l 0) (meet right (split ls) f proper) (λ a s g w. clash (forced-true l f a s g) w)
@@ -77,9 +81,7 @@ module _ {v : ℕ} {ls : List ℤ} (t : Trail) (law : Laws v ls (variableValue t
           }
 
   on-unassigned : (o : Option ℕ) → lowestUnassigned v (variableValue t) ≡ o → failedClause (variableValue t) ls ≡ none → Stepped v ls t (onUnassigned o t)
-  on-unassigned none h f =
-      let all = law .none-free h in
-      full all (all-zip (some-zip (literal-true v t all)) (split ls) (law .none-failed f) proper)
+  on-unassigned none h f = full (law .none-free h) (satisfied (law .none-free h) f)
   on-unassigned (some n) h f = append (entry (negsuc n) 1) right (λ a s g w. refl)
     where
       right : Right v t (entry (negsuc n) 1)

@@ -28,3 +28,7 @@ pub record FoundOne (v : ℕ) (ls : List ℤ) (begins t : Trail) : Type 0 where
   pub full : length t ≡ v
   pub values : OneAssignment v t
   pub isOne : OpenAt v ls begins (valuesOf v t)
+
+-- the satisfying assignments open at a trail other than the given one
+abbrev pub OtherAt : ℕ → List ℤ → List Bool → Trail → List Bool → Type 0
+OtherAt v ls given t a = OpenAt v ls t a × (a ≡ given → ⊥)

@@ -1,11 +1,13 @@
 // The search: document 01's "Search", by its listed steps under a budget.
 ghost use mathlib.Core.Path.{_≡_};
 ghost use lib.ListN.{length};
+ghost use Rattle.answers.specs.declared.Told.{Told};
+ghost use Rattle.answers.specs.Told.{turnedDown};
 ghost use Rattle.search.specs.Trail.{trailImage, marksImage};
-ghost use Rattle.search.specs.Run.{IsAccepted, toldDone, searched, searchAnswer, trailAfter, marksAfter};
+ghost use Rattle.search.specs.Run.{searchRows, IsAccepted, toldDone, searched, searchAnswer, trailAfter, marksAfter};
 ghost use Rattle.trails.specs.Running.{Running};
 ghost use Rattle.stepping.specs.Stepping.{Listed};
-ghost use Rattle.searcher.specs.Answers.{toldAnswer, usedOf};
+ghost use Rattle.searcher.specs.Answers.{toldAnswer, usedOf, checkedTells};
 ghost use Rattle.searcher.specs.Runs.{Ran};
 use answers::Place;
 use answers::Told;
@@ -26,7 +28,7 @@ pub struct Count {
     pub used: usize,
 }
 
-// The answers of the search; then its refusals, 17, 16 and 18 of document 01's table.
+// The answers of the search; then its refusals, 17, 16 and 18 of document 01's table, and 20 of document 02, of `next` only.
 pub enum Answer {
     Found(Count),
     None(Count),
@@ -34,6 +36,13 @@ pub enum Answer {
     Lengths,
     List(usize),
     Entry(usize),
+    Untrue,
+}
+
+// Whether a list and a trail are accepted, or how they are turned down.
+pub enum Checked {
+    Accepted,
+    Refused(Answer),
 }
 
 impl Answer {
@@ -48,6 +57,7 @@ impl Answer {
             Answer::Lengths => refused(17, 0),
             Answer::List(i) => refused(16, i as u64),
             Answer::Entry(i) => refused(18, i as u64),
+            Answer::Untrue => refused(20, 0),
         }
     }
 
@@ -61,8 +71,27 @@ impl Answer {
             Answer::Lengths => 0,
             Answer::List(_) => 0,
             Answer::Entry(_) => 0,
+            Answer::Untrue => 0,
         }
     }
+}
+
+// 17, 16 and 18: the first cause against a list and a trail.
+pub fn check(variables: usize, list: &[i32], trail: &[i32], marks: &[u8], used: usize) -> Checked
+    ensures { λ r. ⌜ ((t : Told) → checkedTells r t ≡ turnedDown (searchRows variables (now (list .entry)) (now (trail .entry)) (now (marks .entry)) used) t) ⌝ }
+{
+    if wrong_lengths(variables, trail, marks, used) {
+        return Checked::Refused(Answer::Lengths);
+    }
+    let p = wrong_list(list, variables);
+    if let Place::At(i) = p {
+        return Checked::Refused(Answer::List(i));
+    }
+    let p = first_wrong_entry(variables, trail, marks, used);
+    if let Place::At(i) = p {
+        return Checked::Refused(Answer::Entry(i));
+    }
+    Checked::Accepted
 }
 
 // Steps until one answers, or the budget is used up.
@@ -87,7 +116,13 @@ fn run(list: &[i32], trail: &mut [i32], marks: &mut [u8], first: usize, budget: 
 }
 
 // The search of an accepted list from an accepted trail.
-fn searched(list: &[i32], trail: &mut [i32], marks: &mut [u8], used: usize, budget: u64) -> Answer
+pub fn searched(
+    list: &[i32],
+    trail: &mut [i32],
+    marks: &mut [u8],
+    used: usize,
+    budget: u64,
+) -> Answer
     requires { ⌜ IsAccepted (length (now marks)) (now list) (now trail) (now marks) used ⌝ }
     ensures { λ r. ⌜ toldAnswer r ≡ toldDone (searched (length (now (marks .entry))) (now (list .entry)) (now (trail .entry)) (now (marks .entry)) used budget) ⌝ }
     ensures { λ r. ⌜ now (trail .exit) ≡ trailImage (length (now (marks .entry))) (searched (length (now (marks .entry))) (now (list .entry)) (now (trail .entry)) (now (marks .entry)) used budget .trail) ⌝ }
@@ -115,16 +150,9 @@ pub fn search(
     ensures { λ r. ⌜ now (trail .exit) ≡ trailAfter variables (now (list .entry)) (now (trail .entry)) (now (marks .entry)) used budget ⌝ }
     ensures { λ r. ⌜ now (marks .exit) ≡ marksAfter variables (now (list .entry)) (now (trail .entry)) (now (marks .entry)) used budget ⌝ }
 {
-    if wrong_lengths(variables, trail, marks, used) {
-        return Answer::Lengths;
-    }
-    let p = wrong_list(list, variables);
-    if let Place::At(i) = p {
-        return Answer::List(i);
-    }
-    let p = first_wrong_entry(variables, trail, marks, used);
-    if let Place::At(i) = p {
-        return Answer::Entry(i);
+    let c = check(variables, list, trail, marks, used);
+    if let Checked::Refused(r) = c {
+        return r;
     }
     searched(list, trail, marks, used, budget)
 }

@@ -21,6 +21,7 @@ use Rattle.encoder.specs.Variables.{variableCount}
 use Rattle.encoder.specs.Clauses.{clauseList}
 use Rattle.encoder.proofs.Lists.{made-long}
 use Rattle.search.specs.Run.{Ending, Found, None, Halted, endingNumber, toldDone}
+use Rattle.search.proofs.Endings.{same-ending}
 use Rattle.solver.specs.Solving.{Lent, roomRows, solverRows, atFound, written, solverAnswer, solverLeaves}
 use Rattle.searcher.specs.declared.Count.{Count}
 use Rattle.solve_grid.specs.declared.Unsolved.{Unsolved}
@@ -65,15 +66,6 @@ same-refusal s =
     by false h true k n = rw (h, k)
     by false h false k n = rw (h, k, n)
 
--- an ending is known by its number
-abbrev endingOf : ℕ → Ending
-endingOf n = cond (eqb n 1) Found (cond (eqb n 2) None Halted)
-
-ending-back : (x : Ending) → endingOf (endingNumber x) ≡ x
-ending-back Found = refl
-ending-back None = refl
-ending-back Halted = refl
-
 -- the drawing to which the search's trail decodes
 abbrev cells : List ℕ → List ℕ
 cells s = drawingAt (boardOf s) (searched (boardOf s))
@@ -102,7 +94,7 @@ module _ {s : List ℕ} {r : Solved} {drawing : List ℕ} (w : Solves s r drawin
     ending : x ≡ searched (boardOf s) .ending
     ending =
         let a = w .told ∙ clear-answered (solverRows s lent) (toldDone (searched (boardOf s))) clear in
-        sym (ending-back x) ∙ ap endingOf (sym h ∙ ap (λ (t : Told). t .first) a) ∙ ending-back (searched (boardOf s) .ending)
+        same-ending x (searched (boardOf s) .ending) (sym h ∙ ap (λ (t : Told). t .first) a)
 
     ends : {text buf out : List ℕ} {n : ℕ} → text ≡ endText x (drawingText (sides s .columns) (cells s)) → Wrote buf 0 text out n → Wrote buf 0 (printedSolution s) out n
     ends q p = wrote-recast (q ∙ ap (λ x. endText x (drawingText (sides s .columns) (cells s))) ending ∙ printed-text _ (sym number-is ∙ e)) p

@@ -23,7 +23,7 @@ use Rattle.encoder.specs.Clauses.{clauses, clauseList}
 use Rattle.encoder.specs.Encoding.{encoderAnswer, encoderLeaves}
 use Rattle.search.specs.Run.{Done, toldDone}
 use Rattle.searcher.specs.declared.Answer.{Answer}
-use Rattle.searcher.specs.declared.Answer.the-variants.{Found, None, Halted, Lengths as WrongLengths, List as WrongList, Entry as WrongEntry}
+use Rattle.searcher.specs.declared.Answer.the-variants.{Found, None, Halted, Lengths as WrongLengths, List as WrongList, Entry as WrongEntry, Untrue}
 use Rattle.searcher.specs.Answers.{toldAnswer}
 use Rattle.solver.specs.Solving.{Lent, solved, roomRows, solverAnswer, written, solverLeaves}
 use Rattle.rooms.specs.declared.Lengths.{Lengths}
@@ -43,6 +43,7 @@ ended-told (Halted c) d e = e
 ended-told WrongLengths d e = let z = ap (λ (t : Told). t .number) e in absurd (omega arith)
 ended-told (WrongList i) d e = let z = ap (λ (t : Told). t .number) e in absurd (omega arith)
 ended-told (WrongEntry i) d e = let z = ap (λ (t : Told). t .number) e in absurd (omega arith)
+ended-told Untrue d e = let z = ap (λ (t : Told). t .number) e in absurd (omega arith)
 
 abbrev lengthsOf : Lent → Lengths
 lengthsOf lent = record { list = length (lent .list); trail = length (lent .trail); marks = length (lent .marks); values = length (lent .values); drawing = length (lent .drawing) }

@@ -8,7 +8,7 @@ use Rattle.rules.specs.declared.Parsed.{Parsed}
 use Rattle.rules.specs.declared.Parsed.the-variants.{Accepted, Refused as NotRead}
 use Rattle.rules.specs.Record.{toldRefusal}
 use Rattle.searcher.specs.declared.Answer.{Answer}
-use Rattle.searcher.specs.declared.Answer.the-variants.{Found as SearchFound, None as SearchNone, Halted as SearchHalted, Lengths as WrongLengths, List as WrongList, Entry as WrongEntry}
+use Rattle.searcher.specs.declared.Answer.the-variants.{Found as SearchFound, None as SearchNone, Halted as SearchHalted, Lengths as WrongLengths, List as WrongList, Entry as WrongEntry, Untrue}
 use Rattle.solver.specs.Solving.{Lent}
 use Rattle.solve_grid.specs.declared.Unsolved.{Unsolved}
 use Rattle.solve_grid.specs.declared.Unsolved.the-variants.{Record, TooShort}
@@ -43,6 +43,7 @@ endedAs (SearchHalted c) = Halted c
 endedAs WrongLengths = unbegun
 endedAs (WrongList i) = unbegun
 endedAs (WrongEntry i) = unbegun
+endedAs Untrue = unbegun
 
 -- the five lent buffers
 abbrev pub lentOf : List ℤ → List ℤ → List ℕ → List ℕ → List ℕ → Lent

@@ -41,6 +41,7 @@ fn ended(answer: Answer) -> Solved
         Answer::Lengths => Solved::Halted(Count { steps: 0, used: 0 }),
         Answer::List(_) => Solved::Halted(Count { steps: 0, used: 0 }),
         Answer::Entry(_) => Solved::Halted(Count { steps: 0, used: 0 }),
+        Answer::Untrue => Solved::Halted(Count { steps: 0, used: 0 }),
     }
 }
 

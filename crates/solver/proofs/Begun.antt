@@ -1,10 +1,8 @@
 -- The search begun empty on an accepted grid's clauses: what it tells and leaves, and what that means for the grid. Assumes nothing.
 use Prim.Native.Nat.{ℕ}
-use native.Mathlib.Omega.{arith}
 use lib.IntN.{ℤ, pos}
 use lib.ListN.{length, replicate, length-replicate}
 use mathlib.Core.Path.{_≡_, refl, sym, _∙_, ap, subst}
-use mathlib.Core.Bool.{Bool}
 use mathlib.Core.Logic.{_↔_}
 use mathlib.Core.List.{List}
 use Rattle.answers.specs.declared.Told.{Told}
@@ -15,9 +13,9 @@ use Rattle.rules.specs.Drawing.{SolutionBytes}
 use Rattle.rules.specs.Judge.{saysYes}
 use Rattle.encoder.specs.Variables.{variableCount}
 use Rattle.encoder.specs.Clauses.{clauseList}
-use Rattle.encoder.specs.Decoding.{bytesOf, decoded, decoderAnswer, DecodesTo}
+use Rattle.encoder.specs.Decoding.{decoded, decoderAnswer, DecodesTo}
 use Rattle.search.specs.Trail.{trailImage, marksImage, trailOf, valuesOf}
-use Rattle.search.specs.Run.{Ending, Found, None, Halted, Done, endingNumber, toldDone, searched}
+use Rattle.search.specs.Run.{Found, None, Halted, Done, IsAccepted as IsTaken, endingNumber, toldDone, searched}
 use Rattle.search_theory.proofs.Theorems as search
 use Rattle.demands.specs.Searches.{Search, told, trailLeft, marksLeft, endsAt, BegunOn}
 use Rattle.demands.proofs.Searching as searching
@@ -25,20 +23,23 @@ use Rattle.solver.specs.Solving.{solved, trailBytes}
 
 -- 1. The call, in trail and marks of V elements
 
-abbrev call : List ℕ → ℕ → List ℤ → List ℕ → Search
+abbrev pub call : List ℕ → ℕ → List ℤ → List ℕ → Search
 call s budget ts ms = record { variables = variableCount (boardOf s); list = clauseList (boardOf s); trail = ts; marks = ms; used = 0; budget = budget }
 
 module _ (s : List ℕ) (acc : IsAccepted s) (budget : ℕ) (ts : List ℤ) (ms : List ℕ) (trail-long : length ts ≡ variableCount (boardOf s)) (marks-long : length ms ≡ variableCount (boardOf s)) where
-  begun : BegunOn s (call s budget ts ms)
+  pub begun : BegunOn s (call s budget ts ms)
   begun = record { grid = acc; variables = refl; list = refl; empty = refl; trail = trail-long; marks = marks-long }
 
+  pub taken : IsTaken (variableCount (boardOf s)) (clauseList (boardOf s)) ts ms 0
+  taken = searching.ok (call s budget ts ms) (searching.begun-taken s _ begun)
+
   -- begun empty, whatever the buffers hold
-  comes-to : searched (variableCount (boardOf s)) (clauseList (boardOf s)) ts ms 0 budget ≡ solved (boardOf s) budget
+  pub comes-to : searched (variableCount (boardOf s)) (clauseList (boardOf s)) ts ms 0 budget ≡ solved (boardOf s) budget
   unfolding trailOf
   comes-to = refl
 
   pub tells : told (call s budget ts ms) ≡ toldDone (solved (boardOf s) budget)
-  tells = search.told (searching.ok (call s budget ts ms) (searching.begun-taken s _ begun)) budget ∙ ap toldDone comes-to
+  tells = search.told taken budget ∙ ap toldDone comes-to
 
   pub trail-left : trailLeft (call s budget ts ms) ≡ trailImage (variableCount (boardOf s)) (solved (boardOf s) budget .trail)
   trail-left = (λ i. leaves (tells i) ts (trailImage (variableCount (boardOf s)) (comes-to i .trail)))
@@ -50,18 +51,6 @@ module _ (s : List ℕ) (acc : IsAccepted s) (budget : ℕ) (ts : List ℤ) (ms 
   ends-at = searching.at-end (call s budget ts ms) (searching.begun-taken s _ begun) ∙ ap (λ (d : Done). d .trail) comes-to
 
 -- 2. The grid, by the call in zeros
-
-pub says-found : (x : Ending) → endingNumber x ≡ 1 → x ≡ Found
-says-found Found e = refl
-says-found None e = absurd (omega arith)
-says-found Halted e = absurd (omega arith)
-
--- what the decoder hands out is what it draws
-hands : (s : List ℕ) {a : List Bool} {ds : List ℕ} → DecodesTo s a ds → decoded (boardOf s) (bytesOf a) ≡ ds
-hands s {a} h =
-    let zeros : List ℕ = replicate (boardOf s .size) 0 in
-    let long : length zeros ≡ boardOf s .size = length-replicate (boardOf s .size) 0 in
-    sym (ap (λ t. leaves t zeros (decoded (boardOf s) (bytesOf a))) (h .says zeros long)) ∙ h .hands zeros long
 
 module _ (s : List ℕ) (acc : IsAccepted s) (budget : ℕ) where
   abbrev done : Done
@@ -106,4 +95,4 @@ module _ (s : List ℕ) (acc : IsAccepted s) (budget : ℕ) where
     decoder-says = drawn .1 .says
 
     pub draws-solution : SolutionBytes (boardOf s) (decoded (boardOf s) (trailBytes v (done .trail)))
-    draws-solution = subst (SolutionBytes (boardOf s)) (sym (hands s (drawn .1))) (drawn .2)
+    draws-solution = subst (SolutionBytes (boardOf s)) (sym (searching.hands s (drawn .1))) (drawn .2)

@@ -15,6 +15,7 @@ use Rattle.rules.specs.Drawing.{SolutionBytes}
 use Rattle.encoder.specs.Variables.{variableCount}
 use Rattle.encoder.specs.Decoding.{decoded}
 use Rattle.search.specs.Run.{Found, None, Halted, endingNumber, toldDone}
+use Rattle.search.proofs.Endings.{same-ending}
 use Rattle.demands.specs.Table.{Call}
 use Rattle.demands.proofs.Turning.{by-rows}
 use Rattle.solver.specs.Solving.{Lent, solved, trailBytes, solverRows, solverAnswer, atFound, written, solverLeaves}
@@ -49,7 +50,7 @@ module _ (s : List ℕ) (budget : ℕ) (lent : Lent) where
     -- and at "found" the first N bytes of the drawing that it leaves are a solution.
     pub found-solution : solverAnswer s budget lent .first ≡ endingNumber Found → SolutionBytes (boardOf s) (take (boardOf s .size) (solverLeaves s budget lent .drawing))
     found-solution e =
-        let found = begun.says-found (solved (boardOf s) budget .ending) (sym (ap (λ (t : Told). t .first) says) ∙ e) in
+        let found = same-ending (solved (boardOf s) budget .ending) Found (sym (ap (λ (t : Told). t .first) says) ∙ e) in
         let S = begun.draws-solution s accepted budget found in
         let left : solverLeaves s budget lent .drawing ≡ filled (lent .drawing) ds = (λ i. leaves (says i) lent (written (boardOf s) (solved (boardOf s) budget) lent) .drawing) ∙ ap (λ x. atFound x (lent .drawing) (filled (lent .drawing) ds)) found in
         rw left (rw (take-at ds _ (boardOf s .size) (S .long)) S)

@@ -7,7 +7,7 @@ use mathlib.Core.Path.{_≡_, refl, sym, _∙_, ap, subst, fun-ext}
 use mathlib.Core.Option.{Option, none, some}
 use mathlib.Core.List.{List}
 use Rattle.search.specs.Trail.{Entry, entry, Trail, Values, variableValue}
-use Rattle.search.specs.Step.{failedClause, forcedPlace, lowestUnassigned, Next, Moved, step}
+use Rattle.search.specs.Step.{failedClause, forcedPlace, lowestUnassigned, Next, Moved, undoes, step}
 use Rattle.search_theory.proofs.Lists.{proper-clauses}
 use Rattle.search_theory.proofs.Legal.{Legal}
 use Rattle.search_theory.proofs.Choices.{choice-laws}
@@ -16,7 +16,7 @@ use Rattle.choices.specs.Held.{held}
 use Rattle.trails.specs.Running.{heldTrail, Running}
 use Rattle.stepping.specs.declared.Stepped.{Stepped as Answered}
 use Rattle.stepping.specs.declared.Stepped.the-variants.{Found}
-use Rattle.stepping.specs.Stepping.{Listed, Allows, undoes, appends, Steps}
+use Rattle.stepping.specs.Stepping.{Listed, Allows, appends, Steps}
 
 -- a trail that a step moves to is legal
 moved-legal : {v : ℕ} {ls : List ℤ} {t u : Trail} {x : Next} → Stepped v ls t x → x ≡ Moved u → Legal v u

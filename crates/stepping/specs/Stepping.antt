@@ -7,7 +7,7 @@ use mathlib.Core.Bool.{false}
 use mathlib.Core.List.{List, _∷_}
 use Rattle.cnf.specs.Literals.{unclosed}
 use Rattle.search.specs.Trail.{Entry, Trail}
-use Rattle.search.specs.Step.{undo, Next, Moved, AnsweredFound, AnsweredNone, undone}
+use Rattle.search.specs.Step.{Next, Moved, AnsweredFound, AnsweredNone}
 use Rattle.search_theory.proofs.Legal.{Legal}
 use Rattle.choices.specs.Held.{Within}
 use Rattle.trails.specs.Running.{heldTrail, Running}
@@ -40,10 +40,7 @@ Stays None t now = now ≡ t
 abbrev pub Allows : List ℤ → List ℕ → ℕ → Entry → Type 0
 Allows ts ms used e = Legal (length ms) (e ∷ heldTrail ts ms used)
 
--- what may come after a trail: undoing, or an entry more
-abbrev pub undoes : Trail → Next
-undoes t = undone (undo t)
-
+-- what may come after a trail beside undoing: an entry more
 abbrev pub appends : Entry → Trail → Next
 appends e t = Moved (e ∷ t)
 

@@ -2,9 +2,9 @@
 ghost use lib.IntN.{pos, negsuc};
 ghost use lib.ListN.{length, getD};
 ghost use Rattle.search.specs.Trail.{entry};
-ghost use Rattle.search.specs.Step.{step};
+ghost use Rattle.search.specs.Step.{undoes, step};
 ghost use Rattle.trails.specs.Running.{Running};
-ghost use Rattle.stepping.specs.Stepping.{Listed, Allows, undoes, appends, Steps};
+ghost use Rattle.stepping.specs.Stepping.{Listed, Allows, appends, Steps};
 use answers::Place;
 use choices::first_failed;
 use choices::forced_place;

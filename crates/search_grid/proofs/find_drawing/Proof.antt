@@ -17,10 +17,10 @@ use Rattle.search_grid.proofs.find_drawing.Tie as tie
 
 -- the arm of the other answers
 abbrev Other : Answer → Type 0
-Other a = OneOf (1 ∷ 2 ∷ 3 ∷ 4 ∷ 5 ∷ []) (tagOf the-type a)
+Other a = OneOf (1 ∷ 2 ∷ 3 ∷ 4 ∷ 5 ∷ 6 ∷ []) (tagOf the-type a)
 
 other : (a : Answer) → Other a → (k : Count) → a ≡ Found k → ⊥
-other a h k e = ⊎-elim (λ z. omega arith) (⊎-elim (λ z. omega arith) (⊎-elim (λ z. omega arith) (⊎-elim (λ z. omega arith) (λ z. omega arith)))) (subst Other e h)
+other a h k e = ⊎-elim (λ z. omega arith) (⊎-elim (λ z. omega arith) (⊎-elim (λ z. omega arith) (⊎-elim (λ z. omega arith) (⊎-elim (λ z. omega arith) (λ z. omega arith))))) (subst Other e h)
 
 searched : (c : tie.After-slice-known4) → Searched (c .before .before .before .before .before .before .before .before .before .before .before .args .«record» .now) (c .before .before .before .before .before .before .before .before .before .before .before .args .budget) (c .before .before .before .search .result) (c .before .before .before .search .last .1 .1 .0) (c .before .before .before .search .last .1 .1 .1 .0)
 searched c = after-search (c .before .before .before .before .before .before .before .before .before .before .before .pre) (c .before .before .before .before .before .before .before .before .before .before .before .args .budget) (c .before .before .before .search .result) (c .before .before .before .search .ensures)

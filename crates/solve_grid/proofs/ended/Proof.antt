@@ -23,6 +23,9 @@ enum-told-2 c = search needs
 enum-told-3 : tie.Need-enum-told-3
 enum-told-3 c = search needs
 
+enum-told-4 : tie.Need-enum-told-4
+enum-told-4 c = search needs
+
 returns : tie.Need-returns
 returns c = sym (ap endedAs (c .before .answer .given .1))
 
@@ -41,6 +44,9 @@ returns-5 c = sym (ap endedAs (c .enum-told2 .given .1))
 returns-6 : tie.Need-returns-6
 returns-6 c = sym (ap endedAs (c .enum-told3 .given .1))
 
+returns-7 : tie.Need-returns-7
+returns-7 c = sym (ap endedAs (c .enum-told4 .given .1))
+
 pub ended-spec : {M : Type 1} → statement M
 ended-spec =
     tie.close
@@ -51,9 +57,11 @@ ended-spec =
     enum-told
     enum-told-2
     enum-told-3
+    enum-told-4
     returns
     returns-2
     returns-3
     returns-4
     returns-5
-    returns-6)
+    returns-6
+    returns-7)

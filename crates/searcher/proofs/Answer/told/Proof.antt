@@ -41,6 +41,12 @@ enum-known-self-5 c = search needs
 refused-requires-3 : tie.Need-refused-requires-3
 refused-requires-3 c κs = search needs
 
+enum-told-2 : tie.Need-enum-told-2
+enum-told-2 c = search needs
+
+refused-requires-4 : tie.Need-refused-requires-4
+refused-requires-4 c κs = search needs
+
 returns : tie.Need-returns
 returns c = c .answered .ensures ∙ sym (ap toldAnswer (c .before .before .self .given .1))
 
@@ -59,6 +65,9 @@ returns-5 c = c .refused2 .ensures ∙ sym (ap toldAnswer (c .before .before .se
 returns-6 : tie.Need-returns-6
 returns-6 c = c .refused3 .ensures ∙ sym (ap toldAnswer (c .before .before .self5 .given .1))
 
+returns-7 : tie.Need-returns-7
+returns-7 c = c .refused4 .ensures ∙ sym (ap toldAnswer (c .before .enum-told2 .given .1))
+
 pub told-spec : {M : Type 1} → statement M
 told-spec =
     tie.close
@@ -75,9 +84,12 @@ told-spec =
     refused-requires-2
     enum-known-self-5
     refused-requires-3
+    enum-told-2
+    refused-requires-4
     returns
     returns-2
     returns-3
     returns-4
     returns-5
-    returns-6)
+    returns-6
+    returns-7)

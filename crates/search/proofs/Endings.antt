@@ -1,0 +1,17 @@
+-- An ending is known by its number. Assumes nothing.
+use Prim.Native.Nat.{ℕ}
+use lib.Dec.{eqb}
+use mathlib.Core.Path.{_≡_, refl, sym, _∙_, ap}
+use mathlib.Core.Bool.{cond}
+use Rattle.search.specs.Run.{Ending, Found, None, Halted, endingNumber}
+
+abbrev endingOf : ℕ → Ending
+endingOf n = cond (eqb n 1) Found (cond (eqb n 2) None Halted)
+
+back : (x : Ending) → endingOf (endingNumber x) ≡ x
+back Found = refl
+back None = refl
+back Halted = refl
+
+pub same-ending : (x y : Ending) → endingNumber x ≡ endingNumber y → x ≡ y
+same-ending x y e = sym (back x) ∙ ap endingOf e ∙ back y
