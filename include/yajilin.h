@@ -66,11 +66,12 @@ enum yajilin_refusal {
     YAJILIN_SIZES = 17,          /* V too large, trail or marks not V long, used over V: 0 */
     YAJILIN_ENTRY = 18,          /* a used entry 0, beyond V, on the variable of an earlier one, or with a mark not 0 or 1:
                                     the first such entry's index */
-    YAJILIN_TEXT = 19            /* text outside the form: the first byte where no accepted text can go on, or the text's
+    YAJILIN_TEXT = 19,           /* text outside the form: the first byte where no accepted text can go on, or the text's
                                     length if it ends too soon */
+    YAJILIN_UNTRUE = 20          /* trail not full, or some clause without a true literal under it: 0 */
 };
 
-/* What the search answers. */
+/* What yajilin_search and yajilin_next answer. */
 enum yajilin_search_answer {
     YAJILIN_FOUND = 1,
     YAJILIN_NONE = 2,
@@ -124,6 +125,30 @@ uint64_t yajilin_search(uint64_t variables,
                         uint8_t *marks, size_t marks_bytes,
                         uint64_t used, uint64_t budget,
                         uint64_t answer[4]);
+
+/*
+ * Goes on to the following solution: takes a full trail that satisfies the list, drops that assignment as a failed clause
+ * would, which is a step, and searches on.
+ *
+ * Answered: as yajilin_search, for the assignments other than the one handed in. To list all that satisfy a list, search
+ * it begun empty and after each YAJILIN_FOUND call yajilin_next with what was left, until YAJILIN_NONE: each is found
+ * once, false before true at the lowest variable where two differ. A grid has one solution if the first YAJILIN_FOUND is
+ * followed by YAJILIN_NONE.
+ *
+ * Mind, after YAJILIN_NONE: where no mark was 1, the used entries are as they were. Such a trail still satisfies the list,
+ * and yajilin_search on it says YAJILIN_FOUND; there is nothing to go on with.
+ *
+ * Mind, after YAJILIN_HALTED: the trail may be full again, so only answer[1] tells whether the assignment was dropped. At
+ * 0 steps it was not, and yajilin_next is called again; after 1 or more yajilin_search goes on.
+ *
+ * Refused: 17, 16, 18 as yajilin_search; 20, with budget 0 too.
+ */
+uint64_t yajilin_next(uint64_t variables,
+                      const int32_t *list, size_t list_length,
+                      int32_t *trail, size_t trail_length,
+                      uint8_t *marks, size_t marks_bytes,
+                      uint64_t used, uint64_t budget,
+                      uint64_t answer[4]);
 
 /*
  * Writes the DIMACS text of V and a clause list into text: `p cnf V C`, then a clause a line. No NUL is added.

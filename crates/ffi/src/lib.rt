@@ -7,6 +7,7 @@ ghost use Rattle.dimacs.specs.Calls.{writerAnswer, writerLeaves, readerAnswer, 
 ghost use Rattle.encoder.specs.Encoding.{encoderAnswer, encoderLeaves};
 ghost use Rattle.encoder.specs.Decoding.{decoderAnswer, decoderLeaves};
 ghost use Rattle.search.specs.Run.{searchAnswer, trailAfter, marksAfter};
+ghost use Rattle.search.specs.Following.{nextAnswer, nextTrail, nextMarks};
 
 // Is the drawing a solution of the record's grid? Answered: yes, four zeros.
 #[no_mangle]
@@ -89,6 +90,33 @@ pub extern "C" fn yajilin_search(
     ensures { λ r. ⌜ now (answer .exit) ≡ words (searchAnswer variables (now (list .entry)) (now (trail .entry)) (now (marks .entry)) used budget) ⌝ }
 {
     let found = searcher::search(
+        variables as usize,
+        list,
+        trail,
+        marks,
+        used as usize,
+        budget,
+    );
+    found.told().write(answer)
+}
+
+// The search from a full trail on to the following solution: drops that assignment first. Answered: as by the search.
+#[no_mangle]
+pub extern "C" fn yajilin_next(
+    variables: u64,
+    list: &[i32],
+    trail: &mut [i32],
+    marks: &mut [u8],
+    used: u64,
+    budget: u64,
+    answer: &mut [u64; 4],
+) -> u64
+    ensures { λ r. ⌜ r ≡ nextAnswer variables (now (list .entry)) (now (trail .entry)) (now (marks .entry)) used budget .number ⌝ }
+    ensures { λ r. ⌜ now (trail .exit) ≡ nextTrail variables (now (list .entry)) (now (trail .entry)) (now (marks .entry)) used budget ⌝ }
+    ensures { λ r. ⌜ now (marks .exit) ≡ nextMarks variables (now (list .entry)) (now (trail .entry)) (now (marks .entry)) used budget ⌝ }
+    ensures { λ r. ⌜ now (answer .exit) ≡ words (nextAnswer variables (now (list .entry)) (now (trail .entry)) (now (marks .entry)) used budget) ⌝ }
+{
+    let found = following::next(
         variables as usize,
         list,
         trail,

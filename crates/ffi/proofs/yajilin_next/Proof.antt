@@ -1,0 +1,30 @@
+-- `ffi::yajilin_next` meets its contract. Assumes nothing.
+use mathlib.Core.Path.{_∙_, ap}
+use Rattle.answers.specs.declared.Told.{Told}
+use Rattle.answers.specs.Told.{words}
+use borrow.Author.Needs.{needs}
+use Rattle.ffi.proofs.yajilin_next.Statement.{statement}
+use Rattle.ffi.proofs.yajilin_next.Tie as tie
+
+next-requires : tie.Need-next-requires
+next-requires c κs = search needs
+
+told-requires : tie.Need-told-requires
+told-requires c κs = search needs
+
+write-requires : tie.Need-write-requires
+write-requires c κs = search needs
+
+same-length : tie.Need-same-length
+same-length c = search needs
+
+same-length-2 : tie.Need-same-length-2
+same-length-2 c = search needs
+
+returns : tie.Need-returns
+returns c = let e = c .before .before .told .ensures ∙ c .before .before .before .before .before .before .next .ensures .0 in (c .write .ensures .0 ∙ ap (λ (t : Told). t .number) e, (c .before .before .before .before .before .before .next .ensures .1 .0, (c .before .before .before .before .before .before .next .ensures .1 .1, c .write .ensures .1 ∙ ap words e)))
+
+pub yajilin-next-spec : {M : Type 1} → statement M
+yajilin-next-spec =
+    tie.close
+    (tie.spec next-requires told-requires write-requires same-length same-length-2 returns)

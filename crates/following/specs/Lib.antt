@@ -1,0 +1,2 @@
+-- The call `next` in code: how it counts.
+pub mod Counting
