@@ -6,7 +6,7 @@ use lib.ListN.{length, replicate}
 use mathlib.Core.Path.{_≡_, refl, sym, _∙_, ap, subst}
 use mathlib.Core.List.{List}
 use Rattle.answers.specs.declared.Told.{Told}
-use Rattle.answers.specs.Told.{refusal, Row, turnedDown}
+use Rattle.answers.specs.Told.{refusal, turnedDown}
 use Rattle.answers.specs.Lent.{Wrote, filled, leaves}
 use Rattle.answers.proofs.Lent.{wrote-filled}
 use Rattle.answers.proofs.Rows.{Tells, answers, turns, passes}
@@ -34,7 +34,19 @@ use Rattle.cell_numbers.specs.Tables.{Tables}
 use Rattle.cell_numbers.proofs.Sides.{held-laws}
 use Rattle.counting.specs.declared.Counts.{Counts}
 use Rattle.counting.specs.Counts.{countsOf}
-use Rattle.encode.specs.Answer.{toldCounts, roomRows, Writing}
+use Rattle.encode.specs.declared.Unlisted.{Unlisted}
+use Rattle.encode.specs.declared.Unlisted.the-variants.{Record, TooShort}
+use Rattle.encode.specs.declared.Encoded.{Encoded}
+use Rattle.encode.specs.declared.Encoded.the-variants.{Refused}
+use Rattle.encode.specs.Answer.{toldUnlisted, toldCounts, toldEncoded, roomRows, Writing}
+
+-- a refusal has a number
+pub refused-number : {e : Encoded} {u : Unlisted} {t : Told} → e ≡ Refused u → t ≡ toldEncoded e → t .number ≡ 0 → ⊥
+refused-number {u = u} q e z = by u (sym (ap (λ (t : Told). t .number) (e ∙ ap toldEncoded q)) ∙ z)
+  where
+    by : (u : Unlisted) → toldUnlisted u .number ≡ 0 → ⊥
+    by (Record r) e = refusal-number r e
+    by (TooShort n) e = omega arith
 
 module _ {g : Grid} {s : List ℕ} (w : Writing g s) where
   abbrev list : List ℤ

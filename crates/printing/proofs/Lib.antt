@@ -1,3 +1,4 @@
+pub mod Encoding
 pub mod Limits
 pub mod Putting
 pub mod Samples

@@ -1,4 +1,4 @@
--- The lines that the programs print beside DIMACS text: a refusal, `none`, `halted`, a drawing.
+-- The lines that the programs print beside DIMACS text: a refusal, a word, a drawing.
 use Prim.Native.Nat.{ℕ, suc, _+_, _/_, _%_}
 use lib.Dec.{eqb, ltb}
 use mathlib.Core.Bool.{cond}
@@ -16,6 +16,14 @@ refusedLine n = refusedWord ++ (decimal n ++ (lineFeed ∷ []))
 -- `none`
 abbrev pub noneLine : List ℕ
 noneLine = 110 ∷ 111 ∷ 110 ∷ 101 ∷ lineFeed ∷ []
+
+-- `one`
+abbrev pub oneLine : List ℕ
+oneLine = 111 ∷ 110 ∷ 101 ∷ lineFeed ∷ []
+
+-- `several`
+abbrev pub severalLine : List ℕ
+severalLine = 115 ∷ 101 ∷ 118 ∷ 101 ∷ 114 ∷ 97 ∷ 108 ∷ lineFeed ∷ []
 
 -- `halted`
 abbrev pub haltedLine : List ℕ

@@ -1,12 +1,22 @@
 -- `print_clauses::clauses_text` meets its contract. Assumes nothing.
 use native.Mathlib.Omega.{arith}
-use Rattle.print_clauses.proofs.Ends.{Encodes, ends-refused, ends-large, listed-inside, listed-long, listed-fits, ends-listed}
+use mathlib.Core.Path.{_≡_, refl, sym, ap}
+use Rattle.answers.proofs.Lent.{wrote-recast}
+use Rattle.counting.specs.declared.Counts.{Counts}
+use Rattle.encode.specs.declared.Encoded.the-variants.{Listed}
+use Rattle.encode.specs.Answer.{toldCounts, toldEncoded}
+use Rattle.encode.proofs.Ends.{refused-number}
+use Rattle.printing.proofs.Encoding.{Encodes, told-as, refused-line, large-line, listed-inside, listed-long}
+use Rattle.print_clauses.proofs.Ends.{listed-fits, ends-listed}
 use borrow.Author.Needs.{needs}
 use Rattle.print_clauses.proofs.clauses_text.Statement.{statement}
 use Rattle.print_clauses.proofs.clauses_text.Tie as tie
 
-call : (c : tie.After-encode) → Encodes (c .before .before .before .before .args .«record» .now) (c .encode .result) (c .encode .last .1 .0)
+call : (c : tie.After-encode) → Encodes (c .before .before .before .before .args .«record» .now) (toldEncoded (c .encode .result)) (c .encode .last .1 .0)
 call c = record { told = c .encode .ensures .0; left = c .encode .ensures .1 }
+
+answered : (c : tie.After-encode) {n : Counts} → c .encode .result ≡ Listed n → Encodes (c .before .before .before .before .args .«record» .now) (toldCounts n) (c .encode .last .1 .0)
+answered c q = told-as (ap toldEncoded q) (call c)
 
 slice-aggregate-encode : tie.Need-slice-aggregate-encode
 slice-aggregate-encode c = search needs
@@ -30,7 +40,7 @@ same-length : tie.Need-same-length
 same-length c = search needs
 
 returns : tie.Need-returns
-returns c = ends-refused (call (c .before .before .before .before .before .before .before .before)) (c .before .before .before .before .before .enum-told .given .1) (c .before .before .before .told .ensures) (c .before .before .put-refused .ensures)
+returns c = wrote-recast (refused-line (told-as (sym (c .before .before .before .told .ensures)) (call (c .before .before .before .before .before .before .before .before))) _ (refused-number (c .before .before .before .before .before .enum-told .given .1) (c .before .before .before .told .ensures))) (c .before .before .put-refused .ensures)
 
 put-refused-requires-2 : tie.Need-put-refused-requires-2
 put-refused-requires-2 c κs = search needs
@@ -39,22 +49,22 @@ same-length-2 : tie.Need-same-length-2
 same-length-2 c = search needs
 
 returns-2 : tie.Need-returns-2
-returns-2 c = ends-large (call (c .before .before .before .before .before .before .before .before .before)) (c .before .before .before .before .before .before .e .given .1) (omega (arith, c .before .before .before .before .if1 .taken)) (c .before .before .put-refused2 .ensures)
+returns-2 c = wrote-recast (large-line (answered (c .before .before .before .before .before .before .before .before .before) (c .before .before .before .before .before .before .e .given .1)) refl _ (omega (arith, c .before .before .before .before .if1 .taken))) (c .before .before .put-refused2 .ensures)
 
 array-share-prefix-list : tie.Need-array-share-prefix-list
-array-share-prefix-list c = listed-inside (call (c .before .before .before .before .before .before)) (c .before .before .before .e .given .1)
+array-share-prefix-list c = listed-inside (answered (c .before .before .before .before .before .before) (c .before .before .before .e .given .1)) refl
 
 slice-aggregate-put-text : tie.Need-slice-aggregate-put-text
-slice-aggregate-put-text c = listed-long (call (c .before .before .before .before .before .before .before)) (c .before .before .before .before .e .given .1)
+slice-aggregate-put-text c = listed-long (answered (c .before .before .before .before .before .before .before) (c .before .before .before .before .e .given .1)) refl
 
 put-text-requires : tie.Need-put-text-requires
-put-text-requires c κs = listed-fits (call (c .before .before .before .before .before .before .before)) (c .before .before .before .before .e .given .1) (omega (arith, c .before .before .if1 .left))
+put-text-requires c κs = listed-fits (answered (c .before .before .before .before .before .before .before) (c .before .before .before .before .e .given .1)) (omega (arith, c .before .before .if1 .left))
 
 same-length-3 : tie.Need-same-length-3
 same-length-3 c = search needs
 
 returns-3 : tie.Need-returns-3
-returns-3 c = ends-listed (call (c .before .before .before .before .before .before .before .before .before .before)) (c .before .before .before .before .before .before .before .e .given .1) (omega (arith, c .before .before .before .before .before .if1 .left)) (c .before .before .put-text .ensures)
+returns-3 c = ends-listed (answered (c .before .before .before .before .before .before .before .before .before .before) (c .before .before .before .before .before .before .before .e .given .1)) (omega (arith, c .before .before .before .before .before .if1 .left)) (c .before .before .put-text .ensures)
 
 pub clauses-text-spec : {M : Type 1} → statement M
 clauses-text-spec =

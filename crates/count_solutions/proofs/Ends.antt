@@ -1,0 +1,47 @@
+-- How the program goes on after the encoder's call, and that what it prints fits. Assumes nothing.
+use Prim.Native.Nat.{ℕ, _≤_}
+use native.Mathlib.Omega.{arith}
+use lib.IntN.{ℤ, pos}
+use lib.ListN.{length, take, replicate, length-replicate}
+use lib.Seq.{length-take-le}
+use mathlib.Core.Path.{_≡_, refl, _∙_, ap}
+use mathlib.Core.List.{List}
+use Rattle.answers.specs.Lent.{Wrote}
+use Rattle.answers.proofs.Lent.{wrote-recast}
+use Rattle.rules.specs.Board.{boardOf}
+use Rattle.encoder.specs.Variables.{variableCount}
+use Rattle.counting.specs.declared.Counts.{Counts}
+use Rattle.encode.specs.Answer.{toldCounts}
+use Rattle.search.specs.Run.{IsAccepted}
+use Rattle.solver.specs.Counting.{Many, NoSolution, OneSolution, SeveralSolutions, Unsettled, manyIn, manyOf}
+use Rattle.solver.proofs.Begun as begun
+use Rattle.printing.specs.Programs.{mostHeld, budget}
+use Rattle.printing.proofs.Limits.{printed-text, printed-fits}
+use Rattle.printing.proofs.Encoding.{Encodes, read, variables, listed, unrefused}
+use Rattle.count_solutions.specs.Printed.{countLine, printedCount}
+
+module _ {s : List ℕ} {new : List ℤ} {c : Counts} (w : Encodes s (toldCounts c) new) (h : c .variables ≤ mostHeld) where
+  -- the parts of trail and marks that are lent on
+  part-long : {A : Type 0} (x : A) → length (take (c .variables) (replicate mostHeld x)) ≡ variableCount (boardOf s)
+  part-long x = length-take-le (c .variables) (replicate mostHeld x) (omega (arith, length-replicate mostHeld x)) ∙ variables w refl
+
+  abbrev ts : List ℤ
+  ts = take (c .variables) (replicate mostHeld (pos 0))
+
+  abbrev ms : List ℕ
+  ms = take (c .variables) (replicate mostHeld 0)
+
+  pub taken : IsAccepted (length ts) (take (c .elements) new) ts ms 0
+  taken = rw (part-long (pos 0), listed w refl) (begun.taken s (read w refl) budget ts ms (part-long (pos 0)) (part-long 0))
+
+  pub ends-counted : {m : Many} {buf after : List ℕ} {r : ℕ} → m ≡ manyIn (length ts) (take (c .elements) new) budget → Wrote buf 0 (countLine m) after r → Wrote buf 0 (printedCount s) after r
+  ends-counted e p = wrote-recast (ap countLine (e ∙ (λ i. manyIn (part-long (pos 0) i) (listed w refl i) budget)) ∙ printed-text _ (unrefused w refl h)) p
+
+pub count-fits : (s : List ℕ) → length (printedCount s) ≤ 4096
+count-fits s = printed-fits s _ 4096 (omega arith) (λ e. by (manyOf (boardOf s) budget))
+  where
+    by : (m : Many) → length (countLine m) ≤ 4096
+    by NoSolution = omega arith
+    by OneSolution = omega arith
+    by SeveralSolutions = omega arith
+    by Unsettled = omega arith

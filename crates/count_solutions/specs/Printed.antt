@@ -1,0 +1,16 @@
+-- What the program prints for the bytes on its standard input: the limits, the budget and the refusals are those of program 2.
+use Prim.Native.Nat.{ℕ}
+use mathlib.Core.List.{List}
+use Rattle.rules.specs.Board.{boardOf}
+use Rattle.solver.specs.Counting.{Many, NoSolution, OneSolution, SeveralSolutions, Unsettled, manyOf}
+use Rattle.printing.specs.Lines.{noneLine, oneLine, severalLine, haltedLine}
+use Rattle.printing.specs.Programs.{programNumber, printed, budget}
+
+abbrev pub countLine : Many → List ℕ
+countLine NoSolution = noneLine
+countLine OneSolution = oneLine
+countLine SeveralSolutions = severalLine
+countLine Unsettled = haltedLine
+
+abbrev pub printedCount : List ℕ → List ℕ
+printedCount s = printed (programNumber s) (countLine (manyOf (boardOf s) budget))

@@ -1,0 +1,61 @@
+// What the dealer asks of a card: reads a record on standard input and prints `none`, `one` or `several` for its grid's solutions, `halted`
+// if the budget does not settle it, or one line such as `refused 3`.
+ghost use Rattle.answers.specs.Lent.{Wrote};
+ghost use Rattle.solution_count.specs.Answer.{meant};
+ghost use Rattle.count_solutions.specs.Printed.{countLine, printedCount};
+use encode::Encoded;
+use encode::encode;
+use printing::put_refused;
+use printing::put_word;
+use solution_count::Many;
+use solution_count::count_solutions;
+
+// The list elements that the program holds.
+const MOST_ELEMENTS: usize = 8192;
+
+// The variables that it holds.
+const MOST_VARIABLES: usize = 4096;
+
+// The most steps of the search and of `next` together.
+const BUDGET: u64 = 1000000;
+
+// The line of an answer.
+fn put_many(text: &mut [u8], many: Many) -> usize
+    ensures { λ r. ⌜ Wrote (now (text .entry)) 0 (countLine (meant many)) (now (text .exit)) r ⌝ }
+{
+    match many {
+        Many::NoSolution => put_word(text, 0, b"none\n"),
+        Many::OneSolution => put_word(text, 0, b"one\n"),
+        Many::SeveralSolutions => put_word(text, 0, b"several\n"),
+        Many::Unsettled => put_word(text, 0, b"halted\n"),
+    }
+}
+
+// Writes what the program prints for the bytes on its standard input; returns how many bytes that is.
+fn count_text(record: &[u8], text: &mut [u8]) -> usize
+    ensures { λ r. ⌜ Wrote (now (text .entry)) 0 (printedCount (now («record» .entry))) (now (text .exit)) r ⌝ }
+{
+    let mut list = [0i32; MOST_ELEMENTS];
+    let e = encode(record, &mut list);
+    let Encoded::Listed(c) = e else {
+        return put_refused(text, e.told().number as usize);
+    };
+    let elements = c.elements;
+    let v = c.variables;
+    if v > MOST_VARIABLES {
+        return put_refused(text, 6);
+    }
+    let mut trail = [0i32; MOST_VARIABLES];
+    let mut marks = [0u8; MOST_VARIABLES];
+    let many = count_solutions(&list[..elements], &mut trail[..v], &mut marks[..v], BUDGET);
+    put_many(text, many)
+}
+
+// No record has more than 65,535 bytes, so 65,536 of a longer input are enough to refuse it.
+fn main() {
+    let mut record = io::large_buffer();
+    let read = io::read_full(0, &mut record);
+    let mut text = io::buffer();
+    let printed = count_text(&record[..read], &mut text);
+    io::write_all(1, &text[..printed]);
+}
