@@ -6,7 +6,7 @@ use Rattle.answers.specs.First.{firstFrom}
 use Rattle.answers.specs.Told.{refusal, answer}
 use Rattle.search.specs.Trail.{laid, trailOf, variableValue}
 use Rattle.search.specs.Step.{everyLiteral, firstClause, forcedAt, failedClause, forcedPlace, lowestUnassigned, undo, step}
-use Rattle.search.specs.Run.{run}
+use Rattle.search.specs.Run.{run, searchAnswer}
 use Rattle.search.specs.Following.{following, nextAnswer, nextTrail}
 
 -- a trail that is not full, with an entry beyond V: 18
@@ -45,3 +45,13 @@ none-left = refl
 pub entries-kept : nextTrail 1 [] (negsuc 0 ∷ []) (0 ∷ []) 1 9 ≡ negsuc 0 ∷ []
 unfolding firstFrom laid trailOf variableValue failedClause firstClause undo following
 entries-kept = refl
+
+-- such a trail still satisfies the list: a search on it says "found"
+pub found-still : searchAnswer 1 [] (negsuc 0 ∷ []) (0 ∷ []) 1 9 ≡ answer 1 1 1
+unfolding firstFrom trailOf variableValue everyLiteral firstClause forcedAt failedClause forcedPlace lowestUnassigned undo step run
+found-still = refl
+
+-- halted after the drop, the trail may be full again: the steps tell, and the search goes on
+pub halted-full : nextAnswer 1 [] (negsuc 0 ∷ []) (1 ∷ []) 1 1 ≡ answer 3 1 1
+unfolding firstFrom trailOf variableValue failedClause firstClause undo run following
+halted-full = refl
