@@ -1,5 +1,6 @@
--- The laws of a step's three choices: what is chosen fails, is forced, is unassigned, with lower variables assigned; where no clause is
--- chosen none fails, where no variable is chosen each is assigned. The theory rests on the record `Laws` and never looks at how a choice is sought. Assumes nothing.
+-- The laws of a step's three choices: what is chosen fails, is forced, is unassigned and has the lower variables assigned; where no clause
+-- is chosen none fails, where no variable is chosen each is assigned. The theory rests on the record `Laws` and never looks at how a choice
+-- is sought. Assumes nothing.
 use Prim.Native.Nat.{ℕ, suc, _-_, _<_}
 use native.Mathlib.Omega.{arith}
 use native.Mathlib.Numerals.{add-one}

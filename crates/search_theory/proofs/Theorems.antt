@@ -10,16 +10,15 @@ use mathlib.Core.Bool.{Bool}
 use mathlib.Core.Logic.{_⊎_, inl, inr, _↔_}
 use mathlib.Core.List.{List}
 use Rattle.answers.specs.declared.Told.{Told}
-use Rattle.answers.specs.Lent.{leaves}
 use Rattle.answers.proofs.Rows.{answered-clear, clear-answered}
-use Rattle.search.specs.Trail.{Trail, trailImage, marksImage, trailOf}
+use Rattle.search.specs.Trail.{Trail, trailOf}
 use Rattle.search.specs.Run.{Ending, Found, None, Halted, Done, searchRows, IsAccepted, toldDone, searched, searchAnswer, trailAfter, marksAfter}
-use Rattle.search.proofs.Trails.{length-trail, read-image}
+use Rattle.search.proofs.Trails.{length-trail}
 use Rattle.search_theory.specs.Openings.{OpenAt, NoneOpenAt, OneAssignment, FoundOne}
 use Rattle.search_theory.proofs.Full.{full-length, length-full, one-assignment}
 use Rattle.search_theory.proofs.Falling.{number, number-most}
 use Rattle.search_theory.proofs.Runs.{Means, Ended, ended}
-use Rattle.search_theory.proofs.Accepted.{accepted-closed, accepted-proper, accepted-legal, accepted-image}
+use Rattle.search_theory.proofs.Accepted.{accepted-closed, accepted-proper, accepted-legal, left-read, left-again}
 
 module _ (v : ℕ) (ls ts : List ℤ) (ms : List ℕ) (used budget : ℕ) where
   -- A list and a trail, with their V, are accepted exactly if the search call that gets them doesn't turn them down.
@@ -50,16 +49,13 @@ module _ {v : ℕ} {ls ts : List ℤ} {ms : List ℕ} {used : ℕ} (ok : IsAccep
   pub told : searchAnswer v ls ts ms used budget ≡ toldDone done
   told = clear-answered (searchRows v ls ts ms used) _ (ok .clear)
 
-  left-image : (trailAfter v ls ts ms used budget ≡ trailImage v (done .trail)) × (marksAfter v ls ts ms used budget ≡ marksImage v (done .trail))
-  left-image = (ap (λ t. leaves t ts (trailImage v (done .trail))) told, ap (λ t. leaves t ms (marksImage v (done .trail))) told)
-
   -- read back, it is the trail at which the search ends,
   pub left : trailOf (trailAfter v ls ts ms used budget) (marksAfter v ls ts ms used budget) (length (done .trail)) ≡ done .trail
-  left = rw (left-image .0, left-image .1) (read-image v (done .trail))
+  left = left-read ok done told
 
   -- and it is accepted again.
   pub left-accepted : IsAccepted v ls (trailAfter v ls ts ms used budget) (marksAfter v ls ts ms used budget) (length (done .trail))
-  left-accepted = rw (left-image .0, left-image .1) (accepted-image ok (done .trail) (result .legal))
+  left-accepted = left-again ok done told (result .legal)
 
   -- 1. The satisfying assignments open at the beginning are exactly those open at the end.
   pub same-open : (a : List Bool) → OpenAt v ls begins a ↔ OpenAt v ls (done .trail) a
