@@ -8,7 +8,7 @@ use mathlib.Core.Logic.{_↔_}
 use mathlib.Core.List.{List}
 use Rattle.rules.specs.Board.{boardOf}
 use Rattle.rules.specs.Drawing.{SolutionBytes}
-use Rattle.demands.specs.Following.{OneSolution as HasOne, SeveralSolutions as HasSeveral}
+use Rattle.demands.specs.Solutions.{OneSolution as HasOne, SeveralSolutions as HasSeveral}
 use Rattle.solver.specs.Counting.{Many, NoSolution, OneSolution, SeveralSolutions, Unsettled, manyOf}
 use Rattle.solver.proofs.Counting.{many-exactly}
 use Rattle.printing.specs.Lines.{noneLine, oneLine, severalLine, haltedLine}

@@ -1,14 +1,15 @@
 -- Document 02's request E1 holds. What it says stands in specs/Following.antt; what is cited here is proved in search_theory. Assumes nothing.
 use Prim.Native.Nat.{ℕ, zero, suc, _+_, _-_, _≤_, _<_, _^_}
 use native.Mathlib.Omega.{arith}
+use lib.Dec.{eqb}
 use lib.IntN.{ℤ}
 use lib.ListN.{length, length-map}
 use mathlib.Core.Path.{_≡_, refl, sym, _∙_, ap, subst}
-use mathlib.Core.Bool.{Bool}
+use mathlib.Core.Bool.{Bool, false}
 use mathlib.Core.Logic.{_↔_, _⊎_, inl, inr, ⊎-elim}
 use mathlib.Core.Option.{Option, none, some}
-use mathlib.Core.List.{List, [], _∷_, map, List·Memᴰ·head, List·Memᴰ·tail, List·Memᴰ·not-nil, List·Memᴰ·cases-cons, Memᴰ·map, Memᴰ·of-map, Memᴰ·cast}
-use Rattle.answers.specs.Lists.{_∈_, Apart}
+use mathlib.Core.List.{List, [], _∷_, map, List·Memᴰ·head, List·Memᴰ·not-nil, List·Memᴰ·cases-cons, Memᴰ·map, Memᴰ·cast}
+use Rattle.answers.specs.Lists.{_∈_}
 use Rattle.answers.specs.declared.Told.{Told}
 use Rattle.answers.specs.Lent.{leaves}
 use Rattle.answers.proofs.Settled.{untouched}
@@ -17,13 +18,14 @@ use Rattle.rules.specs.Board.{boardOf}
 use Rattle.rules.specs.Drawing.{SolutionBytes}
 use Rattle.cnf.specs.Clauses.{Assignment, Satisfies}
 use Rattle.encoder.specs.Decoding.{decoded, bytesOf, Satisfying, DecodesTo}
+use Rattle.encoder.proofs.Lists.{all-map, apart-on}
 use Rattle.encoder_theory.proofs.Theorems.{decodes-to-solution, comes-from-one, comes-from-only-one}
 use Rattle.search.specs.Trail.{Trail, trailImage, marksImage, trailOf, Open, valuesOf}
 use Rattle.search.specs.Step.{undo, undone}
 use Rattle.search.specs.Run.{Ending, Found, None, Halted, Done, after, endingNumber, toldDone, run, IsAccepted as SearchAccepted}
 use Rattle.search.specs.Following.{following, IsFollowed, followed}
 use Rattle.search.proofs.Trails.{length-trail}
-use Rattle.search.proofs.Endings.{same-ending}
+use Rattle.search.proofs.Endings.{same-ending, other-ending}
 use Rattle.search_theory.specs.Openings.{FoundOne, OtherAt}
 use Rattle.search_theory.specs.Listing.{Searching, Lists, ListsAll}
 use Rattle.search_theory.proofs.Accepted.{accepted-legal}
@@ -31,7 +33,9 @@ use Rattle.search_theory.proofs.Theorems as search
 use Rattle.search_theory.proofs.Following as next
 use Rattle.search_theory.proofs.Listing as listing
 use Rattle.demands.specs.Searches.{Search, IsTaken, begins, BegunOn}
-use Rattle.demands.specs.Following.{rows, told, trailLeft, marksLeft, IsNext, Says, steps, endsAt, given, GoesOn, keeps, gives-up, drops, Stepped, ListsSolutions, OneSolution, RequestE1}
+use Rattle.demands.specs.Searches as searches
+use Rattle.demands.specs.Solutions.{Solutions, OneSolution, SeveralSolutions}
+use Rattle.demands.specs.Following.{rows, told, trailLeft, marksLeft, IsNext, Says, steps, endsAt, given, goneOn, GoesOn, keeps, gives-up, drops, Stepped, RequestE1}
 use Rattle.demands.proofs.Turning.{by-rows}
 use Rattle.demands.proofs.Stepping.{comes-to}
 use Rattle.demands.proofs.Searching as searching
@@ -129,14 +133,6 @@ module _ (c : Search) (taken : IsTaken c) where
 
 -- 3. Begun empty on a grid's clauses
 
--- a list without repeats, through a function that keeps its elements apart
-apart-map : {A B : Type 0} (f : A → B) (xs : List A) → ((x y : A) → x ∈ xs → y ∈ xs → f x ≡ f y → x ≡ y) → Apart xs → Apart (map f xs)
-apart-map f [] inj h = tt
-apart-map f (x ∷ xs) inj h = (
-  λ z m e. let r = Memᴰ·of-map f xs m in h .0 (r .0) (r .1) (inj x (r .0) (List·Memᴰ·head refl) (List·Memᴰ·tail (r .1)) (e ∙ sym (r .2))),
-  apart-map f xs (λ y z m n. inj y z (List·Memᴰ·tail m) (List·Memᴰ·tail n)) (h .1),
-)
-
 abbrev draws : List ℕ → List Bool → List ℕ
 draws s a = decoded (boardOf s) (bytesOf a)
 
@@ -154,6 +150,59 @@ module _ (s : List ℕ) (acc : IsAccepted s) where
   pub drawn-by : (ds : List ℕ) → SolutionBytes (boardOf s) ds → (a : List Bool) × Satisfying s a × (ds ≡ draws s a)
   drawn-by ds S = let (a, h, d) = comes-from-one s acc ds S in (a, h, sym (searching.hands s d))
 
+-- "found", and the call on what was left
+module _ (s : List ℕ) (c : Search) (b : BegunOn s c) (f : searches.Says c Found) (budget : ℕ) where
+  abbrev gone : Search
+  gone = goneOn c budget
+
+  taken : IsTaken c
+  taken = searching.begun-taken s c b
+
+  gone-ok : IsFollowed (c .variables) (c .list) (gone .trail) (gone .marks) (gone .used)
+  gone-ok =
+      subst (IsFollowed (c .variables) (c .list) (gone .trail) (gone .marks)) (sym (ap (λ (t : Told). t .third) (searching.tells c taken)))
+      (next.found-next (searching.ok c taken) (c .budget) (searching.saying c taken Found f))
+
+  gone-taken : IsNext gone
+  gone-taken = next.next-taken (c .variables) (c .list) (gone .trail) (gone .marks) (gone .used) budget .0 gone-ok
+
+  pub goes-to : told gone ≡ toldDone (following (c .variables) (c .list) budget (searches.endsAt c))
+  goes-to = next.next-told gone-ok budget
+
+  first : Satisfying s (given gone)
+  first = record { gives = next.next-one gone-ok .assignment ∙ b .variables; satisfies = subst (Satisfies (given gone)) (b .list) (next.next-satisfies gone-ok) }
+
+  pub then-none : Says gone None → OneSolution s
+  then-none e =
+      record {
+        drawing = draws s (given gone);
+        isSolution = draws-solution s (b .grid) (given gone) first;
+        only = λ ds S. let (a, h, q) = drawn-by s (b .grid) ds S in q ∙ ap (draws s) (only a h);
+      }
+    where
+      only : (a : List Bool) → Satisfying s a → a ≡ given gone
+      only a h = next.next-only gone-ok budget (saying gone gone-taken None e) a (searching.same-open c taken a .0 (searching.all-open s c b h))
+
+  pub then-found : Says gone Found → SeveralSolutions s
+  then-found e =
+      ⊎-elim (λ h. says-both None Found (h .0) e refl) (λ h. by (searching.satisfying s c b (h .1 .isOne)) (h .2)) (unless-halted gone gone-taken (λ h. says-both Halted Found h e refl))
+    where
+      says-both : {A : Type 0} (x y : Ending) → Says gone x → Says gone y → eqb (endingNumber x) (endingNumber y) ≡ false → A
+      says-both x y h k = other-ending (sym (saying gone gone-taken x h) ∙ saying gone gone-taken y k)
+
+      by : {a : List Bool} → Satisfying s a → (a ≡ given gone → ⊥) → SeveralSolutions s
+      by {a} h n =
+          record {
+            one = draws s (given gone);
+            other = draws s a;
+            oneSolution = draws-solution s (b .grid) (given gone) first;
+            otherSolution = draws-solution s (b .grid) a h;
+            differ = λ q. n (sym (draws-apart s (b .grid) (given gone) a first h q));
+          }
+
+  one-exactly : (Says gone Halted → ⊥) → Says gone None ↔ OneSolution s
+  one-exactly n = (then-none, λ o. ⊎-elim (λ h. h .0) (λ h. let m = then-found (h .0) in absurd (m .differ (o .only (m .one) (m .oneSolution) ∙ sym (o .only (m .other) (m .otherSolution))))) (unless-halted gone gone-taken n))
+
 module _ (s : List ℕ) (c : Search) (b : BegunOn s c) (found : List (List Bool))
     (h : Lists (c .variables) (c .list) Searching (c .trail) (c .marks) (c .used) found) where
   all : ListsAll (c .variables) (c .list) found
@@ -167,34 +216,27 @@ module _ (s : List ℕ) (c : Search) (b : BegunOn s c) (found : List (List Bool)
   listed : (a : List Bool) → Satisfying s a → a ∈ found
   listed a k = all .every a (k .gives ∙ sym (b .variables)) (subst (Satisfies a) (sym (b .list)) (k .satisfies))
 
-  lists-solutions : ListsSolutions s (map (draws s) found)
+  pub lists-solutions : Solutions (boardOf s) (map (draws s) found)
   lists-solutions =
       record {
-        only = λ ds m. let r = Memᴰ·of-map (draws s) found m in subst (SolutionBytes (boardOf s)) (r .2) (draws-solution s (b .grid) (r .0) (satisfying (r .0) (r .1)));
-        every = λ ds S. let (a, k, e) = drawn-by s (b .grid) ds S in Memᴰ·cast e (Memᴰ·map (draws s) (listed a k));
-        once = apart-map (draws s) found (λ x y m n. draws-apart s (b .grid) x y (satisfying x m) (satisfying y n)) (all .once);
+        apart = apart-on (draws s) found (λ x y m n. draws-apart s (b .grid) x y (satisfying x m) (satisfying y n)) (all .once);
+        each = all-map (SolutionBytes (boardOf s)) (draws s) found (λ a m. draws-solution s (b .grid) a (satisfying a m));
+        all = λ ds S. let (a, k, e) = drawn-by s (b .grid) ds S in Memᴰ·cast e (Memᴰ·map (draws s) (listed a k));
       }
 
-  one-exactly : length found ≡ 1 ↔ OneSolution s
-  one-exactly = (λ e. one-solution _ lists-solutions (length-map found (draws s) ∙ e), λ o. sym (length-map found (draws s)) ∙ one-listed o _ lists-solutions)
+  one-listed : length found ≡ 1 ↔ OneSolution s
+  one-listed = (λ e. one-solution _ lists-solutions (length-map found (draws s) ∙ e), λ o. sym (length-map found (draws s)) ∙ of-one o _ lists-solutions)
     where
-      one-solution : (drawings : List (List ℕ)) → ListsSolutions s drawings → length drawings ≡ 1 → OneSolution s
+      one-solution : (dss : List (List ℕ)) → Solutions (boardOf s) dss → length dss ≡ 1 → OneSolution s
       one-solution [] l e = absurd (omega arith)
       one-solution (d ∷ []) l e =
-          record {
-            drawing = d;
-            isSolution = l .only d (List·Memᴰ·head refl);
-            only = λ ds S. ⊎-elim (λ q. q) (λ m. absurd (List·Memᴰ·not-nil m)) (List·Memᴰ·cases-cons (l .every ds S));
-          }
+          record { drawing = d; isSolution = l .each .0; only = λ ds S. ⊎-elim (λ q. q) (λ m. absurd (List·Memᴰ·not-nil m)) (List·Memᴰ·cases-cons (l .all ds S)) }
       one-solution (d ∷ x ∷ ds) l e = absurd (omega arith)
 
-      one-listed : OneSolution s → (drawings : List (List ℕ)) → ListsSolutions s drawings → length drawings ≡ 1
-      one-listed o [] l = absurd (List·Memᴰ·not-nil (l .every (o .drawing) (o .isSolution)))
-      one-listed o (d ∷ []) l = refl
-      one-listed o (d ∷ x ∷ ds) l =
-          let first = o .only d (l .only d (List·Memᴰ·head refl)) in
-          let second = o .only x (l .only x (List·Memᴰ·tail (List·Memᴰ·head refl))) in
-          absurd (l .once .0 x (List·Memᴰ·head refl) (first ∙ sym second))
+      of-one : OneSolution s → (dss : List (List ℕ)) → Solutions (boardOf s) dss → length dss ≡ 1
+      of-one o [] l = absurd (List·Memᴰ·not-nil (l .all (o .drawing) (o .isSolution)))
+      of-one o (d ∷ []) l = refl
+      of-one o (d ∷ x ∷ ds) l = absurd (l .apart .0 x (List·Memᴰ·head refl) (o .only d (l .each .0) ∙ sym (o .only x (l .each .1 .0))))
 
 -- 4. The request
 
@@ -212,6 +254,7 @@ request-e1 =
       carried-on = carried-on;
       lists-solutions = lists-solutions;
       one-exactly = one-exactly;
+      one-listed = one-listed;
       turned-down = λ c.
           by-rows (toldDone (done c)) refl _ (rows c) refl refl
           (λ n. (untouched (told c) (c .trail) (trailImage (c .variables) (done c .trail)) n, untouched (told c) (c .marks) (marksImage (c .variables) (done c .trail)) n));

@@ -4,5 +4,4 @@ pub mod Stars
 pub mod Turning
 pub mod Stepping
 pub mod Searching
-pub mod Counting
 pub mod Following

@@ -27,8 +27,6 @@ use Rattle.search.specs.Trail.{Trail, Open, trailOf, valuesOf}
 use Rattle.search.specs.Run.{Ending, Found, None, Halted, Done, endingNumber, toldDone, searched, wrongLengths, wrongEntryAt, IsAccepted}
 use Rattle.search.proofs.Endings.{same-ending}
 use Rattle.search_theory.specs.Openings.{OpenAt, NoneOpenAt, FoundOne}
-use Rattle.search_theory.proofs.Legal.{Legal}
-use Rattle.search_theory.proofs.Accepted.{accepted-legal}
 use Rattle.search_theory.proofs.Theorems as search
 use Rattle.demands.specs.Searches.{Search, told, trailLeft, marksLeft, IsTaken, Says, steps, begins, endsAt, BegunOn}
 
@@ -41,13 +39,13 @@ module _ (c : Search) (taken : IsTaken c) where
   abbrev done : Done
   done = searched (c .variables) (c .list) (c .trail) (c .marks) (c .used) (c .budget)
 
-  tells : told c ≡ toldDone done
+  pub tells : told c ≡ toldDone done
   tells = search.told ok (c .budget)
 
   said : (x : Ending) → done .ending ≡ x → Says c x
   said x e = ap (λ (t : Told). t .first) tells ∙ ap endingNumber e
 
-  saying : (x : Ending) → Says c x → done .ending ≡ x
+  pub saying : (x : Ending) → Says c x → done .ending ≡ x
   saying x e = same-ending (done .ending) x (sym (ap (λ (t : Told). t .first) tells) ∙ e)
 
   counted : steps c ≡ done .steps
@@ -55,10 +53,6 @@ module _ (c : Search) (taken : IsTaken c) where
 
   pub at-end : endsAt c ≡ done .trail
   at-end = ap (λ (t : Told). trailOf (trailLeft c) (marksLeft c) (t .third)) tells ∙ search.left ok (c .budget)
-
-  -- the trail that it leaves is one that a search accepts
-  pub left-legal : Legal (c .variables) (endsAt c)
-  left-legal = subst (Legal (c .variables)) (search.left ok (c .budget) ∙ sym at-end) (accepted-legal (search.left-accepted ok (c .budget)))
 
   pub same-open : (a : List Bool) → OpenAt (c .variables) (c .list) (begins c) a ↔ OpenAt (c .variables) (c .list) (endsAt c) a
   same-open a = rw at-end (search.same-open ok (c .budget) a)

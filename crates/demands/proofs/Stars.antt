@@ -1,12 +1,13 @@
 -- The starred cases of document 01 hold, as one statement over the list of them. All is computed but the number of a grid's solutions, which follows from
--- the computed search and demand 3. Assumes nothing.
+-- the computed calls of the search and of `next`, and from E1. Assumes nothing.
 use Prim.Native.Nat.{ℕ}
 use lib.IntN.{ℤ, pos}
 use lib.ListN.{getD, drop, replicate, length-replicate}
 use mathlib.Core.Path.{_≡_, refl, sym, _∙_, ap, subst}
 use mathlib.Core.Option.{some}
-use mathlib.Core.List.{List, [], _∷_, _++_, map}
+use mathlib.Core.List.{List, [], _∷_, _++_, map, List·Memᴰ·head, List·Memᴰ·not-nil}
 use Rattle.answers.specs.declared.Told.{Told}
+use Rattle.answers.specs.Told.{answer}
 use Rattle.answers.specs.First.{firstFrom}
 use Rattle.answers.specs.Lists.{All}
 use Rattle.rules.specs.Record.{recordAnswer}
@@ -22,12 +23,15 @@ use Rattle.encoder.proofs.Cases as grids
 use Rattle.encoder.proofs.Lists.{all-append}
 use Rattle.search.specs.Trail.{trailOf, variableValue}
 use Rattle.search.specs.Step.{everyLiteral, firstClause, forcedAt, failedClause, forcedPlace, lowestUnassigned, undo, step}
-use Rattle.search.specs.Run.{None, run}
+use Rattle.search.specs.Run.{None, endingNumber, run}
+use Rattle.search.specs.Following.{following}
 use Rattle.search.proofs.Cases as lists
+use Rattle.search_theory.specs.Listing.{none}
 use Rattle.demands.specs.Searches.{Search, told, BegunOn}
-use Rattle.demands.specs.Stars.{Solutions, GridStar, TextIs, searchOf, GridHolds, grid, refused, list, Holds, gridCase, oneCellText, gridStars, stars}
+use Rattle.demands.specs.Solutions.{Solutions}
+use Rattle.demands.specs.Stars.{GridStar, TextIs, searchOf, GridHolds, grid, refused, list, Holds, gridCase, oneCellText, gridStars, stars}
 use Rattle.demands.proofs.Searching.{at-end, begun-taken}
-use Rattle.demands.proofs.Counting.{turnedLast, no-solution, one-solution}
+use Rattle.demands.proofs.Following.{goes-to, then-none, lists-solutions}
 
 -- lists that were computed whole, case by case
 at-each : {A B : Type 0} (f g : A → B) (cs : List A) → map f cs ≡ map g cs → All (λ c. f c ≡ g c) cs
@@ -57,10 +61,10 @@ computed : map computes gridStars ≡ map claims gridStars
 unfolding firstFrom outward same variables place clauses clauseList trailOf variableValue everyLiteral firstClause forcedAt failedClause forcedPlace lowestUnassigned undo step run
 computed = refl
 
--- 2×2 open: with the last choice of the trail at which the search ends turned, another one says "none"
-last-turned : turnedLast 32 (gridCase 4 .list) 1000000 (undo (run 32 (gridCase 4 .list) 1000000 [] .trail)) ≡ None
-unfolding firstFrom variableValue everyLiteral firstClause forcedAt failedClause forcedPlace lowestUnassigned undo step run
-last-turned = refl
+-- 2×2 open: after "found" comes "none"
+ends-none : following 32 (gridCase 4 .list) 1000000 (run 32 (gridCase 4 .list) 1000000 [] .trail) .ending ≡ None
+unfolding firstFrom variableValue everyLiteral firstClause forcedAt failedClause forcedPlace lowestUnassigned undo step run following
+ends-none = refl
 
 -- and the drawing that program 2 prints is judged
 square-drawn : judgeAnswer (gridCase 4 .bytes) (0x06 ∷ 0x0C ∷ 0x03 ∷ 0x09 ∷ []) ≡ saysYes
@@ -110,19 +114,19 @@ module _ (g : GridStar) (e : computes g ≡ claims g) (encoded : grids.encodes (
         printed = text;
       }
 
-  none-holds : g .says .first ≡ 2 → [] ≡ g .solutions → GridHolds g
-  none-holds n q = holds q (no-solution (g .grid .bytes) (begun g) begun-on (ap (λ (t : Told). t .first) says ∙ n))
+  none-holds : {n u : ℕ} → g .says ≡ answer 2 n u → [] ≡ g .solutions → GridHolds g
+  none-holds h q = holds q (lists-solutions (g .grid .bytes) (begun g) begun-on [] (none 1000000 (says ∙ h)))
 
   one-holds : {ds : List ℕ} → g .says .first ≡ 1 → ds ∷ [] ≡ g .solutions → judgeAnswer (g .grid .bytes) ds ≡ saysYes
-      → turnedLast (g .grid .told .second) (g .grid .list) 1000000 (undo (run (g .grid .told .second) (g .grid .list) 1000000 [] .trail)) ≡ None
+      → following (g .grid .told .second) (g .grid .list) 1000000 (run (g .grid .told .second) (g .grid .list) 1000000 [] .trail) .ending ≡ None
       → GridHolds g
   unfolding trailOf
   one-holds {ds} n q judged last =
-      let left = at-end (begun g) (begun-taken (g .grid .bytes) (begun g) begun-on) in
-      let none-left = ap (λ t. turnedLast (g .grid .told .second) (g .grid .list) 1000000 (undo t)) left ∙ last in
-      holds q
-      (one-solution (g .grid .bytes) (begun g) begun-on 1000000 (ap (λ (t : Told). t .first) says ∙ n) none-left
-      (judge-right (g .grid .bytes) (begun-on .grid) ds .0 judged))
+      let found = ap (λ (t : Told). t .first) says ∙ n in
+      let ends = ap (λ t. following (g .grid .told .second) (g .grid .list) 1000000 t .ending) (at-end (begun g) (begun-taken (g .grid .bytes) (begun g) begun-on)) ∙ last in
+      let o = then-none (g .grid .bytes) (begun g) begun-on found 1000000 (ap (λ (t : Told). t .first) (goes-to (g .grid .bytes) (begun g) begun-on found 1000000) ∙ ap endingNumber ends) in
+      let S = judge-right (g .grid .bytes) (begun-on .grid) ds .0 judged in
+      holds q (record { apart = (λ y m e. List·Memᴰ·not-nil m, tt); each = (S, tt); all = λ es R. List·Memᴰ·head (o .only es R ∙ sym (o .only ds S)) })
 
 grids-hold : All GridHolds gridStars
 grids-hold = by (at-each computes claims gridStars computed) (at-each grids.encodes (λ g. g) grids.cases grids.cases-hold)
@@ -137,7 +141,7 @@ grids-hold = by (at-each computes claims gridStars computed) (at-each grids.enco
           (
             none-holds _ (c .1 .1 .1 .0) (e .1 .1 .1 .0) tt refl refl,
             (
-              one-holds _ (c .1 .1 .1 .1 .0) (e .1 .1 .1 .1 .0) tt refl refl square-drawn last-turned,
+              one-holds _ (c .1 .1 .1 .1 .0) (e .1 .1 .1 .1 .0) tt refl refl square-drawn ends-none,
               tt,
             ),
           ),

@@ -8,11 +8,9 @@ use mathlib.Core.Bool.{Bool}
 use mathlib.Core.Logic.{_↔_, _⊎_}
 use mathlib.Core.Option.{none, some}
 use mathlib.Core.List.{List, [], _∷_, map}
-use Rattle.answers.specs.Lists.{_∈_, Apart}
 use Rattle.answers.specs.declared.Told.{Told}
 use Rattle.answers.specs.Told.{Row}
 use Rattle.rules.specs.Board.{boardOf}
-use Rattle.rules.specs.Drawing.{SolutionBytes}
 use Rattle.cnf.specs.Clauses.{Assignment, Satisfies}
 use Rattle.encoder.specs.Decoding.{decoded, bytesOf}
 use Rattle.search.specs.Trail.{Trail, trailImage, marksImage, trailOf, Open, valuesOf}
@@ -22,7 +20,9 @@ use Rattle.search.specs.Following.{nextRows, nextAnswer, nextTrail, nextMarks}
 use Rattle.search_theory.specs.Openings.{FoundOne, OtherAt}
 use Rattle.search_theory.specs.Listing.{Searching, Lists, ListsAll}
 use Rattle.demands.specs.Table.{Call}
+use Rattle.demands.specs.Solutions.{Solutions, OneSolution}
 use Rattle.demands.specs.Searches.{Search, IsTaken, begins, ComesTo, BegunOn}
+use Rattle.demands.specs.Searches as search
 
 module _ (c : Search) where
   -- its rows of the table "Turned down", what it tells, and what it leaves in the two lent buffers
@@ -58,6 +58,11 @@ module _ (c : Search) where
   abbrev pub given : List Bool
   given = valuesOf (c .variables) (begins c)
 
+-- the call on what a search left
+abbrev pub goneOn : Search → ℕ → Search
+goneOn c budget =
+    record { variables = c .variables; list = c .list; trail = search.trailLeft c; marks = search.marksLeft c; used = search.told c .third; budget = budget }
+
 -- what the call comes to at a trail t under a budget
 pub data GoesOn (v : ℕ) (ls : List ℤ) (t : Trail) : ℕ → Done → Type 0 where
   -- "With budget 0 it is halted with nothing dropped"
@@ -73,26 +78,6 @@ pub record Stepped (c : Search) : Type 0 where
   pub tells : told c ≡ toldDone done
   pub trail : trailLeft c ≡ trailImage (c .variables) (done .trail)
   pub marks : marksLeft c ≡ marksImage (c .variables) (done .trail)
-
--- a list of drawings that has every solution of the grid, and nothing else, exactly once
-pub record ListsSolutions (s : List ℕ) (drawings : List (List ℕ)) : Type 0 where
-  pub only : (ds : List ℕ) → ds ∈ drawings → SolutionBytes (boardOf s) ds
-  pub every : (ds : List ℕ) → SolutionBytes (boardOf s) ds → ds ∈ drawings
-  pub once : Apart drawings
-
--- the grid has exactly one solution
-pub record OneSolution (s : List ℕ) : Type 0 where
-  pub drawing : List ℕ
-  pub isSolution : SolutionBytes (boardOf s) drawing
-  pub only : (ds : List ℕ) → SolutionBytes (boardOf s) ds → ds ≡ drawing
-
--- it has two that differ
-pub record SeveralSolutions (s : List ℕ) : Type 0 where
-  pub one : List ℕ
-  pub other : List ℕ
-  pub oneSolution : SolutionBytes (boardOf s) one
-  pub otherSolution : SolutionBytes (boardOf s) other
-  pub differ : one ≡ other → ⊥
 
 pub record RequestE1 : Type 0 where
   -- "A new call takes a full trail, drops just that assignment as a failed clause would, and searches on under the same rules; dropping is a step."
@@ -117,9 +102,11 @@ pub record RequestE1 : Type 0 where
   pub carried-on : (c : Search) → IsTaken c → (found : List (List Bool)) × Lists (c .variables) (c .list) Searching (c .trail) (c .marks) (c .used) found
   -- "and so every solution of a grid once."
   pub lists-solutions : (s : List ℕ) (c : Search) → BegunOn s c → (found : List (List Bool))
-      → Lists (c .variables) (c .list) Searching (c .trail) (c .marks) (c .used) found → ListsSolutions s (map (λ a. decoded (boardOf s) (bytesOf a)) found)
-  -- (So a grid has exactly one solution exactly if "found" is followed by "none".)
-  pub one-exactly : (s : List ℕ) (c : Search) → BegunOn s c → (found : List (List Bool))
+      → Lists (c .variables) (c .list) Searching (c .trail) (c .marks) (c .used) found → Solutions (boardOf s) (map (λ a. decoded (boardOf s) (bytesOf a)) found)
+  -- (So a grid has exactly one solution exactly if "found" is followed by "none": in the next call, or in a listing.)
+  pub one-exactly : (s : List ℕ) (c : Search) → BegunOn s c → search.Says c Found → (budget : ℕ) → (Says (goneOn c budget) Halted → ⊥)
+      → Says (goneOn c budget) None ↔ OneSolution s
+  pub one-listed : (s : List ℕ) (c : Search) → BegunOn s c → (found : List (List Bool))
       → Lists (c .variables) (c .list) Searching (c .trail) (c .marks) (c .used) found → length found ≡ 1 ↔ OneSolution s
   -- "Errors: 20, trail not full or some clause untrue under it, beside it 0, after 18."
   pub turned-down : (c : Search) → Call (17 ∷ 16 ∷ 18 ∷ 20 ∷ []) (rows c) (told c) ((trailLeft c ≡ c .trail) × (marksLeft c ≡ c .marks))

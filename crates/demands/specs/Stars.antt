@@ -7,20 +7,13 @@ use mathlib.Core.Option.{Option, none, some}
 use mathlib.Core.List.{List, [], _∷_, _++_, map}
 use Rattle.answers.specs.declared.Told.{Told}
 use Rattle.answers.specs.Told.{answer}
-use Rattle.answers.specs.Lists.{All, _∈_, Apart}
 use Rattle.rules.specs.Record.{recordAnswer, IsAccepted}
-use Rattle.rules.specs.Board.{Board, boardOf}
-use Rattle.rules.specs.Drawing.{SolutionBytes}
+use Rattle.rules.specs.Board.{boardOf}
 use Rattle.rules_theory.proofs.Cases as records
 use Rattle.dimacs.specs.Text.{textOf}
 use Rattle.encoder.proofs.Cases as grids
 use Rattle.search.proofs.Cases as lists
-
--- these are the solutions of a board, each once
-pub record Solutions (b : Board) (dss : List (List ℕ)) : Type 0 where
-  pub apart : Apart dss
-  pub each : All (SolutionBytes b) dss
-  pub all : (ds : List ℕ) → SolutionBytes b ds → ds ∈ dss
+use Rattle.demands.specs.Solutions.{Solutions}
 
 -- a grid: its record, what the encoder tells (elements, V, clauses) and writes; its solutions; what the search begun empty tells (1 found or 2 none,
 -- the steps, the used count); its DIMACS text, where document 01 prints it

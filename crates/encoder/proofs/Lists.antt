@@ -126,9 +126,16 @@ apart-append (x ∷ xs) ys h k d = (λ y m e. by y e (List·Memᴰ·append-cases
     by y e (inl m) = h .0 y m e
     by y e (inr m) = d y (List·Memᴰ·head (sym e)) m
 
+-- through a function that is one-to-one on the list, or everywhere
+pub apart-on : {A B : Type 0} (f : A → B) (xs : List A) → ((x y : A) → x ∈ xs → y ∈ xs → f x ≡ f y → x ≡ y) → Apart xs → Apart (map f xs)
+apart-on f [] inj h = tt
+apart-on f (x ∷ xs) inj h = (
+  λ v m e. let r = Memᴰ·of-map f xs m in h .0 (r .0) (r .1) (inj x (r .0) (List·Memᴰ·head refl) (List·Memᴰ·tail (r .1)) (e ∙ sym (r .2))),
+  apart-on f xs (λ y z m n. inj y z (List·Memᴰ·tail m) (List·Memᴰ·tail n)) (h .1),
+)
+
 pub apart-map : {A B : Type 0} (f : A → B) → ((x y : A) → f x ≡ f y → x ≡ y) → (xs : List A) → Apart xs → Apart (map f xs)
-apart-map f inj [] h = tt
-apart-map f inj (x ∷ xs) h = (λ v m e. let r = Memᴰ·of-map f xs m in h .0 (r .0) (r .1) (inj x (r .0) (e ∙ sym (r .2))), apart-map f inj xs (h .1))
+apart-map f inj xs = apart-on f xs (λ x y m n. inj x y)
 
 pub apart-each : {A K B : Type 0} (key : A → K) (f : A → List B) (xs : List A) → ApartBy key xs → ((x : A) → x ∈ xs → Apart (f x)) → ((x y : A) (v : B) → v ∈ f x → v ∈ f y → key x ≡ key y) → Apart (each xs f)
 apart-each key f [] h a k = tt

@@ -23,18 +23,18 @@ use Rattle.solver.specs.Solving.{solved, trailBytes}
 
 -- 1. The call, in trail and marks of V elements
 
-abbrev pub call : List ℕ → ℕ → List ℤ → List ℕ → Search
+abbrev call : List ℕ → ℕ → List ℤ → List ℕ → Search
 call s budget ts ms = record { variables = variableCount (boardOf s); list = clauseList (boardOf s); trail = ts; marks = ms; used = 0; budget = budget }
 
 module _ (s : List ℕ) (acc : IsAccepted s) (budget : ℕ) (ts : List ℤ) (ms : List ℕ) (trail-long : length ts ≡ variableCount (boardOf s)) (marks-long : length ms ≡ variableCount (boardOf s)) where
-  pub begun : BegunOn s (call s budget ts ms)
+  begun : BegunOn s (call s budget ts ms)
   begun = record { grid = acc; variables = refl; list = refl; empty = refl; trail = trail-long; marks = marks-long }
 
   pub taken : IsTaken (variableCount (boardOf s)) (clauseList (boardOf s)) ts ms 0
   taken = searching.ok (call s budget ts ms) (searching.begun-taken s _ begun)
 
   -- begun empty, whatever the buffers hold
-  pub comes-to : searched (variableCount (boardOf s)) (clauseList (boardOf s)) ts ms 0 budget ≡ solved (boardOf s) budget
+  comes-to : searched (variableCount (boardOf s)) (clauseList (boardOf s)) ts ms 0 budget ≡ solved (boardOf s) budget
   unfolding trailOf
   comes-to = refl
 
@@ -71,11 +71,17 @@ module _ (s : List ℕ) (acc : IsAccepted s) (budget : ℕ) where
   ms-long : length ms ≡ v
   ms-long = length-replicate v 0
 
-  zeros-begun : BegunOn s (call s budget ts ms)
+  abbrev pub zeros : Search
+  zeros = call s budget ts ms
+
+  pub zeros-begun : BegunOn s zeros
   zeros-begun = begun s acc budget ts ms ts-long ms-long
 
-  zeros-tell : told (call s budget ts ms) ≡ toldDone done
+  pub zeros-tell : told zeros ≡ toldDone done
   zeros-tell = tells s acc budget ts ms ts-long ms-long
+
+  pub zeros-end : endsAt zeros ≡ done .trail
+  zeros-end = ends-at s acc budget ts ms ts-long ms-long
 
   -- not halted, it says "none" exactly when the grid has no solution
   pub none-exactly : (toldDone done .first ≡ endingNumber Halted → ⊥) → toldDone done .first ≡ endingNumber None ↔ ((ds : List ℕ) → SolutionBytes (boardOf s) ds → ⊥)
@@ -88,7 +94,7 @@ module _ (s : List ℕ) (acc : IsAccepted s) (budget : ℕ) where
     drawn : (ds : List ℕ) × DecodesTo s (valuesOf v (done .trail)) ds × SolutionBytes (boardOf s) ds
     drawn =
         subst (λ t. (ds : List ℕ) × DecodesTo s (valuesOf v t) ds × SolutionBytes (boardOf s) ds)
-        (ends-at s acc budget ts ms ts-long ms-long)
+        zeros-end
         (searching.found-decodes s _ zeros-begun (ap (λ (t : Told). t .first) zeros-tell ∙ ap endingNumber found))
 
     pub decoder-says : (lent : List ℕ) → length lent ≡ boardOf s .size → decoderAnswer s (trailBytes v (done .trail)) lent ≡ saysYes
