@@ -15,7 +15,7 @@ use Rattle.search.specs.Trail.{valuesOf}
 use Rattle.search.specs.Run.{Ending, Found, None, Halted, Done, run}
 use Rattle.printing.specs.Lines.{refusedLine, noneLine, haltedLine, drawingText}
 
--- both hold at most 8,192 list elements and 4,096 variables
+-- they hold at most 8,192 list elements and 4,096 variables
 abbrev pub mostElements : ℕ
 mostElements = 8192
 
@@ -34,7 +34,7 @@ programRows s = recordRows s ++ (row 6 (cause (needsMore (boardOf s))) ∷ [])
 abbrev pub programNumber : List ℕ → ℕ
 programNumber s = turnedDown (programRows s) (answer 0 0 0) .number
 
--- on a refusal both programs print one line such as `refused 3`
+-- on a refusal a program prints one line such as `refused 3`
 abbrev pub printed : ℕ → List ℕ → List ℕ
 printed number text = cond (eqb number 0) text (refusedLine number)
 
