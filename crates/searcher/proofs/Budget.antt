@@ -9,6 +9,7 @@ use Rattle.answers.specs.Told.{answer}
 use Rattle.search.specs.Step.{Next, step}
 use Rattle.search.specs.Run.{Ending, Found, None, Halted, Done, ends, after, endingNumber, toldDone, run}
 use Rattle.search.proofs.Trails.{length-trail}
+use Rattle.search.proofs.Slices.{counted}
 use Rattle.choices.specs.Held.{lows}
 use Rattle.trails.specs.Running.{heldTrail, Running}
 use Rattle.stepping.specs.declared.Stepped.{Stepped}
@@ -19,10 +20,6 @@ use Rattle.searcher.specs.declared.Answer.{Answer}
 use Rattle.searcher.specs.declared.Answer.the-variants.{Found as FoundAt, None as NoneAt, Halted as HaltedAt}
 use Rattle.searcher.specs.Answers.{toldAnswer, usedOf}
 use Rattle.searcher.specs.Runs.{Ran}
-
--- what a search comes to after n steps more
-abbrev counted : ℕ → Done → Done
-counted n d = ends (d .ending) (n + d .steps) (d .trail)
 
 -- n steps are made, and the rest of the budget leads to where the whole leads
 pub record Going (ls : List ℤ) (budget : ℕ) (ts₀ : List ℤ) (ms₀ : List ℕ) (first : ℕ) (ts : List ℤ) (ms : List ℕ) (used n : ℕ) : Type 0 where
