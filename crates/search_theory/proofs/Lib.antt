@@ -1,5 +1,5 @@
--- Theorems about the search. Read Theorems.antt (the search), Following.antt (`next`) and Listing.antt (calls carried on until "none"): they state the results.
--- The others are in the order of the proofs.
+-- Theorems about the search. Read Theorems.antt (the search), Following.antt (`next`), Budgets.antt (calls in slices) and Listing.antt (calls carried on until
+-- "none"): they state the results. The others are in the order of the proofs.
 pub mod Theorems
 pub mod Lists
 pub mod Values
@@ -14,4 +14,5 @@ pub mod Accepted
 pub mod Orders
 pub mod Calls
 pub mod Following
+pub mod Taken
 pub mod Listing

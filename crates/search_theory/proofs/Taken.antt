@@ -1,0 +1,79 @@
+-- Either call that takes what it is handed: what it comes to, tells and leaves; and the call that goes on after a halted one takes what that one left.
+-- Assumes nothing.
+use Prim.Native.Nat.{ℕ, zero, suc, _+_, _-_, _<_, _^_}
+use lib.IntN.{ℤ}
+use lib.ListN.{length}
+use mathlib.Core.Path.{_≡_, sym, _∙_, subst}
+use mathlib.Core.List.{List}
+use Rattle.cnf.specs.Clauses.{Satisfies}
+use Rattle.search.specs.Trail.{trailOf, valuesOf}
+use Rattle.search.specs.Run.{Halted, Done, toldDone, IsAccepted}
+use Rattle.search.specs.Following.{IsFollowed, following, followed, nextTrail, nextMarks}
+use Rattle.search.proofs.Trails.{length-trail}
+use Rattle.search_theory.specs.Listing.{Call, Searching, Following, goesOn, tells, trailLeft, marksLeft}
+use Rattle.search_theory.proofs.Accepted.{accepted-closed, accepted-proper, accepted-legal}
+use Rattle.search_theory.proofs.Calls.{comesTo, Came, came}
+use Rattle.search_theory.proofs.Theorems as search
+use Rattle.search_theory.proofs.Following as next
+
+-- the call takes what it is handed
+pub data Takes (v : ℕ) (ls ts : List ℤ) (ms : List ℕ) (used : ℕ) : Call → Type 0 where
+  searches : IsAccepted v ls ts ms used → Takes v ls ts ms used Searching
+  follows : IsFollowed v ls ts ms used → Takes v ls ts ms used Following
+
+-- what a call comes to
+abbrev pub done : ℕ → List ℤ → Call → List ℤ → List ℕ → ℕ → ℕ → Done
+done v ls c ts ms used budget = comesTo c v ls budget (trailOf ts ms used)
+
+module _ {v : ℕ} {ls ts : List ℤ} {ms : List ℕ} {used : ℕ} where
+  -- a call that is not turned down does
+  pub taken : (c : Call) (budget : ℕ) → tells v ls c ts ms used budget .number ≡ 0 → Takes v ls ts ms used c
+  taken Searching budget e = searches (search.accepted v ls ts ms used budget .1 e)
+  taken Following budget e = follows (next.next-taken v ls ts ms used budget .1 e)
+
+  accepts : {c : Call} → Takes v ls ts ms used c → IsAccepted v ls ts ms used
+  accepts (searches ok) = ok
+  accepts (follows ok) = next.next-accepted ok
+
+  module _ (budget : ℕ) where
+    pub comes : {c : Call} → Takes v ls ts ms used c → Came v ls c (trailOf ts ms used) budget (done v ls c ts ms used budget)
+    comes {c} ok = let acc = accepts ok in came (accepted-closed acc) (accepted-proper acc) c (trailOf ts ms used) budget (accepted-legal acc)
+
+    pub told : {c : Call} → Takes v ls ts ms used c → tells v ls c ts ms used budget ≡ toldDone (done v ls c ts ms used budget)
+    told (searches ok) = search.told ok budget
+    told (follows ok) = next.next-told ok budget
+
+    pub left : {c : Call} → Takes v ls ts ms used c
+        → trailOf (trailLeft v ls c ts ms used budget) (marksLeft v ls c ts ms used budget) (length (done v ls c ts ms used budget .trail)) ≡ done v ls c ts ms used budget .trail
+    left (searches ok) = search.left ok budget
+    left (follows ok) = next.next-left ok budget
+
+    pub left-accepted : {c : Call} → Takes v ls ts ms used c
+        → IsAccepted v ls (trailLeft v ls c ts ms used budget) (marksLeft v ls c ts ms used budget) (length (done v ls c ts ms used budget .trail))
+    left-accepted (searches ok) = search.left-accepted ok budget
+    left-accepted (follows ok) = next.next-left-accepted ok budget
+
+    pub halted-steps : {c : Call} → Takes v ls ts ms used c → done v ls c ts ms used budget .ending ≡ Halted
+        → (done v ls c ts ms used budget .steps ≡ budget) × (done v ls c ts ms used budget .steps < 2 ^ (v + 1) - 1)
+    halted-steps (searches ok) = search.halted-steps ok budget
+    halted-steps (follows ok) = next.next-halted-steps ok budget
+
+  -- `next` that was halted before a step is called again
+  again : IsFollowed v ls ts ms used → IsFollowed v ls (nextTrail v ls ts ms used 0) (nextMarks v ls ts ms used 0) (length (trailOf ts ms used))
+  unfolding following
+  again ok =
+      next.taken-exactly .1 (
+        next.next-left-accepted ok 0,
+        length-trail ts ms used ∙ next.next-full ok,
+        subst (λ t. Satisfies (valuesOf v t) ls) (sym (next.next-left ok 0)) (next.next-satisfies ok),
+      )
+
+  -- the call that goes on after a halted one takes what that one left
+  pub takes-on : {c : Call} (budget : ℕ) → Takes v ls ts ms used c → done v ls c ts ms used budget .ending ≡ Halted
+      → Takes v ls (trailLeft v ls c ts ms used budget) (marksLeft v ls c ts ms used budget) (length (done v ls c ts ms used budget .trail)) (goesOn c (done v ls c ts ms used budget .steps))
+  unfolding following
+  takes-on budget (searches ok) e = searches (search.left-accepted ok budget)
+  takes-on zero (follows ok) e = follows (again ok)
+  takes-on (suc b) (follows ok) e =
+      subst (λ n. Takes v ls (nextTrail v ls ts ms used (suc b)) (nextMarks v ls ts ms used (suc b)) (length (followed v ls ts ms used (suc b) .trail)) (goesOn Following n))
+      (sym (next.next-halted-steps ok (suc b) e .0)) (searches (next.next-left-accepted ok (suc b)))
