@@ -15,4 +15,5 @@ pub mod Orders
 pub mod Calls
 pub mod Following
 pub mod Taken
+pub mod Budgets
 pub mod Listing

@@ -1,0 +1,56 @@
+-- Document 02, E2, "Budgets that add up": a call that is halted, and those that go on from what it leaves.
+use Prim.Native.Nat.{ℕ, _+_}
+use lib.Dec.{eqb}
+use lib.IntN.{ℤ}
+use mathlib.Core.Bool.{Bool, _&&_, cond}
+use mathlib.Core.List.{List, [], _∷_}
+use Rattle.answers.specs.declared.Told.{Told}
+use Rattle.answers.specs.Told.{answer}
+use Rattle.search.specs.Run.{Halted, endingNumber}
+use Rattle.search_theory.specs.Listing.{Call, goesOn, tells, trailLeft, marksLeft}
+
+-- where a call starts: which call it is, the two buffers as lent, the used count
+pub record Start : Type 0 where
+  pub call : Call
+  pub trail : List ℤ
+  pub marks : List ℕ
+  pub used : ℕ
+
+-- all that it hands out: what it tells, and what it leaves in the two buffers
+pub record Handed : Type 0 where
+  pub told : Told
+  pub trail : List ℤ
+  pub marks : List ℕ
+
+-- where the call that goes on after a halted one starts: on the buffers as that one left them, with the used count that it told; nothing else is passed on
+abbrev pub passedOn : Call → Handed → Start
+passedOn c h = record { call = goesOn c (h .told .second); trail = h .trail; marks = h .marks; used = h .told .third }
+
+-- the steps of an earlier call are counted in
+abbrev pub inAll : Handed → Handed → Handed
+inAll h on = record { told = answer (on .told .first) (h .told .second + on .told .second) (on .told .third); trail = on .trail; marks = on .marks }
+
+-- not turned down, and "halted"
+abbrev pub isHalted : Told → Bool
+isHalted t = eqb (t .number) 0 && eqb (t .first) (endingNumber Halted)
+
+-- the budgets of several slices together
+abbrev pub total : ℕ → List ℕ → ℕ
+total a [] = a
+total a (b ∷ bs) = a + total b bs
+
+module _ (v : ℕ) (ls : List ℤ) where
+  abbrev pub hands : Start → ℕ → Handed
+  hands s budget =
+      record {
+        told = tells v ls (s .call) (s .trail) (s .marks) (s .used) budget;
+        trail = trailLeft v ls (s .call) (s .trail) (s .marks) (s .used) budget;
+        marks = marksLeft v ls (s .call) (s .trail) (s .marks) (s .used) budget;
+      }
+
+  -- a call in slices: as long as it is halted, it goes on with the next budget
+  abbrev pub inSlices : Start → ℕ → List ℕ → Handed
+  inSlices s a [] = hands s a
+  inSlices s a (b ∷ bs) =
+      let h : Handed = hands s a in
+      cond (isHalted (h .told)) (inAll h (inSlices (passedOn (s .call) h) b bs)) h
