@@ -1,7 +1,9 @@
--- Read Demands.antt, the three demands, Following.antt, request E1, and Stars.antt, the starred cases. The others prove what these need beyond the theories.
+-- Read Demands.antt, the three demands, Following.antt and Budgets.antt, requests E1 and E2, and Stars.antt, the starred cases. The others prove what these need
+-- beyond the theories.
 pub mod Demands
 pub mod Stars
 pub mod Turning
 pub mod Stepping
 pub mod Searching
 pub mod Following
+pub mod Budgets

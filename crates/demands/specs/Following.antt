@@ -58,10 +58,13 @@ module _ (c : Search) where
   abbrev pub given : List Bool
   given = valuesOf (c .variables) (begins c)
 
--- the call on what a search left
+-- a call on what an earlier one told and left
+abbrev pub resumed : Search → Told → List ℤ → List ℕ → ℕ → Search
+resumed c t ts ms budget = record { variables = c .variables; list = c .list; trail = ts; marks = ms; used = t .third; budget = budget }
+
+-- on what a search left
 abbrev pub goneOn : Search → ℕ → Search
-goneOn c budget =
-    record { variables = c .variables; list = c .list; trail = search.trailLeft c; marks = search.marksLeft c; used = search.told c .third; budget = budget }
+goneOn c = resumed c (search.told c) (search.trailLeft c) (search.marksLeft c)
 
 -- what the call comes to at a trail t under a budget
 pub data GoesOn (v : ℕ) (ls : List ℤ) (t : Trail) : ℕ → Done → Type 0 where

@@ -1,0 +1,74 @@
+-- Document 02's request E2 holds. What it says stands in specs/Budgets.antt; what is cited here is proved in search_theory. Assumes nothing.
+use Prim.Native.Nat.{ℕ, zero, suc, _+_, _≤_}
+use native.Mathlib.Omega.{arith}
+use mathlib.Core.Path.{_≡_, refl, sym, _∙_, ap, subst}
+use Rattle.answers.specs.declared.Told.{Told}
+use Rattle.search.specs.Run.{Halted}
+use Rattle.search.specs.Following.{following}
+use Rattle.search_theory.proofs.Following as next
+use Rattle.search_theory.specs.Listing.{Call, Searching, Following, goesOn}
+use Rattle.search_theory.specs.Budgets.{Handed, inAll, hands}
+use Rattle.search_theory.proofs.Budgets as budgets
+use Rattle.demands.specs.Searches.{Search, IsTaken}
+use Rattle.demands.specs.Following.{told, IsNext, Says, steps}
+use Rattle.demands.specs.Budgets.{under, nextGoneOn, startOf, searchHands, nextHands, RequestE2}
+use Rattle.demands.proofs.Following.{request-e1}
+
+-- after a step, `next` goes on by the search
+after-step : (n : ℕ) → 1 ≤ n → goesOn Following n ≡ Searching
+after-step zero h = absurd (omega arith)
+after-step (suc n) h = refl
+
+-- no steps made before
+none-before : (h on : Handed) → h .told .second ≡ 0 → on .told .number ≡ 0 → inAll h on ≡ on
+none-before h on e k =
+    let sum : h .told .second + on .told .second ≡ on .told .second = omega arith in
+    (λ j. record {
+      told = record { number = sym k j; first = on .told .first; second = sum j; third = on .told .third };
+      trail = on .trail;
+      marks = on .marks;
+    })
+
+module _ (c : Search) (ok : IsNext c) (says : Says c Halted) where
+  -- the call that goes on after `next`
+  abbrev on : ℕ → Call → Handed
+  on b x = hands (c .variables) (c .list) (startOf x (nextGoneOn c b)) b
+
+  whole : steps c ≡ c .budget
+  whole = request-e1 .halted-steps c ok says .0
+
+  gone-on : {x : Call} → goesOn Following (steps c) ≡ x → (b : ℕ) → (on b x .told .number ≡ 0) × (nextHands (under c (c .budget + b)) ≡ inAll (nextHands c) (on b x))
+  gone-on e b =
+      subst (λ x. (on b x .told .number ≡ 0) × (nextHands (under c (c .budget + b)) ≡ inAll (nextHands c) (on b x))) e (
+        budgets.goes-on (c .variables) (c .list) (startOf Following c) (c .budget) ok says b,
+        budgets.adds-up (c .variables) (c .list) (startOf Following c) (c .budget) ok says b,
+      )
+
+  by-search : 1 ≤ c .budget → (b : ℕ) → IsTaken (nextGoneOn c b) × (nextHands (under c (c .budget + b)) ≡ inAll (nextHands c) (searchHands (nextGoneOn c b)))
+  by-search h = gone-on (after-step (steps c) (let w = whole in omega arith))
+
+  called-again : c .budget ≡ 0 → (b : ℕ) → IsNext (nextGoneOn c b) × (nextHands (nextGoneOn c b) ≡ nextHands (under c b))
+  called-again z b =
+      let sum : c .budget + b ≡ b = omega arith in
+      let (again, adds) = gone-on (ap (goesOn Following) (whole ∙ z)) b in
+      (again, sym (none-before (nextHands c) (nextHands (nextGoneOn c b)) (whole ∙ z) again) ∙ sym adds ∙ ap (λ n. nextHands (under c n)) sum)
+
+-- with budget 0 `next` is halted
+halted-at-once : (c : Search) → IsNext c → c .budget ≡ 0 → Says c Halted
+unfolding following
+halted-at-once c ok z =
+    ap (λ n. told (under c n) .first) z ∙ ap (λ (t : Told). t .first) (next.next-told (next.next-taken (c .variables) (c .list) (c .trail) (c .marks) (c .used) (c .budget) .1 ok) 0)
+
+pub request-e2 : RequestE2
+request-e2 =
+    record {
+      goes-on = λ c. budgets.goes-on (c .variables) (c .list) (startOf Searching c) (c .budget);
+      adds-up = λ c. budgets.adds-up (c .variables) (c .list) (startOf Searching c) (c .budget);
+      unaltered = λ c. budgets.unaltered (c .variables) (c .list) (startOf Searching c) (c .budget);
+      next-goes-on = λ c ok says h b. by-search c ok says h b .0;
+      next-adds-up = λ c ok says h b. by-search c ok says h b .1;
+      next-unaltered = λ c. budgets.unaltered (c .variables) (c .list) (startOf Following c) (c .budget);
+      next-called-again = λ c ok z. called-again c ok (halted-at-once c ok z) z;
+      in-slices = λ c ok bs. budgets.in-slices (c .variables) (c .list) (startOf Searching c) (c .budget) bs ok;
+      next-in-slices = λ c ok bs. budgets.in-slices (c .variables) (c .list) (startOf Following c) (c .budget) bs ok;
+    }
