@@ -116,7 +116,9 @@ uint64_t yajilin_decode(const uint8_t *record, size_t record_bytes,
  * Answered: answer[0] is an enum yajilin_search_answer, answer[1] the steps that this call made, answer[2] the used count.
  * trail and marks have the trail that was reached, with 0 after the used entries. After YAJILIN_FOUND all V entries are
  * used and their literals satisfy the list; after YAJILIN_NONE nothing that was open satisfies it; after YAJILIN_HALTED
- * the call may be made again, with trail, marks and answer[2], to go on.
+ * the call may be made again, with trail, marks and answer[2], to go on. Budgets add up: calls that go on so come to the
+ * answer, trail, marks and used count of one call with all their budgets together, and make its steps together. Where a
+ * call comes to YAJILIN_FOUND or YAJILIN_NONE, one with a larger budget does the same.
  * Refused: 17 (trail_length and marks_bytes must both be V), 16, 18.
  */
 uint64_t yajilin_search(uint64_t variables,
@@ -139,7 +141,7 @@ uint64_t yajilin_search(uint64_t variables,
  * and yajilin_search on it says YAJILIN_FOUND; there is nothing to go on with.
  *
  * Mind, after YAJILIN_HALTED: the trail may be full again, so only answer[1] tells whether the assignment was dropped. At
- * 0 steps it was not, and yajilin_next is called again; after 1 or more yajilin_search goes on.
+ * 0 steps it was not, and yajilin_next is called again; after 1 or more yajilin_search goes on. Budgets add up here too.
  *
  * Refused: 17, 16, 18 as yajilin_search; 20, with budget 0 too.
  */
