@@ -6,13 +6,13 @@ use Rattle.answers.specs.declared.Told.{Told}
 use Rattle.search.specs.Run.{Halted}
 use Rattle.search.specs.Following.{following}
 use Rattle.search_theory.proofs.Following as next
-use Rattle.search_theory.specs.Listing.{Call, Searching, Following, goesOn}
-use Rattle.search_theory.specs.Budgets.{Handed, inAll, hands}
+use Rattle.search_theory.specs.Calls.{Call, Searching, Following, goesOn, Handed, hands}
+use Rattle.search_theory.specs.Budgets.{inAll}
 use Rattle.search_theory.proofs.Budgets as budgets
-use Rattle.demands.specs.Searches.{Search, IsTaken}
-use Rattle.demands.specs.Following.{told, IsNext, Says, steps}
-use Rattle.demands.specs.Budgets.{under, nextGoneOn, startOf, searchHands, nextHands, RequestE2}
-use Rattle.demands.proofs.Following.{request-e1}
+use Rattle.demands.specs.Searches.{Search, bySearch, IsTaken, Says, steps}
+use Rattle.demands.specs.Following.{byNext, IsNext, resumed}
+use Rattle.demands.specs.Budgets.{under, startOf, RequestE2}
+use Rattle.demands.proofs.Calling.{halted-steps}
 
 -- after a step, `next` goes on by the search
 after-step : (n : ℕ) → 1 ≤ n → goesOn Following n ≡ Searching
@@ -29,35 +29,35 @@ none-before h on e k =
       marks = on .marks;
     })
 
-module _ (c : Search) (ok : IsNext c) (says : Says c Halted) where
+module _ (c : Search) (ok : IsNext c) (says : Says (byNext c) Halted) where
   -- the call that goes on after `next`
   abbrev on : ℕ → Call → Handed
-  on b x = hands (c .variables) (c .list) (startOf x (nextGoneOn c b)) b
+  on b x = hands (c .variables) (c .list) (startOf x (resumed c (byNext c) b)) b
 
-  whole : steps c ≡ c .budget
-  whole = request-e1 .halted-steps c ok says .0
+  whole : steps (byNext c) ≡ c .budget
+  whole = halted-steps Following c ok says .0
 
-  gone-on : {x : Call} → goesOn Following (steps c) ≡ x → (b : ℕ) → (on b x .told .number ≡ 0) × (nextHands (under c (c .budget + b)) ≡ inAll (nextHands c) (on b x))
+  gone-on : {x : Call} → goesOn Following (steps (byNext c)) ≡ x → (b : ℕ) → (on b x .told .number ≡ 0) × (byNext (under c (c .budget + b)) ≡ inAll (byNext c) (on b x))
   gone-on e b =
-      subst (λ x. (on b x .told .number ≡ 0) × (nextHands (under c (c .budget + b)) ≡ inAll (nextHands c) (on b x))) e (
+      subst (λ x. (on b x .told .number ≡ 0) × (byNext (under c (c .budget + b)) ≡ inAll (byNext c) (on b x))) e (
         budgets.goes-on (c .variables) (c .list) (startOf Following c) (c .budget) ok says b,
         budgets.adds-up (c .variables) (c .list) (startOf Following c) (c .budget) ok says b,
       )
 
-  by-search : 1 ≤ c .budget → (b : ℕ) → IsTaken (nextGoneOn c b) × (nextHands (under c (c .budget + b)) ≡ inAll (nextHands c) (searchHands (nextGoneOn c b)))
-  by-search h = gone-on (after-step (steps c) (let w = whole in omega arith))
+  by-search : 1 ≤ c .budget → (b : ℕ) → IsTaken (resumed c (byNext c) b) × (byNext (under c (c .budget + b)) ≡ inAll (byNext c) (bySearch (resumed c (byNext c) b)))
+  by-search h = gone-on (after-step (steps (byNext c)) (let w = whole in omega arith))
 
-  called-again : c .budget ≡ 0 → (b : ℕ) → IsNext (nextGoneOn c b) × (nextHands (nextGoneOn c b) ≡ nextHands (under c b))
+  called-again : c .budget ≡ 0 → (b : ℕ) → IsNext (resumed c (byNext c) b) × (byNext (resumed c (byNext c) b) ≡ byNext (under c b))
   called-again z b =
       let sum : c .budget + b ≡ b = omega arith in
       let (again, adds) = gone-on (ap (goesOn Following) (whole ∙ z)) b in
-      (again, sym (none-before (nextHands c) (nextHands (nextGoneOn c b)) (whole ∙ z) again) ∙ sym adds ∙ ap (λ n. nextHands (under c n)) sum)
+      (again, sym (none-before (byNext c) (byNext (resumed c (byNext c) b)) (whole ∙ z) again) ∙ sym adds ∙ ap (λ n. byNext (under c n)) sum)
 
 -- with budget 0 `next` is halted
-halted-at-once : (c : Search) → IsNext c → c .budget ≡ 0 → Says c Halted
+halted-at-once : (c : Search) → IsNext c → c .budget ≡ 0 → Says (byNext c) Halted
 unfolding following
 halted-at-once c ok z =
-    ap (λ n. told (under c n) .first) z ∙ ap (λ (t : Told). t .first) (next.next-told (next.next-taken (c .variables) (c .list) (c .trail) (c .marks) (c .used) (c .budget) .1 ok) 0)
+    ap (λ n. byNext (under c n) .told .first) z ∙ ap (λ (t : Told). t .first) (next.next-told (next.next-taken (c .variables) (c .list) (c .trail) (c .marks) (c .used) (c .budget) .1 ok) 0)
 
 pub request-e2 : RequestE2
 request-e2 =

@@ -23,11 +23,13 @@ use Rattle.encoder.specs.Encoding.{encoderRows, encoderAnswer}
 use Rattle.encoder_theory.proofs.Theorems as encoder
 use Rattle.search.specs.Trail.{trailImage, marksImage}
 use Rattle.search.specs.Run.{Done, toldDone, searched}
-use Rattle.demands.specs.Searches.{rows, told}
+use Rattle.search_theory.specs.Calls.{Searching}
+use Rattle.demands.specs.Searches.{rows, bySearch, begins}
 use Rattle.demands.specs.Demands.{Demand1, Demand2, Demand3}
 use Rattle.answers.proofs.Settled.{untouched}
 use Rattle.demands.proofs.Turning.{by-rows, short, decoder-call}
-use Rattle.demands.proofs.Stepping.{stepped}
+use Rattle.demands.proofs.Stepping.{comes-to}
+use Rattle.demands.proofs.Calling as calling
 use Rattle.demands.proofs.Searching as searching
 
 pub demand-1 : Demand1
@@ -42,7 +44,7 @@ demand-1 =
       search = λ c.
           let done : Done = searched (c .variables) (c .list) (c .trail) (c .marks) (c .used) (c .budget) in
           by-rows (toldDone done) refl _ (rows c) refl refl
-          (λ n. (untouched (told c) (c .trail) (trailImage (c .variables) (done .trail)) n, untouched (told c) (c .marks) (marksImage (c .variables) (done .trail)) n));
+          (λ n. (untouched (bySearch c .told) (c .trail) (trailImage (c .variables) (done .trail)) n, untouched (bySearch c .told) (c .marks) (marksImage (c .variables) (done .trail)) n));
       writer = λ v ls out.
           by-rows (answer (length (textOf v ls)) 0 0) refl _ (writerRows v ls (length out)) refl refl (untouched (writerAnswer v ls out) out (filled out (textOf v ls)));
       text-reader = λ text out.
@@ -67,7 +69,7 @@ demand-2 =
           record { told = told; left = ap (λ (t : Told). leaves t buf (filled buf (textOf v ls))) told };
       reads-back = dimacs.write-read;
       written-again = λ text out buf e u room. dimacs.read-write text out buf (dimacs.narrow-exactly text .0 (reader-passed text out e .0, u)) e room;
-      listed-steps = stepped;
+      listed-steps = λ c e. calling.stepped Searching c e (comes-to (c .variables) (c .list) (c .budget) (begins c));
     }
 
 pub demand-3 : Demand3
@@ -79,8 +81,8 @@ demand-3 =
           (a, h, d, λ c k e. encoder.comes-from-only-one s acc ds c a k e h d);
       same-open = searching.same-open;
       unless-halted = searching.unless-halted;
-      few-steps = searching.few-steps;
-      halted-steps = searching.halted-steps;
+      few-steps = calling.few-steps Searching;
+      halted-steps = calling.halted-steps Searching;
       begun-taken = searching.begun-taken;
       none-exactly = searching.none-exactly;
       found-decodes = searching.found-decodes;

@@ -1,17 +1,15 @@
 -- Document 02's request E1 holds. What it says stands in specs/Following.antt; what is cited here is proved in search_theory. Assumes nothing.
-use Prim.Native.Nat.{ℕ, zero, suc, _+_, _-_, _≤_, _<_, _^_}
+use Prim.Native.Nat.{ℕ, zero, suc}
 use native.Mathlib.Omega.{arith}
-use lib.Dec.{eqb}
 use lib.IntN.{ℤ}
 use lib.ListN.{length, length-map}
 use mathlib.Core.Path.{_≡_, refl, sym, _∙_, ap, subst}
-use mathlib.Core.Bool.{Bool, false}
+use mathlib.Core.Bool.{Bool}
 use mathlib.Core.Logic.{_↔_, _⊎_, inl, inr, ⊎-elim}
 use mathlib.Core.Option.{Option, none, some}
 use mathlib.Core.List.{List, [], _∷_, map, List·Memᴰ·head, List·Memᴰ·not-nil, List·Memᴰ·cases-cons, Memᴰ·map, Memᴰ·cast}
 use Rattle.answers.specs.Lists.{_∈_}
 use Rattle.answers.specs.declared.Told.{Told}
-use Rattle.answers.specs.Lent.{leaves}
 use Rattle.answers.proofs.Settled.{untouched}
 use Rattle.rules.specs.Record.{IsAccepted}
 use Rattle.rules.specs.Board.{boardOf}
@@ -20,24 +18,25 @@ use Rattle.cnf.specs.Clauses.{Assignment, Satisfies}
 use Rattle.encoder.specs.Decoding.{decoded, bytesOf, Satisfying, DecodesTo}
 use Rattle.encoder.proofs.Lists.{all-map, apart-on}
 use Rattle.encoder_theory.proofs.Theorems.{decodes-to-solution, comes-from-one, comes-from-only-one}
-use Rattle.search.specs.Trail.{Trail, trailImage, marksImage, trailOf, Open, valuesOf}
+use Rattle.search.specs.Trail.{Trail, trailImage, marksImage, Open, valuesOf}
 use Rattle.search.specs.Step.{undo, undone}
-use Rattle.search.specs.Run.{Ending, Found, None, Halted, Done, after, endingNumber, toldDone, run, IsAccepted as SearchAccepted}
-use Rattle.search.specs.Following.{following, IsFollowed, followed}
+use Rattle.search.specs.Run.{Ending, Found, None, Halted, Done, after, toldDone, run, IsAccepted as SearchAccepted}
+use Rattle.search.specs.Following.{following, IsFollowed}
 use Rattle.search.proofs.Trails.{length-trail}
-use Rattle.search.proofs.Endings.{same-ending, other-ending}
 use Rattle.search_theory.specs.Openings.{FoundOne, OtherAt}
-use Rattle.search_theory.specs.Listing.{Searching, Lists, ListsAll}
+use Rattle.search_theory.specs.Calls.{Searching, Following}
+use Rattle.search_theory.specs.Listing.{Lists, ListsAll}
 use Rattle.search_theory.proofs.Accepted.{accepted-legal}
 use Rattle.search_theory.proofs.Theorems as search
 use Rattle.search_theory.proofs.Following as next
 use Rattle.search_theory.proofs.Listing as listing
-use Rattle.demands.specs.Searches.{Search, IsTaken, begins, BegunOn}
-use Rattle.demands.specs.Searches as searches
+use Rattle.demands.specs.Searches.{Search, bySearch, IsTaken, begins, Says, endsAt, BegunOn}
 use Rattle.demands.specs.Solutions.{Solutions, OneSolution, SeveralSolutions}
-use Rattle.demands.specs.Following.{rows, told, trailLeft, marksLeft, IsNext, Says, steps, endsAt, given, goneOn, GoesOn, keeps, gives-up, drops, Stepped, RequestE1}
+use Rattle.demands.specs.Following.{rows, byNext, IsNext, given, resumed, GoesOn, keeps, gives-up, drops, RequestE1}
 use Rattle.demands.proofs.Turning.{by-rows}
 use Rattle.demands.proofs.Stepping.{comes-to}
+use Rattle.demands.proofs.Calling.{done}
+use Rattle.demands.proofs.Calling as calling
 use Rattle.demands.proofs.Searching as searching
 
 -- 1. Any call
@@ -52,9 +51,6 @@ goes-on v ls t (suc b) = by (undo t) refl
     by (some u) e = drops e (comes-to v ls b u)
 
 module _ (c : Search) where
-  abbrev done : Done
-  done = followed (c .variables) (c .list) (c .trail) (c .marks) (c .used) (c .budget)
-
   taken-exactly : IsNext c ↔ (IsTaken c × (c .used ≡ c .variables) × Satisfies (given c) (c .list))
   taken-exactly =
       let n = next.next-taken (c .variables) (c .list) (c .trail) (c .marks) (c .used) (c .budget) in
@@ -65,30 +61,8 @@ module _ (c : Search) where
     ok : IsFollowed (c .variables) (c .list) (c .trail) (c .marks) (c .used)
     ok = next.next-taken (c .variables) (c .list) (c .trail) (c .marks) (c .used) (c .budget) .1 taken
 
-    tells : told c ≡ toldDone done
-    tells = next.next-told ok (c .budget)
-
-    stepped : Stepped c
-    stepped =
-        record {
-          done = done;
-          made = goes-on (c .variables) (c .list) (begins c) (c .budget);
-          tells = tells;
-          trail = ap (λ (t : Told). leaves t (c .trail) (trailImage (c .variables) (done .trail))) tells;
-          marks = ap (λ (t : Told). leaves t (c .marks) (marksImage (c .variables) (done .trail))) tells;
-        }
-
-    said : (x : Ending) → done .ending ≡ x → Says c x
-    said x e = ap (λ (t : Told). t .first) tells ∙ ap endingNumber e
-
-    saying : (x : Ending) → Says c x → done .ending ≡ x
-    saying x e = same-ending (done .ending) x (sym (ap (λ (t : Told). t .first) tells) ∙ e)
-
-    counted : steps c ≡ done .steps
-    counted = ap (λ (t : Told). t .second) tells
-
-    at-end : endsAt c ≡ done .trail
-    at-end = ap (λ (t : Told). trailOf (trailLeft c) (marksLeft c) (t .third)) tells ∙ next.next-left ok (c .budget)
+    at-end : endsAt (byNext c) ≡ done Following c .trail
+    at-end = calling.at-end Following c taken
 
     all-used : length (begins c) ≡ c .variables
     all-used = length-trail (c .trail) (c .marks) (c .used) ∙ next.next-full ok
@@ -99,12 +73,12 @@ module _ (c : Search) where
     drop-opens : (u : Trail) → undo (begins c) ≡ some u → (a : List Bool) → Assignment (c .variables) a → Open a u ↔ (Open a (begins c) × (a ≡ given c → ⊥))
     drop-opens u e = next.drop-opens (begins c) (accepted-legal (next.next-accepted ok)) all-used e
 
-    same-others : (a : List Bool) → OtherAt (c .variables) (c .list) (given c) (begins c) a ↔ OtherAt (c .variables) (c .list) (given c) (endsAt c) a
+    same-others : (a : List Bool) → OtherAt (c .variables) (c .list) (given c) (begins c) a ↔ OtherAt (c .variables) (c .list) (given c) (endsAt (byNext c)) a
     same-others a = rw at-end (next.same-others ok (c .budget) a)
 
-    unless-halted : (Says c Halted → ⊥)
-        → (Says c None × ((a : List Bool) → OtherAt (c .variables) (c .list) (given c) (begins c) a → ⊥))
-        ⊎ (Says c Found × FoundOne (c .variables) (c .list) (begins c) (endsAt c) × (valuesOf (c .variables) (endsAt c) ≡ given c → ⊥))
+    unless-halted : (Says (byNext c) Halted → ⊥)
+        → (Says (byNext c) None × ((a : List Bool) → OtherAt (c .variables) (c .list) (given c) (begins c) a → ⊥))
+        ⊎ (Says (byNext c) Found × FoundOne (c .variables) (c .list) (begins c) (endsAt (byNext c)) × (valuesOf (c .variables) (endsAt (byNext c)) ≡ given c → ⊥))
     unless-halted n =
         ⊎-elim (λ h. inl (said None (h .0), h .1))
         (λ h. inr (
@@ -113,12 +87,9 @@ module _ (c : Search) where
           subst (λ t. valuesOf (c .variables) t ≡ given c → ⊥) (sym at-end) (h .2),
         ))
         (next.next-unless-halted ok (c .budget) (λ e. n (said Halted e)))
-
-    few-steps : (steps c ≤ c .budget) × (steps c ≤ 2 ^ (c .variables + 1) - 1)
-    few-steps = subst (λ n. (n ≤ c .budget) × (n ≤ 2 ^ (c .variables + 1) - 1)) (sym counted) (next.next-few-steps ok (c .budget))
-
-    halted-steps : Says c Halted → (steps c ≡ c .budget) × (steps c < 2 ^ (c .variables + 1) - 1)
-    halted-steps e = subst (λ n. (n ≡ c .budget) × (n < 2 ^ (c .variables + 1) - 1)) (sym counted) (next.next-halted-steps ok (c .budget) (saying Halted e))
+      where
+        said : (x : Ending) → done Following c .ending ≡ x → Says (byNext c) x
+        said = calling.said Following c taken
 
 -- 2. Calls carried on until "none"
 
@@ -151,28 +122,28 @@ module _ (s : List ℕ) (acc : IsAccepted s) where
   drawn-by ds S = let (a, h, d) = comes-from-one s acc ds S in (a, h, sym (searching.hands s d))
 
 -- "found", and the call on what was left
-module _ (s : List ℕ) (c : Search) (b : BegunOn s c) (f : searches.Says c Found) (budget : ℕ) where
+module _ (s : List ℕ) (c : Search) (b : BegunOn s c) (f : Says (bySearch c) Found) (budget : ℕ) where
   abbrev gone : Search
-  gone = goneOn c budget
+  gone = resumed c (bySearch c) budget
 
   taken : IsTaken c
   taken = searching.begun-taken s c b
 
   gone-ok : IsFollowed (c .variables) (c .list) (gone .trail) (gone .marks) (gone .used)
   gone-ok =
-      subst (IsFollowed (c .variables) (c .list) (gone .trail) (gone .marks)) (sym (ap (λ (t : Told). t .third) (searching.tells c taken)))
-      (next.found-next (searching.ok c taken) (c .budget) (searching.saying c taken Found f))
+      subst (IsFollowed (c .variables) (c .list) (gone .trail) (gone .marks)) (sym (ap (λ (t : Told). t .third) (calling.tells Searching c taken)))
+      (next.found-next (searching.ok c taken) (c .budget) (calling.saying Searching c taken Found f))
 
   gone-taken : IsNext gone
   gone-taken = next.next-taken (c .variables) (c .list) (gone .trail) (gone .marks) (gone .used) budget .0 gone-ok
 
-  pub goes-to : told gone ≡ toldDone (following (c .variables) (c .list) budget (searches.endsAt c))
+  pub goes-to : byNext gone .told ≡ toldDone (following (c .variables) (c .list) budget (endsAt (bySearch c)))
   goes-to = next.next-told gone-ok budget
 
   first : Satisfying s (given gone)
   first = record { gives = next.next-one gone-ok .assignment ∙ b .variables; satisfies = subst (Satisfies (given gone)) (b .list) (next.next-satisfies gone-ok) }
 
-  pub then-none : Says gone None → OneSolution s
+  pub then-none : Says (byNext gone) None → OneSolution s
   then-none e =
       record {
         drawing = draws s (given gone);
@@ -181,15 +152,12 @@ module _ (s : List ℕ) (c : Search) (b : BegunOn s c) (f : searches.Says c Foun
       }
     where
       only : (a : List Bool) → Satisfying s a → a ≡ given gone
-      only a h = next.next-only gone-ok budget (saying gone gone-taken None e) a (searching.same-open c taken a .0 (searching.all-open s c b h))
+      only a h = next.next-only gone-ok budget (calling.saying Following gone gone-taken None e) a (searching.same-open c taken a .0 (searching.all-open s c b h))
 
-  pub then-found : Says gone Found → SeveralSolutions s
+  pub then-found : Says (byNext gone) Found → SeveralSolutions s
   then-found e =
-      ⊎-elim (λ h. says-both None Found (h .0) e refl) (λ h. by (searching.satisfying s c b (h .1 .isOne)) (h .2)) (unless-halted gone gone-taken (λ h. says-both Halted Found h e refl))
+      ⊎-elim (λ h. calling.says-both None Found (byNext gone) (h .0) e refl) (λ h. by (searching.satisfying s c b (h .1 .isOne)) (h .2)) (unless-halted gone gone-taken (λ h. calling.says-both Halted Found (byNext gone) h e refl))
     where
-      says-both : {A : Type 0} (x y : Ending) → Says gone x → Says gone y → eqb (endingNumber x) (endingNumber y) ≡ false → A
-      says-both x y h k = other-ending (sym (saying gone gone-taken x h) ∙ saying gone gone-taken y k)
-
       by : {a : List Bool} → Satisfying s a → (a ≡ given gone → ⊥) → SeveralSolutions s
       by {a} h n =
           record {
@@ -200,7 +168,7 @@ module _ (s : List ℕ) (c : Search) (b : BegunOn s c) (f : searches.Says c Foun
             differ = λ q. n (sym (draws-apart s (b .grid) (given gone) a first h q));
           }
 
-  one-exactly : (Says gone Halted → ⊥) → Says gone None ↔ OneSolution s
+  one-exactly : (Says (byNext gone) Halted → ⊥) → Says (byNext gone) None ↔ OneSolution s
   one-exactly n = (then-none, λ o. ⊎-elim (λ h. h .0) (λ h. let m = then-found (h .0) in absurd (m .differ (o .only (m .one) (m .oneSolution) ∙ sym (o .only (m .other) (m .otherSolution))))) (unless-halted gone gone-taken n))
 
 module _ (s : List ℕ) (c : Search) (b : BegunOn s c) (found : List (List Bool))
@@ -243,20 +211,21 @@ module _ (s : List ℕ) (c : Search) (b : BegunOn s c) (found : List (List Bool)
 pub request-e1 : RequestE1
 request-e1 =
     record {
-      stepped = stepped;
+      stepped = λ c e. calling.stepped Following c e (goes-on (c .variables) (c .list) (begins c) (c .budget));
       only-open = only-open;
       drop-opens = drop-opens;
       same-others = same-others;
       unless-halted = unless-halted;
-      few-steps = few-steps;
-      halted-steps = halted-steps;
+      few-steps = calling.few-steps Following;
+      halted-steps = calling.halted-steps Following;
       lists-all = lists-all;
       carried-on = carried-on;
       lists-solutions = lists-solutions;
       one-exactly = one-exactly;
       one-listed = one-listed;
       turned-down = λ c.
-          by-rows (toldDone (done c)) refl _ (rows c) refl refl
-          (λ n. (untouched (told c) (c .trail) (trailImage (c .variables) (done c .trail)) n, untouched (told c) (c .marks) (marksImage (c .variables) (done c .trail)) n));
+          let d : Done = done Following c in
+          by-rows (toldDone d) refl _ (rows c) refl refl
+          (λ n. (untouched (byNext c .told) (c .trail) (trailImage (c .variables) (d .trail)) n, untouched (byNext c .told) (c .marks) (marksImage (c .variables) (d .trail)) n));
       taken-exactly = taken-exactly;
     }

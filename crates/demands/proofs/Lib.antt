@@ -3,6 +3,7 @@
 pub mod Demands
 pub mod Stars
 pub mod Turning
+pub mod Calling
 pub mod Stepping
 pub mod Searching
 pub mod Following

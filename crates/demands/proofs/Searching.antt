@@ -1,7 +1,7 @@
 -- What the theory says of a search, said of what the call tells and leaves; and of one begun empty on a grid's clauses. Assumes nothing.
-use Prim.Native.Nat.{ℕ, _+_, _-_, _≤_, _<_, _^_}
+use Prim.Native.Nat.{ℕ, _≤_}
 use native.Mathlib.Omega.{arith}
-use lib.Dec.{eqb, ltb}
+use lib.Dec.{ltb}
 use lib.ListN.{length, replicate, length-replicate}
 use borrow.Author.Tests.{eq-eqb, le-ltb}
 use mathlib.Core.Path.{_≡_, refl, sym, _∙_, ap, subst}
@@ -9,11 +9,9 @@ use mathlib.Core.Bool.{Bool, false}
 use mathlib.Core.Logic.{_↔_, _⊎_, inl, inr, ⊎-elim}
 use mathlib.Core.Option.{none}
 use mathlib.Core.List.{List}
-use Rattle.answers.specs.declared.Told.{Told}
 use Rattle.answers.specs.First.{firstWhere}
 use Rattle.answers.specs.Told.{cause}
 use Rattle.answers.specs.Lent.{leaves}
-use Rattle.answers.proofs.Bools.{clash}
 use Rattle.answers.proofs.First.{none-first}
 use Rattle.rules.specs.Board.{boardOf}
 use Rattle.rules.specs.Drawing.{SolutionBytes}
@@ -24,11 +22,13 @@ use Rattle.encoder.specs.Clauses.{clauseList}
 use Rattle.encoder.specs.Decoding.{decoded, bytesOf, Satisfying, DecodesTo}
 use Rattle.encoder_theory.proofs.Theorems.{decodes-to-solution, comes-from-one, never-turned-down}
 use Rattle.search.specs.Trail.{Trail, Open, trailOf, valuesOf}
-use Rattle.search.specs.Run.{Ending, Found, None, Halted, Done, endingNumber, toldDone, searched, wrongLengths, wrongEntryAt, IsAccepted}
-use Rattle.search.proofs.Endings.{same-ending}
+use Rattle.search.specs.Run.{Ending, Found, None, Halted, wrongLengths, wrongEntryAt, IsAccepted}
+use Rattle.search_theory.specs.Calls.{Searching}
 use Rattle.search_theory.specs.Openings.{OpenAt, NoneOpenAt, FoundOne}
 use Rattle.search_theory.proofs.Theorems as search
-use Rattle.demands.specs.Searches.{Search, told, trailLeft, marksLeft, IsTaken, Says, steps, begins, endsAt, BegunOn}
+use Rattle.demands.specs.Searches.{Search, bySearch, IsTaken, begins, Says, endsAt, BegunOn}
+use Rattle.demands.proofs.Calling.{done}
+use Rattle.demands.proofs.Calling as calling
 
 -- 1. Any search
 
@@ -36,44 +36,22 @@ module _ (c : Search) (taken : IsTaken c) where
   pub ok : IsAccepted (c .variables) (c .list) (c .trail) (c .marks) (c .used)
   ok = search.accepted (c .variables) (c .list) (c .trail) (c .marks) (c .used) (c .budget) .1 taken
 
-  abbrev done : Done
-  done = searched (c .variables) (c .list) (c .trail) (c .marks) (c .used) (c .budget)
+  at-end : endsAt (bySearch c) ≡ done Searching c .trail
+  at-end = calling.at-end Searching c taken
 
-  pub tells : told c ≡ toldDone done
-  tells = search.told ok (c .budget)
-
-  said : (x : Ending) → done .ending ≡ x → Says c x
-  said x e = ap (λ (t : Told). t .first) tells ∙ ap endingNumber e
-
-  pub saying : (x : Ending) → Says c x → done .ending ≡ x
-  saying x e = same-ending (done .ending) x (sym (ap (λ (t : Told). t .first) tells) ∙ e)
-
-  counted : steps c ≡ done .steps
-  counted = ap (λ (t : Told). t .second) tells
-
-  pub at-end : endsAt c ≡ done .trail
-  at-end = ap (λ (t : Told). trailOf (trailLeft c) (marksLeft c) (t .third)) tells ∙ search.left ok (c .budget)
-
-  pub same-open : (a : List Bool) → OpenAt (c .variables) (c .list) (begins c) a ↔ OpenAt (c .variables) (c .list) (endsAt c) a
+  pub same-open : (a : List Bool) → OpenAt (c .variables) (c .list) (begins c) a ↔ OpenAt (c .variables) (c .list) (endsAt (bySearch c)) a
   same-open a = rw at-end (search.same-open ok (c .budget) a)
 
-  pub unless-halted : (Says c Halted → ⊥)
-      → (Says c None × NoneOpenAt (c .variables) (c .list) (begins c)) ⊎ (Says c Found × FoundOne (c .variables) (c .list) (begins c) (endsAt c))
+  pub unless-halted : (Says (bySearch c) Halted → ⊥)
+      → (Says (bySearch c) None × NoneOpenAt (c .variables) (c .list) (begins c)) ⊎ (Says (bySearch c) Found × FoundOne (c .variables) (c .list) (begins c) (endsAt (bySearch c)))
   unless-halted n =
       ⊎-elim (λ h. inl (said None (h .0), h .1)) (λ h. inr (said Found (h .0), subst (FoundOne (c .variables) (c .list) (begins c)) (sym at-end) (h .1)))
       (search.unless-halted ok (c .budget) (λ e. n (said Halted e)))
-
-  pub few-steps : (steps c ≤ c .budget) × (steps c ≤ 2 ^ (c .variables + 1) - 1)
-  few-steps = subst (λ n. (n ≤ c .budget) × (n ≤ 2 ^ (c .variables + 1) - 1)) (sym counted) (search.few-steps ok (c .budget))
-
-  pub halted-steps : Says c Halted → (steps c ≡ c .budget) × (steps c < 2 ^ (c .variables + 1) - 1)
-  halted-steps e = subst (λ n. (n ≡ c .budget) × (n < 2 ^ (c .variables + 1) - 1)) (sym counted) (search.halted-steps ok (c .budget) (saying Halted e))
+    where
+      said : (x : Ending) → done Searching c .ending ≡ x → Says (bySearch c) x
+      said = calling.said Searching c taken
 
 -- 2. Begun empty on a grid's clauses
-
--- no search says two things
-pub says-both : {A : Type 0} (x y : Ending) (c : Search) → Says c x → Says c y → eqb (endingNumber x) (endingNumber y) ≡ false → A
-says-both x y c h k e = clash (eq-eqb (endingNumber x) (endingNumber y) (sym h ∙ k)) e
 
 -- what the decoder hands out is what it draws
 pub hands : (s : List ℕ) {a : List Bool} {ds : List ℕ} → DecodesTo s a ds → decoded (boardOf s) (bytesOf a) ≡ ds
@@ -115,18 +93,18 @@ module _ (s : List ℕ) (c : Search) (b : BegunOn s c) where
   pub satisfying : {t : Trail} {a : List Bool} → OpenAt (c .variables) (c .list) t a → Satisfying s a
   satisfying {a = a} o = record { gives = o .assignment ∙ b .variables; satisfies = subst (Satisfies a) (b .list) (o .satisfies) }
 
-  pub found-decodes : Says c Found → (ds : List ℕ) × DecodesTo s (valuesOf (c .variables) (endsAt c)) ds × SolutionBytes (boardOf s) ds
+  pub found-decodes : Says (bySearch c) Found → (ds : List ℕ) × DecodesTo s (valuesOf (c .variables) (endsAt (bySearch c))) ds × SolutionBytes (boardOf s) ds
   found-decodes f =
-      ⊎-elim (λ h. says-both None Found c (h .0) f refl) (λ h. decodes-to-solution s (b .grid) _ (satisfying (h .1 .isOne)))
-      (unless-halted c begun-taken (λ h. says-both Halted Found c h f refl))
+      ⊎-elim (λ h. calling.says-both None Found (bySearch c) (h .0) f refl) (λ h. decodes-to-solution s (b .grid) _ (satisfying (h .1 .isOne)))
+      (unless-halted c begun-taken (λ h. calling.says-both Halted Found (bySearch c) h f refl))
 
-  pub none-exactly : (Says c Halted → ⊥) → Says c None ↔ ((ds : List ℕ) → SolutionBytes (boardOf s) ds → ⊥)
+  pub none-exactly : (Says (bySearch c) Halted → ⊥) → Says (bySearch c) None ↔ ((ds : List ℕ) → SolutionBytes (boardOf s) ds → ⊥)
   none-exactly n = (no-solution, says-none)
     where
-      no-solution : Says c None → (ds : List ℕ) → SolutionBytes (boardOf s) ds → ⊥
+      no-solution : Says (bySearch c) None → (ds : List ℕ) → SolutionBytes (boardOf s) ds → ⊥
       no-solution e ds S =
-          ⊎-elim (λ h. let a = comes-from-one s (b .grid) ds S in h .1 (a .0) (all-open (a .1))) (λ h. says-both Found None c (h .0) e refl)
+          ⊎-elim (λ h. let a = comes-from-one s (b .grid) ds S in h .1 (a .0) (all-open (a .1))) (λ h. calling.says-both Found None (bySearch c) (h .0) e refl)
           (unless-halted c begun-taken n)
 
-      says-none : ((ds : List ℕ) → SolutionBytes (boardOf s) ds → ⊥) → Says c None
+      says-none : ((ds : List ℕ) → SolutionBytes (boardOf s) ds → ⊥) → Says (bySearch c) None
       says-none unsolved = ⊎-elim (λ h. h .0) (λ h. let d = found-decodes (h .0) in absurd (unsolved (d .0) (d .2))) (unless-halted c begun-taken n)

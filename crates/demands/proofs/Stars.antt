@@ -26,11 +26,13 @@ use Rattle.search.specs.Step.{everyLiteral, firstClause, forcedAt, failedClause
 use Rattle.search.specs.Run.{None, endingNumber, run}
 use Rattle.search.specs.Following.{following}
 use Rattle.search.proofs.Cases as lists
+use Rattle.search_theory.specs.Calls.{Searching}
 use Rattle.search_theory.specs.Listing.{none}
-use Rattle.demands.specs.Searches.{Search, told, BegunOn}
+use Rattle.demands.specs.Searches.{Search, bySearch, BegunOn}
 use Rattle.demands.specs.Solutions.{Solutions}
 use Rattle.demands.specs.Stars.{GridStar, TextIs, searchOf, GridHolds, grid, refused, list, Holds, gridCase, oneCellText, gridStars, stars}
-use Rattle.demands.proofs.Searching.{at-end, begun-taken}
+use Rattle.demands.proofs.Calling.{at-end}
+use Rattle.demands.proofs.Searching.{begun-taken}
 use Rattle.demands.proofs.Following.{goes-to, then-none, lists-solutions}
 
 -- lists that were computed whole, case by case
@@ -101,7 +103,7 @@ module _ (g : GridStar) (e : computes g ≡ claims g) (encoded : grids.encodes (
         marks = length-replicate (g .grid .told .second) 0;
       }
 
-  says : told (begun g) ≡ g .says
+  says : bySearch (begun g) .told ≡ g .says
   says = ap (λ (f : Facts). f .says) e
 
   holds : {dss : List (List ℕ)} → dss ≡ g .solutions → Solutions (boardOf (g .grid .bytes)) dss → GridHolds g
@@ -123,7 +125,7 @@ module _ (g : GridStar) (e : computes g ≡ claims g) (encoded : grids.encodes (
   unfolding trailOf
   one-holds {ds} n q judged last =
       let found = ap (λ (t : Told). t .first) says ∙ n in
-      let ends = ap (λ t. following (g .grid .told .second) (g .grid .list) 1000000 t .ending) (at-end (begun g) (begun-taken (g .grid .bytes) (begun g) begun-on)) ∙ last in
+      let ends = ap (λ t. following (g .grid .told .second) (g .grid .list) 1000000 t .ending) (at-end Searching (begun g) (begun-taken (g .grid .bytes) (begun g) begun-on)) ∙ last in
       let o = then-none (g .grid .bytes) (begun g) begun-on found 1000000 (ap (λ (t : Told). t .first) (goes-to (g .grid .bytes) (begun g) begun-on found 1000000) ∙ ap endingNumber ends) in
       let S = judge-right (g .grid .bytes) (begun-on .grid) ds .0 judged in
       holds q (record { apart = (λ y m e. List·Memᴰ·not-nil m, tt); each = (S, tt); all = λ es R. List·Memᴰ·head (o .only es R ∙ sym (o .only ds S)) })

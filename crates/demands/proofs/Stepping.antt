@@ -2,16 +2,13 @@
 use Prim.Native.Nat.{ℕ, zero, suc}
 use native.Mathlib.Omega.{arith}
 use lib.IntN.{ℤ}
-use mathlib.Core.Path.{_≡_, refl, ap}
+use mathlib.Core.Path.{_≡_, refl}
 use mathlib.Core.Option.{Option, none, some}
 use mathlib.Core.List.{List}
-use Rattle.answers.specs.declared.Told.{Told}
-use Rattle.answers.specs.Lent.{leaves}
-use Rattle.search.specs.Trail.{Trail, trailImage, marksImage, variableValue}
+use Rattle.search.specs.Trail.{Trail, variableValue}
 use Rattle.search.specs.Step.{failedClause, forcedPlace, lowestUnassigned, undo, Next, Moved, AnsweredFound, AnsweredNone, undone, onFailed, onForced, onUnassigned, step}
-use Rattle.search.specs.Run.{Done, oneMore, after, run, searched}
-use Rattle.search_theory.proofs.Theorems as search
-use Rattle.demands.specs.Searches.{Search, IsTaken, told, begins, Listed, undoes, gives-up, forces, chooses, finds, stays, moves, ComesTo, found, none-left, halted, Stepped}
+use Rattle.search.specs.Run.{Done, oneMore, after, run}
+use Rattle.demands.specs.Searches.{Listed, undoes, gives-up, forces, chooses, finds, stays, moves, ComesTo, found, none-left, halted}
 
 module _ (v : ℕ) (ls : List ℤ) where
   -- one step does the first that applies
@@ -52,17 +49,3 @@ module _ (v : ℕ) (ls : List ℤ) where
       by (Moved u) m go = one-more m (go u)
       by AnsweredFound m go = found stays (omega arith) m
       by AnsweredNone m go = none-left stays (omega arith) m
-
-pub stepped : (c : Search) → IsTaken c → Stepped c
-stepped c e =
-    let tells = search.told (search.accepted (c .variables) (c .list) (c .trail) (c .marks) (c .used) (c .budget) .1 e) (c .budget) in
-    record {
-      done = done;
-      made = comes-to (c .variables) (c .list) (c .budget) (begins c);
-      tells = tells;
-      trail = ap (λ (t : Told). leaves t (c .trail) (trailImage (c .variables) (done .trail))) tells;
-      marks = ap (λ (t : Told). leaves t (c .marks) (marksImage (c .variables) (done .trail))) tells;
-    }
-  where
-    done : Done
-    done = searched (c .variables) (c .list) (c .trail) (c .marks) (c .used) (c .budget)

@@ -5,7 +5,7 @@
 --   judgeAnswer                             the judge, `judge::judge`
 --   encoderAnswer, encoderLeaves            the encoder, `encode::encode`
 --   decoderAnswer, decoderLeaves            the decoder, `decoder::decode`
---   searchAnswer, trailAfter, marksAfter    the search, `searcher::search` (here `told`, `trailLeft`, `marksLeft` of what the call gets)
+--   searchAnswer, trailAfter, marksAfter    the search, `searcher::search` (here `bySearch` of what the call gets)
 --   writerAnswer, writerLeaves              the text writer, `dimacs_writer::write`
 --   readerAnswer, readerLeaves              the text reader, `dimacs_reader::read`
 use Prim.Native.Nat.{ℕ, _+_, _-_, _≤_, _<_, _^_}
@@ -38,7 +38,7 @@ use Rattle.search.specs.Trail.{valuesOf}
 use Rattle.search.specs.Run.{Found, None, Halted}
 use Rattle.search_theory.specs.Openings.{OpenAt, NoneOpenAt, FoundOne}
 use Rattle.demands.specs.Table.{Call, decoderTable}
-use Rattle.demands.specs.Searches.{Search, rows, told, trailLeft, marksLeft, IsTaken, Says, steps, begins, endsAt, BegunOn, Stepped}
+use Rattle.demands.specs.Searches.{Search, rows, bySearch, IsTaken, begins, Says, steps, endsAt, BegunOn, ComesTo, Stepped}
 
 -- DEMAND 1. "Input that breaks document 01, or an output that is too short, is turned down with the number and place given there, and every lent buffer
 -- stays as it was; all other input is answered, and every call ends."
@@ -50,7 +50,7 @@ pub record Demand1 : Type 0 where
   pub encoder : (s : List ℕ) (out : List ℤ) → Call (1 ∷ 2 ∷ 3 ∷ 4 ∷ 5 ∷ 6 ∷ []) (encoderRows s out) (encoderAnswer s out) (encoderLeaves s out ≡ out)
   pub decoder : (s values lent : List ℕ)
       → Call (1 ∷ 2 ∷ 3 ∷ 4 ∷ 5 ∷ 8 ∷ 7 ∷ 9 ∷ 10 ∷ 11 ∷ 12 ∷ 13 ∷ 14 ∷ 15 ∷ []) (decoderTable s values lent) (decoderAnswer s values lent) (decoderLeaves s values lent ≡ lent)
-  pub search : (c : Search) → Call (17 ∷ 16 ∷ 18 ∷ []) (rows c) (told c) ((trailLeft c ≡ c .trail) × (marksLeft c ≡ c .marks))
+  pub search : (c : Search) → Call (17 ∷ 16 ∷ 18 ∷ []) (rows c) (bySearch c .told) ((bySearch c .trail ≡ c .trail) × (bySearch c .marks ≡ c .marks))
   pub writer : (v : ℕ) (ls : List ℤ) (out : List ℕ) → Call (17 ∷ 16 ∷ 6 ∷ []) (writerRows v ls (length out)) (writerAnswer v ls out) (writerLeaves v ls out ≡ out)
   pub text-reader : (text : List ℕ) (out : List ℤ) → Call (19 ∷ 6 ∷ []) (readerRows text (length out)) (readerAnswer text out) (readerLeaves text out ≡ out)
   -- (The places: each "first .." of the table is the least index at which a test holds; beside 6 stand the elements needed; and the place beside 19 is the
@@ -80,7 +80,7 @@ pub record Demand2 : Type 0 where
   pub written-again : (text : List ℕ) (out : List ℤ) (buf : List ℕ) → readerAnswer text out .number ≡ 0 → (getD text 0 0 ≡ 99 → ⊥) → length text ≤ length buf
       → Writes (readerAnswer text out .second) (elementsRead text out) buf text
   -- "the search makes the listed steps, no others."
-  pub listed-steps : (c : Search) → IsTaken c → Stepped c
+  pub listed-steps : (c : Search) → IsTaken c → Stepped (c .variables) (ComesTo (c .variables) (c .list) (begins c) (c .budget)) (bySearch c)
 
 -- DEMAND 3
 pub record Demand3 : Type 0 where
@@ -90,19 +90,19 @@ pub record Demand3 : Type 0 where
   pub comes-from-one : (s : List ℕ) → IsAccepted s → (ds : List ℕ) → SolutionBytes (boardOf s) ds
       → (a : List Bool) × Satisfying s a × DecodesTo s a ds × ((c : List Bool) → Satisfying s c → DecodesTo s c ds → c ≡ a)
   -- "For any accepted list, trail and budget, the satisfying assignments open at the search's beginning are those open at its end;"
-  pub same-open : (c : Search) → IsTaken c → (a : List Bool) → OpenAt (c .variables) (c .list) (begins c) a ↔ OpenAt (c .variables) (c .list) (endsAt c) a
+  pub same-open : (c : Search) → IsTaken c → (a : List Bool) → OpenAt (c .variables) (c .list) (begins c) a ↔ OpenAt (c .variables) (c .list) (endsAt (bySearch c)) a
   -- "unless halted it says 'none' if there are none, else 'found' with one of them as its trail."
-  pub unless-halted : (c : Search) → IsTaken c → (Says c Halted → ⊥)
-      → (Says c None × NoneOpenAt (c .variables) (c .list) (begins c)) ⊎ (Says c Found × FoundOne (c .variables) (c .list) (begins c) (endsAt c))
+  pub unless-halted : (c : Search) → IsTaken c → (Says (bySearch c) Halted → ⊥)
+      → (Says (bySearch c) None × NoneOpenAt (c .variables) (c .list) (begins c)) ⊎ (Says (bySearch c) Found × FoundOne (c .variables) (c .list) (begins c) (endsAt (bySearch c)))
   -- "Its steps are at most the budget and at most 2^(V+1) − 1;"
-  pub few-steps : (c : Search) → IsTaken c → (steps c ≤ c .budget) × (steps c ≤ 2 ^ (c .variables + 1) - 1)
+  pub few-steps : (c : Search) → IsTaken c → (steps (bySearch c) ≤ c .budget) × (steps (bySearch c) ≤ 2 ^ (c .variables + 1) - 1)
   -- "if halted, they are the whole budget and fewer than 2^(V+1) − 1."
-  pub halted-steps : (c : Search) → IsTaken c → Says c Halted → (steps c ≡ c .budget) × (steps c < 2 ^ (c .variables + 1) - 1)
+  pub halted-steps : (c : Search) → IsTaken c → Says (bySearch c) Halted → (steps (bySearch c) ≡ c .budget) × (steps (bySearch c) < 2 ^ (c .variables + 1) - 1)
   -- "Begun empty on a grid's clauses and not halted,"
   -- (No search turns a grid's clauses down.)
   pub begun-taken : (s : List ℕ) (c : Search) → BegunOn s c → IsTaken c
   -- "it says 'none' exactly when the grid has no solution,"
-  pub none-exactly : (s : List ℕ) (c : Search) → BegunOn s c → (Says c Halted → ⊥) → Says c None ↔ ((ds : List ℕ) → SolutionBytes (boardOf s) ds → ⊥)
+  pub none-exactly : (s : List ℕ) (c : Search) → BegunOn s c → (Says (bySearch c) Halted → ⊥) → Says (bySearch c) None ↔ ((ds : List ℕ) → SolutionBytes (boardOf s) ds → ⊥)
   -- "and at 'found' its trail decodes to one."
-  pub found-decodes : (s : List ℕ) (c : Search) → BegunOn s c → Says c Found
-      → (ds : List ℕ) × DecodesTo s (valuesOf (c .variables) (endsAt c)) ds × SolutionBytes (boardOf s) ds
+  pub found-decodes : (s : List ℕ) (c : Search) → BegunOn s c → Says (bySearch c) Found
+      → (ds : List ℕ) × DecodesTo s (valuesOf (c .variables) (endsAt (bySearch c))) ds × SolutionBytes (boardOf s) ds

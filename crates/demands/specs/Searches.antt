@@ -5,7 +5,6 @@ use lib.ListN.{length, getD}
 use mathlib.Core.Path.{_≡_}
 use mathlib.Core.Option.{none, some}
 use mathlib.Core.List.{List, _∷_}
-use Rattle.answers.specs.declared.Told.{Told}
 use Rattle.answers.specs.Told.{Row}
 use Rattle.rules.specs.Record.{IsAccepted}
 use Rattle.rules.specs.Board.{boardOf}
@@ -14,6 +13,7 @@ use Rattle.encoder.specs.Clauses.{clauseList}
 use Rattle.search.specs.Trail.{entry, Trail, trailOf, variableValue, trailImage, marksImage}
 use Rattle.search.specs.Step.{failedClause, forcedPlace, lowestUnassigned, undo, Next, Moved, AnsweredFound, AnsweredNone}
 use Rattle.search.specs.Run.{Ending, Found, None, Halted, Done, ends, endingNumber, toldDone, searchRows, searchAnswer, trailAfter, marksAfter}
+use Rattle.search_theory.specs.Calls.{Handed}
 
 -- what a search call gets
 pub record Search : Type 0 where
@@ -29,34 +29,36 @@ module _ (c : Search) where
   abbrev pub rows : List Row
   rows = searchRows (c .variables) (c .list) (c .trail) (c .marks) (c .used)
 
-  -- what it tells, and what it leaves in the two lent buffers
-  abbrev pub told : Told
-  told = searchAnswer (c .variables) (c .list) (c .trail) (c .marks) (c .used) (c .budget)
-
-  abbrev pub trailLeft : List ℤ
-  trailLeft = trailAfter (c .variables) (c .list) (c .trail) (c .marks) (c .used) (c .budget)
-
-  abbrev pub marksLeft : List ℕ
-  marksLeft = marksAfter (c .variables) (c .list) (c .trail) (c .marks) (c .used) (c .budget)
+  -- what is handed out by the search: what it tells, and what it leaves in the two lent buffers
+  abbrev pub bySearch : Handed
+  bySearch =
+      record {
+        told = searchAnswer (c .variables) (c .list) (c .trail) (c .marks) (c .used) (c .budget);
+        trail = trailAfter (c .variables) (c .list) (c .trail) (c .marks) (c .used) (c .budget);
+        marks = marksAfter (c .variables) (c .list) (c .trail) (c .marks) (c .used) (c .budget);
+      }
 
   -- a list and a trail, with their V, are accepted if the search call that gets them doesn't turn them down
   abbrev pub IsTaken : Type 0
-  IsTaken = told .number ≡ 0
+  IsTaken = bySearch .told .number ≡ 0
 
-  -- it says "found", "none" or "halted"
-  abbrev pub Says : Ending → Type 0
-  Says x = told .first ≡ endingNumber x
-
-  -- the number of steps that this call made
-  abbrev pub steps : ℕ
-  steps = told .second
-
-  -- the search begins at the trail handed in and ends at the one it leaves
+  -- the search begins at the trail handed in
   abbrev pub begins : Trail
   begins = trailOf (c .trail) (c .marks) (c .used)
 
+-- of what a call hands out
+module _ (h : Handed) where
+  -- it says "found", "none" or "halted"
+  abbrev pub Says : Ending → Type 0
+  Says x = h .told .first ≡ endingNumber x
+
+  -- the number of steps that this call made
+  abbrev pub steps : ℕ
+  steps = h .told .second
+
+  -- it ends at the trail that it leaves
   abbrev pub endsAt : Trail
-  endsAt = trailOf trailLeft marksLeft (told .third)
+  endsAt = trailOf (h .trail) (h .marks) (h .told .third)
 
 -- a search begun empty on an accepted grid's clauses: V is that grid's, the used count is 0; trail and marks are lent V elements each
 pub record BegunOn (s : List ℕ) (c : Search) : Type 0 where
@@ -93,10 +95,10 @@ module _ (v : ℕ) (ls : List ℤ) where
     none-left : {n : ℕ} {u : Trail} → Leads t n u → n < budget → Listed u AnsweredNone → ComesTo t budget (ends None (suc n) u)
     halted : {u : Trail} → Leads t budget u → ComesTo t budget (ends Halted budget u)
 
--- a search call makes the listed steps, no others: they lead to what is told and left
-pub record Stepped (c : Search) : Type 0 where
+-- a call that is `Made` as the steps say comes to what it tells and leaves
+pub record Stepped (v : ℕ) (Made : Done → Type 0) (h : Handed) : Type 0 where
   pub done : Done
-  pub made : ComesTo (c .variables) (c .list) (begins c) (c .budget) done
-  pub tells : told c ≡ toldDone done
-  pub trail : trailLeft c ≡ trailImage (c .variables) (done .trail)
-  pub marks : marksLeft c ≡ marksImage (c .variables) (done .trail)
+  pub made : Made done
+  pub tells : h .told ≡ toldDone done
+  pub trail : h .trail ≡ trailImage v (done .trail)
+  pub marks : h .marks ≡ marksImage v (done .trail)

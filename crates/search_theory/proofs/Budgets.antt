@@ -10,35 +10,19 @@ use mathlib.Core.Path.{_≡_, refl, sym, _∙_, ap, subst}
 use mathlib.Core.Bool.{Bool, true, false, cond}
 use mathlib.Core.List.{List, [], _∷_}
 use Rattle.answers.specs.declared.Told.{Told}
-use Rattle.answers.specs.Lent.{leaves}
 use Rattle.answers.proofs.Bools.{and-both, other-half}
-use Rattle.search.specs.Trail.{Trail, trailImage, marksImage, trailOf}
+use Rattle.search.specs.Trail.{Trail, trailOf}
 use Rattle.search.specs.Run.{Halted, Done, endingNumber, toldDone, searched}
 use Rattle.search.specs.Following.{following, followed}
 use Rattle.search.proofs.Endings.{same-ending}
 use Rattle.search.proofs.Slices.{counted, halted-on, ended-on, run-adds, following-adds}
-use Rattle.search_theory.specs.Listing.{Call, Searching, Following, goesOn}
-use Rattle.search_theory.specs.Budgets.{Start, Handed, passedOn, inAll, isHalted, total, hands, inSlices}
+use Rattle.search_theory.specs.Calls.{Call, Following, goesOn, Start, Handed, hands}
+use Rattle.search_theory.specs.Budgets.{passedOn, inAll, isHalted, total, inSlices}
 use Rattle.search_theory.proofs.Calls.{comesTo}
 use Rattle.search_theory.proofs.Following.{next-halted-steps}
-use Rattle.search_theory.proofs.Taken.{Takes, searches, follows, done, taken, told, left, takes-on}
-
--- what a call hands out that tells t and comes to d,
-abbrev leaving : ℕ → Start → Done → Told → Handed
-leaving v s d t = record { told = t; trail = leaves t (s .trail) (trailImage v (d .trail)); marks = leaves t (s .marks) (marksImage v (d .trail)) }
-
--- not turned down
-abbrev handedAt : ℕ → Done → Handed
-handedAt v d = record { told = toldDone d; trail = trailImage v (d .trail); marks = marksImage v (d .trail) }
-
-abbrev start : Call → List ℤ → List ℕ → ℕ → Start
-start c ts ms used = record { call = c; trail = ts; marks = ms; used = used }
+use Rattle.search_theory.proofs.Taken.{Takes, searches, follows, done, leaving, handedAt, start, taken, handed, told, left, takes-on}
 
 module _ {v : ℕ} {ls ts : List ℤ} {ms : List ℕ} {used : ℕ} where
-  handed : {c : Call} (b : ℕ) → Takes v ls ts ms used c → hands v ls (start c ts ms used) b ≡ handedAt v (done v ls c ts ms used b)
-  handed b (searches ok) = ap (leaving v (start Searching ts ms used) (searched v ls ts ms used b)) (told b (searches ok))
-  handed b (follows ok) = ap (leaving v (start Following ts ms used) (followed v ls ts ms used b)) (told b (follows ok))
-
   -- halted with a, what it comes to with a + b is what the call that goes on comes to, the steps made before counted in;
   halted-adds : {c : Call} (a b : ℕ) → Takes v ls ts ms used c → done v ls c ts ms used a .ending ≡ Halted
       → done v ls c ts ms used (a + b)

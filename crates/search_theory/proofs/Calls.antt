@@ -14,7 +14,7 @@ use Rattle.search.specs.Trail.{Trail, variableValue, Turned, Open, valuesOf}
 use Rattle.search.specs.Step.{undo, undone}
 use Rattle.search.specs.Run.{Ending, Found, None, Halted, Done, ends, oneMore, after, run}
 use Rattle.search.specs.Following.{following}
-use Rattle.search_theory.specs.Listing.{Call, Searching, Following, goesOn}
+use Rattle.search_theory.specs.Calls.{Call, Searching, Following, goesOn}
 use Rattle.search_theory.proofs.Lists.{Proper}
 use Rattle.search_theory.proofs.Legal.{Legal, AllAssigned}
 use Rattle.search_theory.proofs.Falling.{marked, number, number-more}

@@ -1,16 +1,18 @@
 -- Either call that takes what it is handed: what it comes to, tells and leaves; and the call that goes on after a halted one takes what that one left.
 -- Assumes nothing.
-use Prim.Native.Nat.{ℕ, zero, suc, _+_, _-_, _<_, _^_}
+use Prim.Native.Nat.{ℕ, zero, suc, _+_, _-_, _≤_, _<_, _^_}
 use lib.IntN.{ℤ}
 use lib.ListN.{length}
-use mathlib.Core.Path.{_≡_, sym, _∙_, subst}
+use mathlib.Core.Path.{_≡_, sym, _∙_, ap, subst}
 use mathlib.Core.List.{List}
+use Rattle.answers.specs.declared.Told.{Told}
+use Rattle.answers.specs.Lent.{leaves}
 use Rattle.cnf.specs.Clauses.{Satisfies}
-use Rattle.search.specs.Trail.{trailOf, valuesOf}
-use Rattle.search.specs.Run.{Halted, Done, toldDone, IsAccepted}
+use Rattle.search.specs.Trail.{trailImage, marksImage, trailOf, valuesOf}
+use Rattle.search.specs.Run.{Halted, Done, toldDone, searched, IsAccepted}
 use Rattle.search.specs.Following.{IsFollowed, following, followed, nextTrail, nextMarks}
 use Rattle.search.proofs.Trails.{length-trail}
-use Rattle.search_theory.specs.Listing.{Call, Searching, Following, goesOn, tells, trailLeft, marksLeft}
+use Rattle.search_theory.specs.Calls.{Call, Searching, Following, goesOn, Start, Handed, tells, trailLeft, marksLeft, hands}
 use Rattle.search_theory.proofs.Accepted.{accepted-closed, accepted-proper, accepted-legal}
 use Rattle.search_theory.proofs.Calls.{comesTo, Came, came}
 use Rattle.search_theory.proofs.Theorems as search
@@ -24,6 +26,17 @@ pub data Takes (v : ℕ) (ls ts : List ℤ) (ms : List ℕ) (used : ℕ) : Call 
 -- what a call comes to
 abbrev pub done : ℕ → List ℤ → Call → List ℤ → List ℕ → ℕ → ℕ → Done
 done v ls c ts ms used budget = comesTo c v ls budget (trailOf ts ms used)
+
+-- what a call hands out that tells t and comes to d,
+abbrev pub leaving : ℕ → Start → Done → Told → Handed
+leaving v s d t = record { told = t; trail = leaves t (s .trail) (trailImage v (d .trail)); marks = leaves t (s .marks) (marksImage v (d .trail)) }
+
+-- not turned down
+abbrev pub handedAt : ℕ → Done → Handed
+handedAt v d = record { told = toldDone d; trail = trailImage v (d .trail); marks = marksImage v (d .trail) }
+
+abbrev pub start : Call → List ℤ → List ℕ → ℕ → Start
+start c ts ms used = record { call = c; trail = ts; marks = ms; used = used }
 
 module _ {v : ℕ} {ls ts : List ℤ} {ms : List ℕ} {used : ℕ} where
   -- a call that is not turned down does
@@ -39,9 +52,12 @@ module _ {v : ℕ} {ls ts : List ℤ} {ms : List ℕ} {used : ℕ} where
     pub comes : {c : Call} → Takes v ls ts ms used c → Came v ls c (trailOf ts ms used) budget (done v ls c ts ms used budget)
     comes {c} ok = let acc = accepts ok in came (accepted-closed acc) (accepted-proper acc) c (trailOf ts ms used) budget (accepted-legal acc)
 
+    pub handed : {c : Call} → Takes v ls ts ms used c → hands v ls (start c ts ms used) budget ≡ handedAt v (done v ls c ts ms used budget)
+    handed (searches ok) = ap (leaving v (start Searching ts ms used) (searched v ls ts ms used budget)) (search.told ok budget)
+    handed (follows ok) = ap (leaving v (start Following ts ms used) (followed v ls ts ms used budget)) (next.next-told ok budget)
+
     pub told : {c : Call} → Takes v ls ts ms used c → tells v ls c ts ms used budget ≡ toldDone (done v ls c ts ms used budget)
-    told (searches ok) = search.told ok budget
-    told (follows ok) = next.next-told ok budget
+    told ok = ap (λ (h : Handed). h .told) (handed ok)
 
     pub left : {c : Call} → Takes v ls ts ms used c
         → trailOf (trailLeft v ls c ts ms used budget) (marksLeft v ls c ts ms used budget) (length (done v ls c ts ms used budget .trail)) ≡ done v ls c ts ms used budget .trail
@@ -52,6 +68,10 @@ module _ {v : ℕ} {ls ts : List ℤ} {ms : List ℕ} {used : ℕ} where
         → IsAccepted v ls (trailLeft v ls c ts ms used budget) (marksLeft v ls c ts ms used budget) (length (done v ls c ts ms used budget .trail))
     left-accepted (searches ok) = search.left-accepted ok budget
     left-accepted (follows ok) = next.next-left-accepted ok budget
+
+    pub few-steps : {c : Call} → Takes v ls ts ms used c → (done v ls c ts ms used budget .steps ≤ budget) × (done v ls c ts ms used budget .steps ≤ 2 ^ (v + 1) - 1)
+    few-steps (searches ok) = search.few-steps ok budget
+    few-steps (follows ok) = next.next-few-steps ok budget
 
     pub halted-steps : {c : Call} → Takes v ls ts ms used c → done v ls c ts ms used budget .ending ≡ Halted
         → (done v ls c ts ms used budget .steps ≡ budget) × (done v ls c ts ms used budget .steps < 2 ^ (v + 1) - 1)

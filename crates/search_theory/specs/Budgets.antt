@@ -7,20 +7,7 @@ use mathlib.Core.List.{List, [], _∷_}
 use Rattle.answers.specs.declared.Told.{Told}
 use Rattle.answers.specs.Told.{answer}
 use Rattle.search.specs.Run.{Halted, endingNumber}
-use Rattle.search_theory.specs.Listing.{Call, goesOn, tells, trailLeft, marksLeft}
-
--- where a call starts: which call it is, the two buffers as lent, the used count
-pub record Start : Type 0 where
-  pub call : Call
-  pub trail : List ℤ
-  pub marks : List ℕ
-  pub used : ℕ
-
--- all that it hands out: what it tells, and what it leaves in the two buffers
-pub record Handed : Type 0 where
-  pub told : Told
-  pub trail : List ℤ
-  pub marks : List ℕ
+use Rattle.search_theory.specs.Calls.{Call, goesOn, Start, Handed, hands}
 
 -- where the call that goes on after a halted one starts: on the buffers as that one left them, with the used count that it told; nothing else is passed on
 abbrev pub passedOn : Call → Handed → Start
@@ -40,17 +27,9 @@ total a [] = a
 total a (b ∷ bs) = a + total b bs
 
 module _ (v : ℕ) (ls : List ℤ) where
-  abbrev pub hands : Start → ℕ → Handed
-  hands s budget =
-      record {
-        told = tells v ls (s .call) (s .trail) (s .marks) (s .used) budget;
-        trail = trailLeft v ls (s .call) (s .trail) (s .marks) (s .used) budget;
-        marks = marksLeft v ls (s .call) (s .trail) (s .marks) (s .used) budget;
-      }
-
   -- a call in slices: as long as it is halted, it goes on with the next budget
   abbrev pub inSlices : Start → ℕ → List ℕ → Handed
-  inSlices s a [] = hands s a
+  inSlices s a [] = hands v ls s a
   inSlices s a (b ∷ bs) =
-      let h : Handed = hands s a in
+      let h : Handed = hands v ls s a in
       cond (isHalted (h .told)) (inAll h (inSlices (passedOn (s .call) h) b bs)) h

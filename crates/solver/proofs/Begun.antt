@@ -16,8 +16,10 @@ use Rattle.encoder.specs.Clauses.{clauseList}
 use Rattle.encoder.specs.Decoding.{decoded, decoderAnswer, DecodesTo}
 use Rattle.search.specs.Trail.{trailImage, marksImage, trailOf, valuesOf}
 use Rattle.search.specs.Run.{Found, None, Halted, Done, IsAccepted as IsTaken, endingNumber, toldDone, searched}
+use Rattle.search_theory.specs.Calls.{Searching}
 use Rattle.search_theory.proofs.Theorems as search
-use Rattle.demands.specs.Searches.{Search, told, trailLeft, marksLeft, endsAt, BegunOn}
+use Rattle.demands.specs.Searches.{Search, bySearch, endsAt, BegunOn}
+use Rattle.demands.proofs.Calling.{at-end}
 use Rattle.demands.proofs.Searching as searching
 use Rattle.solver.specs.Solving.{solved, trailBytes}
 
@@ -38,17 +40,17 @@ module _ (s : List ℕ) (acc : IsAccepted s) (budget : ℕ) (ts : List ℤ) (ms 
   unfolding trailOf
   comes-to = refl
 
-  pub tells : told (call s budget ts ms) ≡ toldDone (solved (boardOf s) budget)
+  pub tells : bySearch (call s budget ts ms) .told ≡ toldDone (solved (boardOf s) budget)
   tells = search.told taken budget ∙ ap toldDone comes-to
 
-  pub trail-left : trailLeft (call s budget ts ms) ≡ trailImage (variableCount (boardOf s)) (solved (boardOf s) budget .trail)
+  pub trail-left : bySearch (call s budget ts ms) .trail ≡ trailImage (variableCount (boardOf s)) (solved (boardOf s) budget .trail)
   trail-left = (λ i. leaves (tells i) ts (trailImage (variableCount (boardOf s)) (comes-to i .trail)))
 
-  pub marks-left : marksLeft (call s budget ts ms) ≡ marksImage (variableCount (boardOf s)) (solved (boardOf s) budget .trail)
+  pub marks-left : bySearch (call s budget ts ms) .marks ≡ marksImage (variableCount (boardOf s)) (solved (boardOf s) budget .trail)
   marks-left = (λ i. leaves (tells i) ms (marksImage (variableCount (boardOf s)) (comes-to i .trail)))
 
-  ends-at : endsAt (call s budget ts ms) ≡ solved (boardOf s) budget .trail
-  ends-at = searching.at-end (call s budget ts ms) (searching.begun-taken s _ begun) ∙ ap (λ (d : Done). d .trail) comes-to
+  ends-at : endsAt (bySearch (call s budget ts ms)) ≡ solved (boardOf s) budget .trail
+  ends-at = at-end Searching (call s budget ts ms) (searching.begun-taken s _ begun) ∙ ap (λ (d : Done). d .trail) comes-to
 
 -- 2. The grid, by the call in zeros
 
@@ -77,10 +79,10 @@ module _ (s : List ℕ) (acc : IsAccepted s) (budget : ℕ) where
   pub zeros-begun : BegunOn s zeros
   zeros-begun = begun s acc budget ts ms ts-long ms-long
 
-  pub zeros-tell : told zeros ≡ toldDone done
+  pub zeros-tell : bySearch zeros .told ≡ toldDone done
   zeros-tell = tells s acc budget ts ms ts-long ms-long
 
-  pub zeros-end : endsAt zeros ≡ done .trail
+  pub zeros-end : endsAt (bySearch zeros) ≡ done .trail
   zeros-end = ends-at s acc budget ts ms ts-long ms-long
 
   -- not halted, it says "none" exactly when the grid has no solution

@@ -14,10 +14,9 @@ use Rattle.encoder.specs.Clauses.{clauseList}
 use Rattle.search.specs.Run.{Ending, Found, None, Halted, Done, endingNumber}
 use Rattle.search.specs.Following.{following}
 use Rattle.search.proofs.Endings.{same-ending, other-ending}
-use Rattle.demands.specs.Searches.{Search, Says}
+use Rattle.demands.specs.Searches.{Search, bySearch, Says}
 use Rattle.demands.specs.Solutions.{OneSolution as HasOne, SeveralSolutions as HasSeveral}
-use Rattle.demands.specs.Following.{goneOn}
-use Rattle.demands.specs.Following as next
+use Rattle.demands.specs.Following.{byNext, resumed}
 use Rattle.demands.proofs.Following as calls
 use Rattle.solver.specs.Solving.{solved}
 use Rattle.solver.specs.Counting.{Many, NoSolution, OneSolution, SeveralSolutions, Unsettled, second, afterFirst, manyOf}
@@ -47,10 +46,10 @@ module _ (s : List ℕ) (acc : IsAccepted s) (budget : ℕ) where
       c : Search
       c = begun.zeros s acc budget
 
-      first : Says c Found
+      first : Says (bySearch c) Found
       first = ap (λ (t : Told). t .first) (begun.zeros-tell s acc budget) ∙ ap endingNumber found
 
-      said : (x : Ending) → following v (clauseList (boardOf s)) b (done .trail) .ending ≡ x → next.Says (goneOn c b) x
+      said : (x : Ending) → following v (clauseList (boardOf s)) b (done .trail) .ending ≡ x → Says (byNext (resumed c (bySearch c) b)) x
       said x e =
           ap (λ (t : Told). t .first) (calls.goes-to s c (begun.zeros-begun s acc budget) first b)
           ∙ ap endingNumber (ap (λ t. following v (clauseList (boardOf s)) b t .ending) (begun.zeros-end s acc budget) ∙ e)
