@@ -2,5 +2,6 @@
 pub mod Bools
 pub mod First
 pub mod Lent
+pub mod Lists
 pub mod Rows
 pub mod Settled

@@ -8,6 +8,7 @@ use mathlib.Core.Path.{_≡_, refl, sym, _∙_, ap, subst}
 use mathlib.Core.Bool.{true, false}
 use mathlib.Core.List.{List, [], _∷_, _++_}
 use Rattle.answers.specs.Lists.{howMany}
+use Rattle.answers.proofs.Lists.{many-most}
 use Rattle.rules.specs.declared.Direction.{Direction}
 use Rattle.rules.specs.declared.Direction.the-variants.{East as east, South as south, West as west}
 use Rattle.rules.specs.declared.Cell.{Cell}
@@ -28,7 +29,7 @@ use Rattle.cell_numbers.proofs.Sides.{some-open}
 use Rattle.clue_clauses.specs.Line.{clueAt}
 use Rattle.counting.specs.declared.Amount.{Amount}
 use Rattle.counting.specs.Counts.{openAmount, clueAmount, cellFamilies, Amounts}
-use Rattle.counting.proofs.Lines.{pairs-most, many-most, line-sized}
+use Rattle.counting.proofs.Lines.{pairs-most, line-sized}
 
 module _ {g : Grid} {s : List ℕ} {x : ℕ} (h : Held g s) (inside : x < size g) where
   abbrev b : Board

@@ -7,6 +7,7 @@ use mathlib.Core.Path.{_≡_, refl}
 use mathlib.Core.Bool.{Bool, true, false}
 use mathlib.Core.List.{List, [], _∷_}
 use Rattle.answers.specs.Lists.{tally, howMany}
+use Rattle.answers.proofs.Lists.{many-most}
 use Rattle.rules.specs.Board.{Board}
 use Rattle.encoder.specs.Clauses.{lineClauses}
 use Rattle.encoder.proofs.Counts.{pairCount, pair-count, Sized, sized-none, sized-append, sized-is, cell-clue, cell-open}
@@ -16,14 +17,6 @@ pairs-half n = omega (arith, pair-count n)
 
 pub pairs-most : (n m : ℕ) → n ≤ m → pairCount n * 2 ≤ m * (m - 1)
 pairs-most n m h = let i : n * (n - 1) ≤ m * (m - 1) = mul-le-mul h (omega arith) in omega (arith, pair-count n)
-
-pub many-most : {A : Type 0} (p : A → Bool) (xs : List A) → howMany p xs ≤ length xs
-many-most p [] = omega arith
-many-most p (x ∷ xs) = by (p x) (many-most p xs)
-  where
-    by : (t : Bool) → howMany p xs ≤ length xs → tally t (howMany p xs) ≤ suc (length xs)
-    by true h = omega arith
-    by false h = omega arith
 
 -- q is the number of clues
 module _ (b : Board) (isOpen : ℕ → Bool) (a n : ℕ) where

@@ -6,6 +6,7 @@ use lib.ListN.{length, length-append}
 use mathlib.Core.Path.{_≡_}
 use mathlib.Core.List.{List, [], _∷_}
 use Rattle.answers.specs.Lists.{All}
+use Rattle.answers.proofs.Lists.{many-most}
 use Rattle.rules.specs.Board.{boardOf}
 use Rattle.rules.proofs.Records.{accepted-laws}
 use Rattle.cnf.specs.Literals.{closes}
@@ -16,7 +17,6 @@ use Rattle.dimacs_writer.proofs.Lines.{header-length}
 use Rattle.encoder.specs.Variables.{variableCount}
 use Rattle.encoder.specs.Clauses.{clauseList}
 use Rattle.encoder.proofs.Bounds.{Right, list-within}
-use Rattle.counting.proofs.Lines.{many-most}
 use Rattle.printing.specs.Programs.{mostElements, mostHeld, programNumber, printedClauses}
 use Rattle.printing.proofs.Limits.{unrefused, printed-fits}
 
