@@ -1,12 +1,12 @@
 // The tests of a cell, one for each cause that is sought cell by cell.
 ghost use mathlib.Core.Path.{_≡_};
-ghost use Prim.Native.Nat.{_<_};
+ghost use Prim.Native.Nat.{_≤_, _<_};
 ghost use lib.ListN.{length};
 ghost use Rattle.answers.specs.First.{firstWhere, placed};
 ghost use Rattle.answers.specs.Lists.{howMany};
 ghost use Rattle.rules.specs.Record.{size, puzzle, On, Held, Drawn};
-ghost use Rattle.rules.specs.Board.{neighbour, line, gridBoard};
-ghost use Rattle.rules.specs.Drawing.{blackAt};
+ghost use Rattle.rules.specs.Board.{neighbour, line, nearest, gridBoard};
+ghost use Rattle.rules.specs.Drawing.{blacksNearest, blackAt};
 ghost use Rattle.rules.specs.Judge.{badByte, there, badByteAt, touchingAt, loose, looseAt, whiteAt, notTwoAt};
 ghost use Rattle.checks.specs.Tests.{unmetAt, testAt};
 use super::Test;
@@ -17,6 +17,7 @@ use answers::Place;
 use rules::Cell;
 use rules::Direction;
 use rules::Grid;
+use rules::board::End;
 use rules::board::go;
 use rules::board::line_end;
 use rules::board::neighbour;
@@ -83,7 +84,36 @@ fn touching_at(g: Grid, record: &[u8], drawing: &[u8], x: usize) -> bool
     black_there(g, drawing, x, Direction::South)
 }
 
-// The black cells of a clue's line, counted from the edge towards the clue.
+// The black cells among the j cells of a line that are nearest the edge, counted cell by cell from the line's end towards the clue.
+// The record and x are there to say which line it is.
+fn blacks_nearest(
+    g: Grid,
+    record: &[u8],
+    drawing: &[u8],
+    x: usize,
+    d: Direction,
+    end: End,
+    j: usize,
+) -> usize
+    requires { ⌜ Drawn g (now «record») (now drawing) ⌝ }
+    requires { ⌜ end .cell ≡ nearest (line (puzzle g (now «record»)) d x) x ⌝ }
+    requires { ⌜ j ≤ length (line (puzzle g (now «record»)) d x) ⌝ }
+    ensures { λ r. ⌜ r ≡ blacksNearest (blackAt (now (drawing .entry))) (line (puzzle g (now («record» .entry))) d x) j ⌝ }
+{
+    let mut y = end.cell;
+    let mut count = 0;
+    let mut k = 0;
+    while k < j {
+        let black = black_bit(drawing[y]);
+        count += black;
+        let back = opposite(d);
+        y = go(g, y, back);
+        k += 1;
+    }
+    count
+}
+
+// The black cells of a clue's whole line: j is its length.
 fn black_count(g: Grid, record: &[u8], drawing: &[u8], x: usize, d: Direction) -> usize
     requires { ⌜ Drawn g (now «record») (now drawing) ⌝ }
     requires { ⌜ x < size g ⌝ }
@@ -91,17 +121,7 @@ fn black_count(g: Grid, record: &[u8], drawing: &[u8], x: usize, d: Direction) -
 {
     let end = line_end(g, record, x, d);
     let cells = end.cells;
-    let mut y = end.cell;
-    let mut count = 0;
-    let mut j = 0;
-    while j < cells {
-        let black = black_bit(drawing[y]);
-        count += black;
-        let back = opposite(d);
-        y = go(g, y, back);
-        j += 1;
-    }
-    count
+    blacks_nearest(g, record, drawing, x, d, end, cells)
 }
 
 fn unmet_at(g: Grid, record: &[u8], drawing: &[u8], x: usize) -> bool

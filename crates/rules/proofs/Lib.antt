@@ -2,3 +2,4 @@
 pub mod Boards
 pub mod Records
 pub mod Steps
+pub mod Lines

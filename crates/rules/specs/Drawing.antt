@@ -1,7 +1,7 @@
 -- "The drawing and its judge" of document 01: a drawing, its bytes, and what makes it a solution.
 use Prim.Native.Nat.{ℕ, _<_, _+_, _*_, _/_, _%_}
 use lib.Dec.{eqb}
-use lib.ListN.{length, getD}
+use lib.ListN.{length, getD, take}
 use mathlib.Core.Path.{_≡_}
 use mathlib.Core.Bool.{Bool, true, false, not, _&&_}
 use mathlib.Core.Logic.{_⊎_}
@@ -21,6 +21,10 @@ pub record Drawing : Type 0 where
 -- an open cell that is not black
 abbrev pub white : Board → (ℕ → Bool) → ℕ → Bool
 white b black x = b .isOpen x && not (black x)
+
+-- how many of the j cells of a line that are nearest the edge are black: the judge's count after j cells
+abbrev pub blacksNearest : (ℕ → Bool) → List ℕ → ℕ → ℕ
+blacksNearest black line j = howMany black (take j line)
 
 -- each link is matched by the neighbour's opposite link, and stands at a white cell; each white cell has exactly two links
 pub record Links (size : ℕ) (next : Direction → ℕ → Option ℕ) (white : ℕ → Bool) (link : ℕ → Direction → Bool) : Type 0 where

@@ -2,16 +2,15 @@
 use native.Mathlib.Omega.{arith}
 use borrow.Author.Needs.{needs}
 use Prim.Native.Nat.{_-_}
-use mathlib.Core.List.{[]}
-use Rattle.rules.specs.Record.{size}
-use Rattle.rules.specs.Board.{outward, gridBoard}
+use Rattle.rules.specs.Record.{puzzle}
+use Rattle.rules.specs.Board.{gridBoard}
 use Rattle.cell_clauses.specs.Numbered.{blackOf}
-use Rattle.clue_clauses.proofs.Lining.{Lining, line-start, line-end, line-kept, line-inside, line-needs, line-row, line-on}
+use Rattle.clue_clauses.proofs.Lining.{Lining, line-start, line-end, line-kept, line-there, line-needs, line-row, line-on}
 use Rattle.clue_clauses.proofs.past_each.Statement.{statement}
 use Rattle.clue_clauses.proofs.past_each.Tie as tie
 
 abbrev Inv-loop : tie.InvT-loop
-Inv-loop list₀ at g «record» ranks x d n first cells y₀ row₀ i₀ j₀ list y row i j = Lining g d x (blackOf (gridBoard g «record»)) (outward g d (size g) x []) first n list₀ at list y row i j
+Inv-loop list₀ at g «record» ranks x d n first cells y₀ row₀ i₀ j₀ list y row i j = Lining (puzzle g «record») d x (blackOf (gridBoard g «record»)) first n list₀ at list y row i j
 
 abbrev μ-loop : tie.MeasureT-loop
 μ-loop list₀ at g «record» ranks x d n first cells y₀ row₀ i₀ j₀ list y row i j = cells - j
@@ -20,10 +19,10 @@ line-end-requires : tie.Need-line-end-requires Inv-loop μ-loop
 line-end-requires c κs = record { sides = (c .before .before .pre .1 .0) .held .sides; inside = c .before .before .pre .1 .1 .0 }
 
 loop-holds : tie.Need-loop-holds Inv-loop μ-loop
-loop-holds c = line-start (c .before .before .before .args .d) (blackOf (gridBoard (c .before .before .before .args .g) (c .before .before .before .args .«record» .now))) (c .line-end .ensures .0) (c .before .before .before .pre .0)
+loop-holds c = line-start _ _ _ _ (c .line-end .ensures .0) (c .before .before .before .pre .0)
 
 black-number-requires : tie.Need-black-number-requires Inv-loop μ-loop
-black-number-requires c κs = ((c .before .before .before .before .before .pre .1 .0), line-inside (c .before .loop .inv) (omega (arith, (c .before .before .line-end .ensures .1), c .loop-test .taken)))
+black-number-requires c κs = ((c .before .before .before .before .before .pre .1 .0), line-there (c .before .loop .inv) (omega (arith, (c .before .before .line-end .ensures .1), c .loop-test .taken)))
 
 past-cell-requires : tie.Need-past-cell-requires Inv-loop μ-loop
 past-cell-requires c κs = let r = line-row (c .before .before .before .loop .inv) (omega (arith, (c .before .before .before .before .line-end .ensures .1), c .before .before .loop-test .taken)) (c .before .black-number .ensures) in (line-needs (c .before .before .before .loop .inv) (omega (arith, (c .before .before .before .before .line-end .ensures .1), c .before .before .loop-test .taken)) (c .before .black-number .ensures), (omega arith, omega arith))
@@ -32,7 +31,7 @@ opposite-requires : tie.Need-opposite-requires Inv-loop μ-loop
 opposite-requires c κs = search needs
 
 go-requires : tie.Need-go-requires Inv-loop μ-loop
-go-requires c κs = record { sides = (c .before .before .before .before .before .before .before .before .before .before .pre .1 .0) .held .sides; inside = line-inside (c .before .before .before .before .before .before .loop .inv) (omega (arith, (c .before .before .before .before .before .before .before .line-end .ensures .1), c .before .before .before .before .before .loop-test .taken)) }
+go-requires c κs = record { sides = (c .before .before .before .before .before .before .before .before .before .before .pre .1 .0) .held .sides; inside = line-there (c .before .before .before .before .before .before .loop .inv) (omega (arith, (c .before .before .before .before .before .before .before .line-end .ensures .1), c .before .before .before .before .before .loop-test .taken)) }
 
 add-row : tie.Need-add-row Inv-loop μ-loop
 add-row c = let r = line-row (c .before .before .before .before .before .before .before .loop .inv) (omega (arith, (c .before .before .before .before .before .before .before .before .line-end .ensures .1), c .before .before .before .before .before .before .loop-test .taken)) (c .before .before .before .before .before .black-number .ensures) in omega arith
