@@ -1,10 +1,11 @@
--- The clues met so far, in a loop over the cells: what `place-t` and the list of clue lines go by. Assumes nothing.
+-- The clues met so far, in a loop over the cells: what `place-t` and the list of clue lines go by; a cell that is a clue is among them. Assumes nothing.
 use Prim.Native.Nat.{ℕ, zero, suc, _+_, _<_}
 use native.Mathlib.Omega.{arith}
 use native.Mathlib.Numerals.{add-one}
 use lib.ListN.{length, getD, take}
-use mathlib.Core.Path.{_≡_, sym, _∙_, ap}
-use mathlib.Core.List.{List, [], _∷_, _++_, append-assoc, append-nil}
+use mathlib.Core.Path.{_≡_, refl, sym, _∙_, ap}
+use mathlib.Core.List.{List, [], _∷_, _++_, append-assoc, append-nil, List·Memᴰ·head, Memᴰ·append-right}
+use Rattle.answers.specs.Lists.{_∈_}
 use Rattle.rules.specs.declared.Direction.{Direction}
 use Rattle.rules.specs.declared.Cell.{Cell}
 use Rattle.rules.specs.declared.Cell.the-variants.{Open, Clue as Clued}
@@ -36,3 +37,6 @@ module _ (p : Puzzle) where
 
   pub at-clue : (x : ℕ) → x < length (p .cells) → {d : Direction} {n : ℕ} → getD (p .cells) x Open ≡ Clued d n → At (cluesFrom p 0 (p .cells)) (record { cell = x; number = n; line = line p d x }) (cluesFrom p 0 (take x (p .cells)))
   at-clue x h e = let z : 0 + x ≡ x = omega arith in rw z at (at-from (p .cells) 0 x h e)
+
+  pub clue-in : (x : ℕ) → x < length (p .cells) → {d : Direction} {n : ℕ} → getD (p .cells) x Open ≡ Clued d n → record { cell = x; number = n; line = line p d x } ∈ cluesFrom p 0 (p .cells)
+  clue-in x h e = let m = at-clue x h e in rw (m .is) (Memᴰ·append-right (cluesFrom p 0 (take x (p .cells))) (List·Memᴰ·head refl))

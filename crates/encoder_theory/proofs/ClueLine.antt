@@ -2,7 +2,7 @@
 use Prim.Native.Nat.{ℕ, zero, suc, _+_, _≤_, _<_}
 use native.Mathlib.Omega.{arith}
 use native.Mathlib.Decide.{ℕ-discrete}
-use lib.ListN.{length, take}
+use lib.ListN.{length}
 use lib.Dec.{eqb}
 use borrow.Author.Tests.{eqb-true, eqb-false, eq-eqb, ne-eqb}
 use mathlib.Core.Path.{_≡_, refl, sym, _∙_, ap}
@@ -11,6 +11,8 @@ use mathlib.Core.Logic.{inl}
 use mathlib.Core.List.{List, [], _∷_, map, Memᴰ·map, Memᴰ·of-map}
 use Rattle.answers.specs.Lists.{tally, howMany, _∈_}
 use Rattle.answers.proofs.Bools.{off}
+use Rattle.answers.proofs.Lists.{many-all}
+use Rattle.rules.specs.Drawing.{blacksNearest}
 use Rattle.encoder.specs.Lists.{from, upTo, joined}
 use Rattle.encoder.specs.Variables.{Variable, Z, T, countsAt}
 use Rattle.encoder.specs.Clauses.{plus, minus, pairs, oneMore, past, cellParts, cellClauses, lineClauses, never, clueParts}
@@ -22,10 +24,6 @@ use Rattle.encoder_theory.proofs.Views.{unit-plus, unit-minus, next-min
 tally-add : (t : Bool) (k m : ℕ) → tally t k + m ≡ k + tally t m
 tally-add true k m = omega arith
 tally-add false k m = refl
-
-take-all : {A : Type 0} (xs : List A) → take (length xs) xs ≡ xs
-take-all [] = refl
-take-all (x ∷ xs) = ap (λ zs. x ∷ zs) (take-all xs)
 
 -- w a valuation, a the clue's cell, n its number
 module _ (w : Variable → Bool) (isOpen : ℕ → Bool) (a n : ℕ) where
@@ -79,11 +77,11 @@ module _ (w : Variable → Bool) (isOpen : ℕ → Bool) (a n : ℕ) where
       row-of (suc j) (tally (black c) k) (s .0) (s .1) us
 
   -- after i cells more
-  rows : (j k : ℕ) (cs : List ℕ) → Row j k → Holds w (lineClauses isOpen a n j cs) → (i : ℕ) → i ≤ length cs → Row (j + i) (k + howMany black (take i cs))
+  rows : (j k : ℕ) (cs : List ℕ) → Row j k → Holds w (lineClauses isOpen a n j cs) → (i : ℕ) → i ≤ length cs → Row (j + i) (k + blacksNearest black cs i)
   rows j k cs r h zero l = moved (omega arith) (omega arith) r
   rows j k [] r h (suc i) l = absurd (omega arith)
   rows j k (c ∷ cs) r h (suc i) l =
-      moved (omega arith) (tally-add (black c) k (howMany black (take i cs)))
+      moved (omega arith) (tally-add (black c) k (blacksNearest black cs i))
       (rows (suc j) (tally (black c) k) cs (step j k c r (all-left (Sat w) (cellClauses isOpen a n j c) (lineClauses isOpen a n (suc j) cs) h)) (all-right (Sat w) (cellClauses isOpen a n j c) (lineClauses isOpen a n (suc j) cs) h) i (omega arith))
 
   first-row : w (T a 0 0) ≡ true → Holds w (map (never a) (from 1 n)) → Row 0 0
@@ -95,14 +93,14 @@ module _ (w : Variable → Bool) (isOpen : ℕ → Bool) (a n : ℕ) where
 
   -- what T means: of the j cells of the line nearest the edge, t are black
   abbrev pub Counts : List ℕ → Type 0
-  Counts cs = (j t : ℕ) → j ≤ length cs → t ≤ n → w (T a j t) ≡ eqb (howMany black (take j cs)) t
+  Counts cs = (j t : ℕ) → j ≤ length cs → t ≤ n → w (T a j t) ≡ eqb (blacksNearest black cs j) t
 
   module _ (cs : List ℕ) where
     module _ (h : Holds w (joined (clueParts isOpen a n cs))) where
-      pub counts : (j t : ℕ) → j ≤ length cs → t ≤ n → w (T a j t) ≡ eqb (howMany black (take j cs)) t
+      pub counts : Counts cs
       counts j t l k =
           let g = joined-all (Sat w) (clueParts isOpen a n cs) h in
-          let r : Row j (howMany black (take j cs)) = moved (omega arith) (omega arith) (rows 0 0 cs (first-row (unit-plus w (T a 0 0) (g .0 .0)) (g .1 .0)) (g .1 .1 .0) j l) in
+          let r : Row j (blacksNearest black cs j) = moved (omega arith) (omega arith) (rows 0 0 cs (first-row (unit-plus w (T a 0 0) (g .0 .0)) (g .1 .0)) (g .1 .1 .0) j l) in
           r .only t k
 
       -- its line has exactly n black cells
@@ -110,7 +108,7 @@ module _ (w : Variable → Bool) (isOpen : ℕ → Bool) (a n : ℕ) where
       clue-met =
           let g = joined-all (Sat w) (clueParts isOpen a n cs) h in
           let e : w (T a (length cs) n) ≡ true = unit-plus w (T a (length cs) n) (g .1 .1 .1 .0 .0) in
-          ap (howMany black) (sym (take-all cs)) ∙ eqb-true _ _ (sym (counts (length cs) n (omega arith) (omega arith)) ∙ e)
+          sym (many-all black cs refl) ∙ eqb-true _ _ (sym (counts (length cs) n (omega arith) (omega arith)) ∙ e)
 
   -- 2. From the rows to the clauses
 
@@ -142,7 +140,7 @@ module _ (w : Variable → Bool) (isOpen : ℕ → Bool) (a n : ℕ) where
           let y = Memᴰ·of-map (λ t. T a j t) (upTo (suc n)) o in
           sym (x .2) ∙ ap (λ t. T a j t) (sym (is (x .0) (of-upTo (suc n) (x .1)) (ap w (x .2) ∙ p)) ∙ is (y .0) (of-upTo (suc n) (y .1)) (ap w (y .2) ∙ q)) ∙ y .2
 
-  line-of : (j k : ℕ) (cs : List ℕ) → ((i : ℕ) → i ≤ length cs → Row (j + i) (k + howMany black (take i cs))) → Holds w (lineClauses isOpen a n j cs)
+  line-of : (j k : ℕ) (cs : List ℕ) → ((i : ℕ) → i ≤ length cs → Row (j + i) (k + blacksNearest black cs i)) → Holds w (lineClauses isOpen a n j cs)
   line-of j k [] f = tt
   line-of j k (c ∷ cs) f =
       all-append (Sat w) (cellClauses isOpen a n j c) (lineClauses isOpen a n (suc j) cs)
@@ -150,7 +148,7 @@ module _ (w : Variable → Bool) (isOpen : ℕ → Bool) (a n : ℕ) where
         all-each (Sat w) (past (isOpen c) a n j c) (upTo (suc n)) (λ t m. let l = of-upTo (suc n) m in past-of j k c t (isOpen c) (omega arith) this next),
         (pairs-of (suc j) (tally (black c) k) next, tt),
       ))
-      (line-of (suc j) (tally (black c) k) cs (λ i l. moved (omega arith) (sym (tally-add (black c) k (howMany black (take i cs)))) (f (suc i) (omega arith))))
+      (line-of (suc j) (tally (black c) k) cs (λ i l. moved (omega arith) (sym (tally-add (black c) k (blacksNearest black cs i))) (f (suc i) (omega arith))))
     where
       this : Row j k
       this = moved (omega arith) (omega arith) (f 0 (omega arith))
@@ -159,12 +157,12 @@ module _ (w : Variable → Bool) (isOpen : ℕ → Bool) (a n : ℕ) where
       next = moved (omega arith) (sym (tally-add (black c) k 0) ∙ omega arith) (f 1 (omega arith))
 
   -- part of a line has no more black cells than the line
-  part-of : (cs : List ℕ) (i : ℕ) → howMany black (take i cs) ≤ howMany black cs
+  part-of : (cs : List ℕ) (i : ℕ) → blacksNearest black cs i ≤ howMany black cs
   part-of cs zero = omega arith
   part-of [] (suc i) = omega arith
   part-of (c ∷ cs) (suc i) = by (black c) (part-of cs i)
     where
-      by : (t : Bool) → howMany black (take i cs) ≤ howMany black cs → tally t (howMany black (take i cs)) ≤ tally t (howMany black cs)
+      by : (t : Bool) → blacksNearest black cs i ≤ howMany black cs → tally t (blacksNearest black cs i) ≤ tally t (howMany black cs)
       by true h = omega arith
       by false h = h
 
@@ -176,8 +174,8 @@ module _ (w : Variable → Bool) (isOpen : ℕ → Bool) (a n : ℕ) where
         (
           all-map (Sat w) (never a) (from 1 n) (λ t m. let r = of-from 1 n m in inl (h 0 t (omega arith) (omega arith) ∙ ne-eqb 0 t (omega arith))),
           (
-            line-of 0 0 cs (λ i l. moved {i = i} {k = howMany black (take i cs)} (omega arith) (omega arith) (record { bound = (let p = part-of cs i in omega arith); only = λ t k. h i t l k })),
-            ((inl (h (length cs) n (omega arith) (omega arith) ∙ eq-eqb _ _ (ap (howMany black) (take-all cs) ∙ e)), tt), tt),
+            line-of 0 0 cs (λ i l. moved {i = i} {k = blacksNearest black cs i} (omega arith) (omega arith) (record { bound = (let p = part-of cs i in omega arith); only = λ t k. h i t l k })),
+            ((inl (h (length cs) n (omega arith) (omega arith) ∙ eq-eqb _ _ (many-all black cs refl ∙ e)), tt), tt),
           ),
         ),
       )

@@ -1,7 +1,6 @@
 -- The valuation that a solution tells makes the clauses true. Assumes nothing.
 use Prim.Native.Nat.{ℕ, zero, suc, _-_, _≤_, _<_}
 use native.Mathlib.Omega.{arith}
-use lib.ListN.{take}
 use lib.Dec.{eqb, ltb}
 use borrow.Author.Tests.{eqb-true, eq-eqb, ltb-true, not-false}
 use mathlib.Core.Path.{_≡_, refl, sym, _∙_, ap, subst}
@@ -15,7 +14,7 @@ use Rattle.rules.specs.declared.Direction.{Direction}
 use Rattle.rules.specs.declared.Direction.the-variants.{East as east}
 use Rattle.rules.specs.Directions.{opposite}
 use Rattle.rules.specs.Board.{Clue, Board}
-use Rattle.rules.specs.Drawing.{Drawing, white, Solution}
+use Rattle.rules.specs.Drawing.{Drawing, white, blacksNearest, Solution}
 use Rattle.rules.proofs.Boards.{Laws}
 use Rattle.rules_theory.proofs.Directions.{opposite-injective}
 use Rattle.encoder.specs.Lists.{upTo}
@@ -29,7 +28,7 @@ use Rattle.encoder_theory.proofs.Views.{by-minus, by-plus, both-not, pl
 use Rattle.encoder_theory.proofs.Oriented.{Sent}
 use Rattle.encoder_theory.proofs.ClueLine.{black, clue-of}
 use Rattle.encoder_theory.proofs.Read.{white-of, of-white}
-use Rattle.encoder_theory.proofs.Sound.{many-same, open-black}
+use Rattle.encoder_theory.proofs.Sound.{open-black}
 use Rattle.encoder_theory.proofs.Told.{line-is, first, leads, told, told-sent, told-white}
 
 module _ (b : Board) (law : Laws b) (D : Drawing) (sol : Solution b D) where
@@ -52,11 +51,11 @@ module _ (b : Board) (law : Laws b) (D : Drawing) (sol : Solution b D) where
   clue-holds : (c : Clue) → c ∈ b .clues → Holds w (clueClauses (b .isOpen) c)
   clue-holds c m =
       clue-of w (b .isOpen) (c .cell) (c .number) (c .line)
-      (λ j t h k. ap (λ l. eqb (howMany (D .black) (take j l)) t) (line-is (b .clues) (law .clues-apart) c m) ∙ ap (λ n. eqb n t) (sym (count (take j (c .line)))))
-      (count (c .line) ∙ all-at (λ (c : Clue). howMany (D .black) (c .line) ≡ c .number) (sol .met) m)
+      (λ j t h k. ap (λ l. eqb (blacksNearest (D .black) l j) t) (line-is (b .clues) (law .clues-apart) c m) ∙ ap (λ f. eqb (blacksNearest f (c .line) j) t) (sym same))
+      (ap (λ f. howMany f (c .line)) same ∙ all-at (λ (c : Clue). howMany (D .black) (c .line) ≡ c .number) (sol .met) m)
     where
-      count : (xs : List ℕ) → howMany (black w (b .isOpen) (c .cell) (c .number)) xs ≡ howMany (D .black) xs
-      count xs = many-same (black w (b .isOpen) (c .cell) (c .number)) (D .black) xs (open-black (b .isOpen) (D .black) (sol .only-open))
+      same : black w (b .isOpen) (c .cell) (c .number) ≡ D .black
+      same = open-black (b .isOpen) (D .black) (sol .only-open)
 
   -- the families of an open cell
   module _ {x : ℕ} (m : x ∈ opens b) where

@@ -1,17 +1,19 @@
 -- Over any board with the laws: an assignment that satisfies the clause list draws a solution, and each solution is drawn by exactly one of them.
 -- Assumes nothing.
-use Prim.Native.Nat.{ℕ}
-use lib.ListN.{length-map}
+use Prim.Native.Nat.{ℕ, _≤_}
+use lib.Dec.{eqb}
+use lib.ListN.{length, length-map}
 use mathlib.Core.Path.{_≡_, refl, sym, _∙_, ap, fun-ext}
 use mathlib.Core.Bool.{Bool, true, false}
 use mathlib.Core.List.{List, map}
+use Rattle.answers.specs.Lists.{_∈_}
 use Rattle.answers.proofs.Bools.{clash, off, same-tests}
 use Rattle.rules.specs.declared.Direction.{Direction}
-use Rattle.rules.specs.Board.{Board}
-use Rattle.rules.specs.Drawing.{Drawing, drawingAt, SolutionBytes}
+use Rattle.rules.specs.Board.{Clue, Board}
+use Rattle.rules.specs.Drawing.{Drawing, blacksNearest, blackAt, drawingAt, SolutionBytes}
 use Rattle.rules.proofs.Boards.{Laws}
 use Rattle.cnf.specs.Clauses.{Assignment, Satisfies}
-use Rattle.encoder.specs.Variables.{Variable, Z, E, variables, variableCount}
+use Rattle.encoder.specs.Variables.{Variable, Z, E, T, variables, variableCount}
 use Rattle.encoder.specs.Clauses.{clauses, clauseList}
 use Rattle.encoder.specs.Decoding.{drawnLink, drawn}
 use Rattle.encoder.proofs.Known.{Known, of-variables, in-variables}
@@ -19,7 +21,7 @@ use Rattle.encoder_theory.specs.Valuations.{Holds, valuation}
 use Rattle.encoder_theory.proofs.Valuations.{satisfies, valuation-of, same-assignment, satisfied, Proper, proper}
 use Rattle.encoder_theory.proofs.Oriented.{linkOf}
 use Rattle.encoder_theory.proofs.Read.{of-white}
-use Rattle.encoder_theory.proofs.Sound.{drawingOf, sound}
+use Rattle.encoder_theory.proofs.Sound.{drawingOf, counted, sound}
 use Rattle.encoder_theory.proofs.Told.{told, told-sent, told-drawn, settled}
 use Rattle.encoder_theory.proofs.Complete.{complete}
 use Rattle.encoder_theory.proofs.Bytes.{bytesFor, drawing-shown, solution-bytes, bytes-back}
@@ -27,6 +29,13 @@ use Rattle.encoder_theory.proofs.Bytes.{bytesFor, drawing-shown, soluti
 module _ (b : Board) (law : Laws b) where
   pub draws-solution : (a : List Bool) → Assignment (variableCount b) a → Satisfies a (clauseList b) → SolutionBytes b (drawn b (valuation b a))
   draws-solution a e h = solution-bytes b (drawingOf b (valuation b a)) law (sound b law (valuation b a) (proper b a e) (satisfies b a .0 h))
+
+  -- of that drawing's bytes, T(j,t) of a clue tells whether t of the j cells of its line nearest the edge are black
+  pub draws-counts : (a : List Bool) → Assignment (variableCount b) a → Satisfies a (clauseList b) → (c : Clue) → c ∈ b .clues → (j t : ℕ) → j ≤ length (c .line) → t ≤ c .number
+      → valuation b a (T (c .cell) j t) ≡ eqb (blacksNearest (blackAt (drawn b (valuation b a))) (c .line) j) t
+  draws-counts a e h c m j t l k =
+      counted b law (valuation b a) (proper b a e) (satisfies b a .0 h) c m j t l k
+      ∙ ap (λ (D : Drawing). eqb (blacksNearest (D .black) (c .line) j) t) (sym (drawing-shown b (drawingOf b (valuation b a)) law (sound b law (valuation b a) (proper b a e) (satisfies b a .0 h))))
 
   module _ (ds : List ℕ) (S : SolutionBytes b ds) where
     abbrev D : Drawing

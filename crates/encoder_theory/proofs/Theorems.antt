@@ -1,24 +1,30 @@
 -- What is true of a grid's variables, clauses and assignments, each result in one statement. The proofs stand in the files beside this one and in
 -- `encoder`. Nothing is assumed but what a statement says.
-use Prim.Native.Nat.{ℕ, _≤_}
-use lib.ListN.{length}
-use borrow.Author.Tests.{le-ltb}
-use mathlib.Core.Path.{_≡_, sym, _∙_, subst}
-use mathlib.Core.Bool.{Bool, false}
+use Prim.Native.Nat.{ℕ, _≤_, _<_}
+use native.Mathlib.Omega.{arith}
+use lib.Dec.{eqb}
+use lib.ListN.{length, getD}
+use borrow.Author.Tests.{le-ltb, eqb-true, eq-eqb}
+use mathlib.Core.Path.{_≡_, sym, _∙_, ap, subst}
+use mathlib.Core.Bool.{Bool, true, false}
+use mathlib.Core.Logic.{_↔_}
 use mathlib.Core.Option.{none}
 use mathlib.Core.List.{List}
-use Rattle.answers.specs.Lists.{All}
-use Rattle.rules.specs.Record.{Puzzle, IsAccepted}
-use Rattle.rules.specs.Board.{Board, board, boardOf}
-use Rattle.rules.specs.Drawing.{SolutionBytes}
+use Rattle.answers.specs.Lists.{All, _∈_}
+use Rattle.rules.specs.declared.Direction.{Direction}
+use Rattle.rules.specs.declared.Cell.the-variants.{Open, Clue as Clued}
+use Rattle.rules.specs.Record.{Puzzle, puzzle, sides, size, IsAccepted}
+use Rattle.rules.specs.Board.{Board, line, board, boardOf}
+use Rattle.rules.specs.Drawing.{blacksNearest, blackAt, SolutionBytes}
 use Rattle.rules.proofs.Boards.{Laws, Filled}
-use Rattle.rules.proofs.Records.{accepted-laws}
+use Rattle.rules.proofs.Records.{held-filled, accepted-held, accepted-laws}
 use Rattle.cnf.specs.Literals.{mostVariables, tooManyVariables, wrongList}
 use Rattle.cnf.specs.Clauses.{clauseCount}
-use Rattle.encoder.specs.Variables.{variableCount}
+use Rattle.encoder.specs.Variables.{T, variableCount}
 use Rattle.encoder.specs.Clauses.{clauses, clauseList}
 use Rattle.encoder.specs.Decoding.{drawn, Satisfying, DecodesTo}
 use Rattle.encoder.specs.Small.{Small}
+use Rattle.encoder.proofs.Clues.{clue-in}
 use Rattle.encoder.proofs.Bounds as bounds
 use Rattle.encoder.proofs.Sizes as sizes
 use Rattle.encoder_theory.specs.Valuations.{valuation}
@@ -65,3 +71,16 @@ never-turned-down s acc = never-turned-down-on (accepted-laws s acc) (sizes.acce
 -- The number of clauses that the encoder tells is the number of those that its list has.
 pub clauses-told : (b : Board) → clauseCount (clauseList b) ≡ length (clauses b)
 clauses-told = bounds.count-clauses
+
+-- 4. T and the judge's count of a line, side by side (document 02, E3). Of an assignment that satisfies the clauses and the drawing that it decodes to, and a clue
+-- in cell x with its direction and number: T(j,t) holds exactly if the judge, counting its line from the edge, has t black cells after j cells.
+pub side-by-side : (s : List ℕ) → IsAccepted s → (a : List Bool) → Satisfying s a → (ds : List ℕ) → DecodesTo s a ds
+    → (x : ℕ) (d : Direction) (n : ℕ) → x < size (sides s) → getD (puzzle (sides s) s .cells) x Open ≡ Clued d n → (j t : ℕ) → j ≤ length (line (puzzle (sides s) s) d x) → t ≤ n
+    → valuation (boardOf s) a (T x j t) ≡ true ↔ blacksNearest (blackAt ds) (line (puzzle (sides s) s) d x) j ≡ t
+side-by-side s acc a h ds dec x d n inside is j t l k = (λ p. eqb-true _ t (sym e ∙ p), λ p. e ∙ eq-eqb _ t p)
+  where
+    clue : record { cell = x; number = n; line = line (puzzle (sides s) s) d x } ∈ boardOf s .clues
+    clue = let f = held-filled (accepted-held s acc) in clue-in (puzzle (sides s) s) x (omega arith) is
+
+    e : valuation (boardOf s) a (T x j t) ≡ eqb (blacksNearest (blackAt ds) (line (puzzle (sides s) s) d x) j) t
+    e = exactly.draws-counts (boardOf s) (accepted-laws s acc) a (h .gives) (h .satisfies) _ clue j t l k ∙ ap (λ ds. eqb (blacksNearest (blackAt ds) (line (puzzle (sides s) s) d x) j) t) (handed s acc a (h .gives) dec)

@@ -3,7 +3,7 @@
 use Prim.Native.Nat.{ℕ}
 use native.Mathlib.Omega.{arith}
 use native.Mathlib.Decide.{ℕ-discrete}
-use lib.ListN.{take, length-map}
+use lib.ListN.{length-map}
 use lib.Dec.{eqb}
 use borrow.Author.Tests.{eqb-true, eq-eqb}
 use mathlib.Core.Path.{_≡_, refl, sym, _∙_, ap, subst, fun-ext}
@@ -11,11 +11,11 @@ use mathlib.Core.Bool.{Bool, true, false}
 use mathlib.Core.Logic.{_⊎_, inl, inr}
 use mathlib.Core.List.{List, [], _∷_, List·Memᴰ·cases-cons, List·Memᴰ·not-nil, Memᴰ·map}
 use Rattle.answers.specs.First.{Least}
-use Rattle.answers.specs.Lists.{howMany, _∈_, ApartBy}
+use Rattle.answers.specs.Lists.{_∈_, ApartBy}
 use Rattle.answers.proofs.Bools.{clash, off, same-tests}
 use Rattle.rules.specs.declared.Direction.{Direction}
 use Rattle.rules.specs.Board.{Clue, Board}
-use Rattle.rules.specs.Drawing.{Drawing, white, Solution}
+use Rattle.rules.specs.Drawing.{Drawing, white, blacksNearest, Solution}
 use Rattle.rules.proofs.Boards.{Laws}
 use Rattle.rules_theory.proofs.Theorems.{lead}
 use Rattle.rules_theory.proofs.Whole.{lead-reaches}
@@ -30,9 +30,8 @@ use Rattle.encoder_theory.specs.Valuations.{Holds}
 use Rattle.encoder_theory.proofs.Oriented.{Sent}
 use Rattle.encoder_theory.proofs.Settled.{goesOf, aheadOf, Whole, steps, ahead-white, walk-draws, walk-sent, settled-goes, settled-count}
 use Rattle.encoder_theory.proofs.Valuations.{Proper}
-use Rattle.encoder_theory.proofs.ClueLine.{black, counts}
-use Rattle.encoder_theory.proofs.Read.{white-of, of-white, least-one, clue-at, some-start, start-first, start-is, black-nowhere, sent}
-use Rattle.encoder_theory.proofs.Sound.{many-same, open-black}
+use Rattle.encoder_theory.proofs.Read.{white-of, of-white, least-one, some-start, start-first, start-is, black-nowhere, sent}
+use Rattle.encoder_theory.proofs.Sound.{counted}
 
 abbrev pick : {A B : Type 0} → Dec A → B → B → B
 pick (yes e) x y = x
@@ -90,7 +89,7 @@ module _ (b : Board) (law : Laws b) (D : Drawing) (sol : Solution b D) where
   told (S x) = eqb x first
   told (E x d) = goesOf (b .next) (D .link) first length-of-loop x d
   told (Q x k) = aheadOf (b .next) (D .link) first length-of-loop x k
-  told (T a j t) = eqb (howMany (D .black) (take j (lineAt (b .clues) a))) t
+  told (T a j t) = eqb (blacksNearest (D .black) (lineAt (b .clues) a) j) t
 
   -- the bound of the counts: the Z variables tell the white cells apart, and there are F of them
   in-blacks : (x : ℕ) → bright x ≡ true → Z x ∈ blacks b
@@ -130,6 +129,6 @@ module _ (b : Board) (law : Laws b) (D : Drawing) (sol : Solution b D) where
         by false e = let c = settled-count (law .wired) leads whole w-sent links x k (law .open-stays x (h .0)) (white-of b (D .black) x (h .0) e) in same-tests (w (Q x k)) (told (Q x k)) (c .0) (c .1)
         by true e = black-nowhere b law w proper holds x k (h .0) (h .1) (blacks x ∙ e) ∙ sym (off (told (Q x k)) (λ p. clash e (of-white b (D .black) x (told-white x k p) .1)))
     settled (T a j t) (c, m, e, h, k) = subst (λ a. w (T a j t) ≡ told (T a j t)) e (
-        counts w (b .isOpen) (c .cell) (c .number) (c .line) (clue-at b law w proper holds c m) j t h k
-        ∙ ap (λ n. eqb n t) (many-same (black w (b .isOpen) (c .cell) (c .number)) (D .black) (take j (c .line)) (λ x. open-black (b .isOpen) (λ x. w (Z x)) (λ x. proper (Z x)) x ∙ blacks x))
-        ∙ ap (λ l. eqb (howMany (D .black) (take j l)) t) (sym (line-is (b .clues) (law .clues-apart) c m)))
+        counted b law w proper holds c m j t h k
+        ∙ ap (λ f. eqb (blacksNearest f (c .line) j) t) black-path
+        ∙ ap (λ l. eqb (blacksNearest (D .black) l j) t) (sym (line-is (b .clues) (law .clues-apart) c m)))
