@@ -1,5 +1,5 @@
--- Read Demands.antt, the three demands, Following.antt and Budgets.antt, requests E1 and E2, and Stars.antt, the starred cases. The others prove what these need
--- beyond the theories.
+-- Read Demands.antt, the three demands, Following.antt, Budgets.antt and Lines.antt, requests E1, E2 and E3, and Stars.antt, the starred cases. The others prove
+-- what these need beyond the theories.
 pub mod Demands
 pub mod Stars
 pub mod Turning
@@ -8,3 +8,4 @@ pub mod Stepping
 pub mod Searching
 pub mod Following
 pub mod Budgets
+pub mod Lines

@@ -1,5 +1,5 @@
 -- The three demands of the request. Read Demands.antt: each demand is one statement. Table, Searches and Solutions have the words that it needs beyond
--- those of the calls' definitions; Stars has the starred cases of document 01. Following, Budgets: document 02's requests E1 and E2.
+-- those of the calls' definitions; Stars has the starred cases of document 01. Following, Budgets, Lines: document 02's requests E1, E2 and E3.
 pub mod Table
 pub mod Searches
 pub mod Solutions
@@ -7,3 +7,4 @@ pub mod Demands
 pub mod Stars
 pub mod Following
 pub mod Budgets
+pub mod Lines
