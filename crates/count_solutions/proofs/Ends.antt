@@ -10,14 +10,14 @@ use Rattle.answers.specs.Lent.{Wrote}
 use Rattle.answers.proofs.Lent.{wrote-recast}
 use Rattle.rules.specs.Board.{boardOf}
 use Rattle.encoder.specs.Variables.{variableCount}
-use Rattle.counting.specs.declared.Counts.{Counts}
-use Rattle.encode.specs.Answer.{toldCounts}
+use Rattle.encoder_size.specs.declared.Counts.{Counts}
+use Rattle.encoder_call.specs.Answer.{toldCounts}
 use Rattle.search.specs.Run.{IsAccepted}
 use Rattle.solver.specs.Counting.{Many, NoSolution, OneSolution, SeveralSolutions, Unsettled, manyIn, manyOf}
 use Rattle.solver.proofs.Begun as begun
-use Rattle.printing.specs.Programs.{mostHeld, budget}
-use Rattle.printing.proofs.Limits.{printed-text, printed-fits}
-use Rattle.printing.proofs.Encoding.{Encodes, read, variables, listed, unrefused}
+use Rattle.program_text.specs.Programs.{mostHeld, budget}
+use Rattle.program_text.proofs.Limits.{printed-text, printed-fits}
+use Rattle.program_text.proofs.Encoding.{Encodes, read, variables, listed, unrefused}
 use Rattle.count_solutions.specs.Printed.{countLine, printedCount}
 
 module _ {s : List ℕ} {new : List ℤ} {c : Counts} (w : Encodes s (toldCounts c) new) (h : c .variables ≤ mostHeld) where

@@ -9,7 +9,7 @@ use Rattle.search.specs.Trail.{variableValue}
 use Rattle.search.specs.Step.{everyLiteral, firstClause, forcedAt, failedClause, forcedPlace, lowestUnassigned, undo, step}
 use Rattle.search.specs.Run.{run}
 use Rattle.search.specs.Following.{following}
-use Rattle.printing.specs.Lines.{noneLine, oneLine}
+use Rattle.program_text.specs.Lines.{noneLine, oneLine}
 use Rattle.count_solutions.specs.Printed.{printedCount}
 
 -- `07 00 01 00 01 01 00`: 1×1 open

@@ -11,9 +11,9 @@ use Rattle.rules.specs.Drawing.{SolutionBytes}
 use Rattle.demands.specs.Solutions.{OneSolution as HasOne, SeveralSolutions as HasSeveral}
 use Rattle.solver.specs.Counting.{Many, NoSolution, OneSolution, SeveralSolutions, Unsettled, manyOf}
 use Rattle.solver.proofs.Counting.{many-exactly}
-use Rattle.printing.specs.Lines.{noneLine, oneLine, severalLine, haltedLine}
-use Rattle.printing.specs.Programs.{programNumber, budget}
-use Rattle.printing.proofs.Limits.{unrefused, printed-text}
+use Rattle.program_text.specs.Lines.{noneLine, oneLine, severalLine, haltedLine}
+use Rattle.program_text.specs.Programs.{programNumber, budget}
+use Rattle.program_text.proofs.Limits.{unrefused, printed-text}
 use Rattle.count_solutions.specs.Printed.{countLine, printedCount}
 
 -- the lines differ in length

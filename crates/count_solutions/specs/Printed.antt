@@ -3,8 +3,8 @@ use Prim.Native.Nat.{ℕ}
 use mathlib.Core.List.{List}
 use Rattle.rules.specs.Board.{boardOf}
 use Rattle.solver.specs.Counting.{Many, NoSolution, OneSolution, SeveralSolutions, Unsettled, manyOf}
-use Rattle.printing.specs.Lines.{noneLine, oneLine, severalLine, haltedLine}
-use Rattle.printing.specs.Programs.{programNumber, printed, budget}
+use Rattle.program_text.specs.Lines.{noneLine, oneLine, severalLine, haltedLine}
+use Rattle.program_text.specs.Programs.{programNumber, printed, budget}
 
 abbrev pub countLine : Many → List ℕ
 countLine NoSolution = noneLine

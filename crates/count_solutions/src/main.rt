@@ -1,14 +1,14 @@
 // What the dealer asks of a card: reads a record on standard input and prints `none`, `one` or `several` for its grid's solutions, `halted`
 // if the budget does not settle it, or one line such as `refused 3`.
 ghost use Rattle.answers.specs.Lent.{Wrote};
-ghost use Rattle.solution_count.specs.Answer.{meant};
+ghost use Rattle.solver_count.specs.Answer.{meant};
 ghost use Rattle.count_solutions.specs.Printed.{countLine, printedCount};
-use encode::Encoded;
-use encode::encode;
-use printing::put_refused;
-use printing::put_word;
-use solution_count::Many;
-use solution_count::count_solutions;
+use encoder_call::Encoded;
+use encoder_call::encode;
+use program_text::put_refused;
+use program_text::put_word;
+use solver_count::Many;
+use solver_count::count_solutions;
 
 // The list elements that the program holds.
 const MOST_ELEMENTS: usize = 8192;

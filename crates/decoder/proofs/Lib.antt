@@ -1,2 +1,3 @@
--- Laws that the proofs of this crate share.
+-- Laws of the values' bytes, and of the call.
+pub mod Values
 pub mod Answers

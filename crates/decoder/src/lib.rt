@@ -9,14 +9,14 @@ ghost use Rattle.rules.specs.Record.{size, Held};
 ghost use Rattle.rules.specs.Board.{gridBoard};
 ghost use Rattle.rules.specs.Judge.{judgeRows, saysYes, toldVerdict};
 ghost use Rattle.encoder.specs.Decoding.{decoded, decoderAnswer, decoderLeaves};
-ghost use Rattle.drawer.specs.Values.{Numbered};
+ghost use Rattle.decoder.specs.Values.{Numbered};
 ghost use Rattle.decoder.specs.Answer.{valueRows, gridRows, passedUp, toldDecoded};
 use answers::Place;
-use drawer::draw;
+use drawing::draw;
+use encoder_numbers::tables::fill_ranks;
+use encoder_numbers::tables::fill_ways;
+use encoder_numbers::tables::variable_count;
 use judge::judge_grid;
-use numbering::fill_ranks;
-use numbering::fill_ways;
-use numbering::variable_count;
 use rules::Fault;
 use rules::Grid;
 use rules::MOST_CELLS;
@@ -26,6 +26,7 @@ use rules::Verdict;
 use rules::record::read;
 
 pub mod told; // what the answers tell
+mod drawing; // from values to bytes
 
 // Why values are turned down: the record's refusal, else 8, 7 and 9 of document 01's table, else the judge's.
 pub enum Undrawn {

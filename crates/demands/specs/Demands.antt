@@ -3,9 +3,9 @@
 -- "After" is what it leaves in a lent buffer. The function whose contract carries each to the code:
 --   recordAnswer                            the record reader, `rules::record::read`
 --   judgeAnswer                             the judge, `judge::judge`
---   encoderAnswer, encoderLeaves            the encoder, `encode::encode`
+--   encoderAnswer, encoderLeaves            the encoder, `encoder_call::encode`
 --   decoderAnswer, decoderLeaves            the decoder, `decoder::decode`
---   searchAnswer, trailAfter, marksAfter    the search, `searcher::search` (here `bySearch` of what the call gets)
+--   searchAnswer, trailAfter, marksAfter    the search, `search_call::search` (here `bySearch` of what the call gets)
 --   writerAnswer, writerLeaves              the text writer, `dimacs_writer::write`
 --   readerAnswer, readerLeaves              the text reader, `dimacs_reader::read`
 use Prim.Native.Nat.{ℕ, _+_, _-_, _≤_, _<_, _^_}

@@ -1,5 +1,5 @@
 -- Document 02, E1, "Go on to the following solution", as one statement, in its order and words; what is in quotation marks is the request's.
--- The call `next` gets what a search call gets; `nextAnswer`, `nextTrail` and `nextMarks` are carried to the code by the contract of `following::next`.
+-- The call `next` gets what a search call gets; `nextAnswer`, `nextTrail` and `nextMarks` are carried to the code by the contract of `search_next::next`.
 use Prim.Native.Nat.{ℕ, suc, _+_, _-_, _≤_, _<_, _^_}
 use lib.IntN.{ℤ}
 use lib.ListN.{length}

@@ -1,5 +1,5 @@
 -- Document 02, E3, "Line count in the text's order", as one statement, in its order and words; what is in quotation marks is the request's.
--- "The text" is document 004. The judge's counting is `checks::cells::blacks_nearest`: by its contract it hands out `blacksNearest` of the line for each j from 0
+-- "The text" is document 004. The judge's counting is `judge_cells::cells::blacks_nearest`: by its contract it hands out `blacksNearest` of the line for each j from 0
 -- to the line's length. After j cells of the line of a clue in cell x comes `getD line j x`, the clue's own cell x after all of them.
 use Prim.Native.Nat.{ℕ, suc, _≤_, _<_}
 use lib.ListN.{length, getD}

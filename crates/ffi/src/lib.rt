@@ -53,7 +53,7 @@ pub extern "C" fn yajilin_encode(record: &[u8], list: &mut [i32], answer: &mut [
     ensures { λ r. ⌜ now (answer .exit) ≡ words (encoderAnswer (now («record» .entry)) (now (list .entry))) ⌝ }
     ensures { λ r. ⌜ now (list .exit) ≡ encoderLeaves (now («record» .entry)) (now (list .entry)) ⌝ }
 {
-    let encoded = encode::encode(record, list);
+    let encoded = encoder_call::encode(record, list);
     encoded.told().write(answer)
 }
 
@@ -89,7 +89,7 @@ pub extern "C" fn yajilin_search(
     ensures { λ r. ⌜ now (marks .exit) ≡ marksAfter variables (now (list .entry)) (now (trail .entry)) (now (marks .entry)) used budget ⌝ }
     ensures { λ r. ⌜ now (answer .exit) ≡ words (searchAnswer variables (now (list .entry)) (now (trail .entry)) (now (marks .entry)) used budget) ⌝ }
 {
-    let found = searcher::search(
+    let found = search_call::search(
         variables as usize,
         list,
         trail,
@@ -116,7 +116,7 @@ pub extern "C" fn yajilin_next(
     ensures { λ r. ⌜ now (marks .exit) ≡ nextMarks variables (now (list .entry)) (now (trail .entry)) (now (marks .entry)) used budget ⌝ }
     ensures { λ r. ⌜ now (answer .exit) ≡ words (nextAnswer variables (now (list .entry)) (now (trail .entry)) (now (marks .entry)) used budget) ⌝ }
 {
-    let found = following::next(
+    let found = search_next::next(
         variables as usize,
         list,
         trail,

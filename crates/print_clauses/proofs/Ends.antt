@@ -13,11 +13,11 @@ use Rattle.dimacs.specs.Text.{lines, headerLine, textOf}
 use Rattle.encoder.specs.Variables.{variableCount}
 use Rattle.encoder.specs.Clauses.{clauseList}
 use Rattle.encoder.proofs.Bounds.{count-clauses}
-use Rattle.counting.specs.declared.Counts.{Counts}
-use Rattle.encode.specs.Answer.{toldCounts}
-use Rattle.printing.specs.Programs.{mostHeld, printedClauses}
-use Rattle.printing.proofs.Limits.{printed-text}
-use Rattle.printing.proofs.Encoding.{Encodes, counted, variables, listed, unrefused}
+use Rattle.encoder_size.specs.declared.Counts.{Counts}
+use Rattle.encoder_call.specs.Answer.{toldCounts}
+use Rattle.program_text.specs.Programs.{mostHeld, printedClauses}
+use Rattle.program_text.proofs.Limits.{printed-text}
+use Rattle.program_text.proofs.Encoding.{Encodes, counted, variables, listed, unrefused}
 use Rattle.print_clauses.proofs.Fits.{text-fits}
 
 module _ {s : List ℕ} {new : List ℤ} {c : Counts} (w : Encodes s (toldCounts c) new) where

@@ -17,8 +17,8 @@ use Rattle.dimacs_writer.proofs.Lines.{header-length}
 use Rattle.encoder.specs.Variables.{variableCount}
 use Rattle.encoder.specs.Clauses.{clauseList}
 use Rattle.encoder.proofs.Bounds.{Right, list-within}
-use Rattle.printing.specs.Programs.{mostElements, mostHeld, programNumber, printedClauses}
-use Rattle.printing.proofs.Limits.{unrefused, printed-fits}
+use Rattle.program_text.specs.Programs.{mostElements, mostHeld, programNumber, printedClauses}
+use Rattle.program_text.proofs.Limits.{unrefused, printed-fits}
 
 -- at most a sign, four digits and the byte behind them
 signed-short : (l : ℤ) → natAbs l ≤ mostHeld → length (signed l) ≤ 5

@@ -4,12 +4,12 @@ ghost use Prim.Native.Nat.{_+_, _<_};
 ghost use lib.ListN.{length};
 ghost use Rattle.answers.specs.Lent.{Wrote};
 ghost use Rattle.dimacs.specs.Text.{lines, headerLine};
-ghost use Rattle.printing.specs.Programs.{printedClauses};
+ghost use Rattle.program_text.specs.Programs.{printedClauses};
 use dimacs_writer::put_header;
 use dimacs_writer::put_lines;
-use encode::Encoded;
-use encode::encode;
-use printing::put_refused;
+use encoder_call::Encoded;
+use encoder_call::encode;
+use program_text::put_refused;
 
 // The list elements that the program holds.
 const MOST_ELEMENTS: usize = 8192;

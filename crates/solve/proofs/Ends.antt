@@ -23,16 +23,16 @@ use Rattle.encoder.proofs.Lists.{made-long}
 use Rattle.search.specs.Run.{Ending, Found, None, Halted, endingNumber, toldDone}
 use Rattle.search.proofs.Endings.{same-ending}
 use Rattle.solver.specs.Solving.{Lent, roomRows, solverRows, atFound, written, solverAnswer, solverLeaves}
-use Rattle.searcher.specs.declared.Count.{Count}
-use Rattle.solve_grid.specs.declared.Unsolved.{Unsolved}
-use Rattle.solve_grid.specs.declared.Unsolved.the-variants.{Record, TooShort}
-use Rattle.solve_grid.specs.declared.Solved.{Solved}
-use Rattle.solve_grid.specs.declared.Solved.the-variants.{Found as Solution, None as NoSolution, Halted as Stopped, Refused}
-use Rattle.solve_grid.specs.Answer.{toldUnsolved, toldSolved}
-use Rattle.printing.specs.Lines.{refusedLine, noneLine, haltedLine, drawingText}
-use Rattle.printing.specs.Programs.{mostElements, mostHeld, needsMore, programNumber, budget, searched, endText, drawingAt, printedSolution}
-use Rattle.printing.proofs.Putting.{drawing-length}
-use Rattle.printing.proofs.Limits.{limited, clear-parts, clear-accepted, unrefused, same-number, printed-refused, printed-text, printed-fits}
+use Rattle.search_call.specs.declared.Count.{Count}
+use Rattle.solver_call.specs.declared.Unsolved.{Unsolved}
+use Rattle.solver_call.specs.declared.Unsolved.the-variants.{Record, TooShort}
+use Rattle.solver_call.specs.declared.Solved.{Solved}
+use Rattle.solver_call.specs.declared.Solved.the-variants.{Found as Solution, None as NoSolution, Halted as Stopped, Refused}
+use Rattle.solver_call.specs.Answer.{toldUnsolved, toldSolved}
+use Rattle.program_text.specs.Lines.{refusedLine, noneLine, haltedLine, drawingText}
+use Rattle.program_text.specs.Programs.{mostElements, mostHeld, needsMore, programNumber, budget, searched, endText, drawingAt, printedSolution}
+use Rattle.program_text.proofs.Putting.{drawing-length}
+use Rattle.program_text.proofs.Limits.{limited, clear-parts, clear-accepted, unrefused, same-number, printed-refused, printed-text, printed-fits}
 
 -- the buffers that the program lends
 abbrev pub lent : Lent

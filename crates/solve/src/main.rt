@@ -4,14 +4,14 @@ ghost use Prim.Native.Nat.{_≤_};
 ghost use lib.ListN.{length, take};
 ghost use Rattle.answers.specs.Lent.{Wrote};
 ghost use Rattle.rules.specs.Record.{sides, size, Held};
-ghost use Rattle.printing.specs.Lines.{drawingText};
-ghost use Rattle.printing.specs.Programs.{printedSolution};
-use printing::put_drawing;
-use printing::put_refused;
-use printing::put_word;
+ghost use Rattle.program_text.specs.Lines.{drawingText};
+ghost use Rattle.program_text.specs.Programs.{printedSolution};
+use program_text::put_drawing;
+use program_text::put_refused;
+use program_text::put_word;
 use rules::MOST_CELLS;
-use solve_grid::Solved;
-use solve_grid::solve;
+use solver_call::Solved;
+use solver_call::solve;
 
 // The list elements that the program holds.
 const MOST_ELEMENTS: usize = 8192;

@@ -3,7 +3,7 @@ use Prim.Native.Nat.{_≤_}
 use native.Mathlib.Omega.{arith}
 use lib.ListN.{length, take}
 use Rattle.count_solutions.specs.Printed.{printedCount}
-use Rattle.printing.proofs.Limits.{text-inside, text-long}
+use Rattle.program_text.proofs.Limits.{text-inside, text-long}
 use Rattle.count_solutions.proofs.Ends.{count-fits}
 use borrow.Author.Needs.{needs}
 use Rattle.count_solutions.proofs.main.Statement.{statement}

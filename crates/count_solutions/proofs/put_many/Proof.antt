@@ -3,8 +3,8 @@ use Prim.Native.Nat.{ℕ}
 use mathlib.Core.Path.{sym, ap}
 use mathlib.Core.List.{List}
 use Rattle.answers.proofs.Lent.{wrote-recast}
-use Rattle.solution_count.specs.declared.Many.{Many}
-use Rattle.solution_count.specs.Answer.{meant}
+use Rattle.solver_count.specs.declared.Many.{Many}
+use Rattle.solver_count.specs.Answer.{meant}
 use Rattle.count_solutions.specs.Printed.{countLine}
 use borrow.Author.Needs.{needs}
 use Rattle.count_solutions.proofs.put_many.Statement.{statement}

@@ -12,7 +12,7 @@ use Rattle.rules.specs.Judge.{judgeRows, saysYes}
 use Rattle.encoder.specs.Variables.{variableCount}
 use Rattle.encoder.specs.Decoding.{decoded}
 use Rattle.encoder.proofs.Places.{rank, waysBelow}
-use Rattle.numbering.proofs.Filling.{table-filled}
+use Rattle.encoder_numbers.proofs.Filling.{table-filled}
 use Rattle.decoder.specs.Answer.{toldDecoded, valueRows}
 use Rattle.decoder.proofs.Answers.{ends-refused, refused-first, passed-first, values-clear, lengths-right}
 use borrow.Author.Needs.{needs}

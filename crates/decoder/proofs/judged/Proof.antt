@@ -10,7 +10,7 @@ use Rattle.rules.specs.Board.{gridBoard}
 use Rattle.rules.specs.Judge.{judgeRows, saysYes}
 use Rattle.encoder.specs.Decoding.{decoded}
 use Rattle.encoder.proofs.Lists.{made-long}
-use Rattle.drawer.specs.Values.{byteAt}
+use Rattle.decoder.specs.Values.{byteAt}
 use Rattle.decoder.specs.Answer.{toldDecoded}
 use Rattle.decoder.proofs.Answers.{ends-refused, ends-yes, front, copied}
 use borrow.Author.Needs.{needs}

@@ -2,7 +2,7 @@
 use mathlib.Core.Path.{_∙_}
 use Rattle.rules.specs.Record.{puzzle}
 use Rattle.rules.proofs.Records.{held-filled}
-use Rattle.checks.proofs.Checks.{unmet-first}
+use Rattle.judge_cells.proofs.Checks.{unmet-first}
 use borrow.Author.Needs.{needs}
 use Rattle.judge.proofs.clue_not_met.Statement.{statement}
 use Rattle.judge.proofs.clue_not_met.Tie as tie

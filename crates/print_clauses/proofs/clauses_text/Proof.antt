@@ -2,11 +2,11 @@
 use native.Mathlib.Omega.{arith}
 use mathlib.Core.Path.{_≡_, refl, sym, ap}
 use Rattle.answers.proofs.Lent.{wrote-recast}
-use Rattle.counting.specs.declared.Counts.{Counts}
-use Rattle.encode.specs.declared.Encoded.the-variants.{Listed}
-use Rattle.encode.specs.Answer.{toldCounts, toldEncoded}
-use Rattle.encode.proofs.Ends.{refused-number}
-use Rattle.printing.proofs.Encoding.{Encodes, told-as, refused-line, large-line, listed-inside, listed-long}
+use Rattle.encoder_size.specs.declared.Counts.{Counts}
+use Rattle.encoder_call.specs.declared.Encoded.the-variants.{Listed}
+use Rattle.encoder_call.specs.Answer.{toldCounts, toldEncoded}
+use Rattle.encoder_call.proofs.Ends.{refused-number}
+use Rattle.program_text.proofs.Encoding.{Encodes, told-as, refused-line, large-line, listed-inside, listed-long}
 use Rattle.print_clauses.proofs.Ends.{listed-fits, ends-listed}
 use borrow.Author.Needs.{needs}
 use Rattle.print_clauses.proofs.clauses_text.Statement.{statement}

@@ -2,8 +2,8 @@
 use Prim.Native.Nat.{_≤_}
 use native.Mathlib.Omega.{arith}
 use lib.ListN.{length, take}
-use Rattle.printing.specs.Programs.{printedClauses}
-use Rattle.printing.proofs.Limits.{text-inside, text-long}
+use Rattle.program_text.specs.Programs.{printedClauses}
+use Rattle.program_text.proofs.Limits.{text-inside, text-long}
 use Rattle.print_clauses.proofs.Fits.{clauses-fit}
 use borrow.Author.Needs.{needs}
 use Rattle.print_clauses.proofs.main.Statement.{statement}

@@ -2,8 +2,8 @@
 use Prim.Native.Nat.{_≤_}
 use native.Mathlib.Omega.{arith}
 use lib.ListN.{length, take}
-use Rattle.printing.specs.Programs.{printedSolution}
-use Rattle.printing.proofs.Limits.{text-inside, text-long}
+use Rattle.program_text.specs.Programs.{printedSolution}
+use Rattle.program_text.proofs.Limits.{text-inside, text-long}
 use Rattle.solve.proofs.Ends.{solution-fits}
 use borrow.Author.Needs.{needs}
 use Rattle.solve.proofs.main.Statement.{statement}

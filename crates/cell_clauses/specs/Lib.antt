@@ -1,3 +1,0 @@
--- The clauses of an open cell by numbers: families 1, 3, 4 and 5 of document 01. Numbered: which numbers the cell of a board has.
-pub mod Cell
-pub mod Numbered

@@ -1,2 +1,0 @@
--- Laws of the numbers of a cell's variables.
-pub mod Sides

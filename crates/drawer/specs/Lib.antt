@@ -1,2 +1,0 @@
--- Values of the variables with their tables, and the bytes that they give.
-pub mod Values

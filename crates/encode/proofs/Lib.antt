@@ -1,2 +1,0 @@
--- How the call ends.
-pub mod Ends

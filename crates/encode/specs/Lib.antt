@@ -1,2 +1,0 @@
--- What the encoder's answer tells.
-pub mod Answer

@@ -1,0 +1,3 @@
+-- Laws of the families cell by cell, and of the call.
+pub mod EachCell
+pub mod Ends

@@ -1,0 +1,131 @@
+// Writes the families of clauses, in document 01's order.
+ghost use Prim.Native.Nat.{_<_};
+ghost use Rattle.answers.specs.Lent.{Wrote};
+ghost use Rattle.rules.specs.Record.{size};
+ghost use Rattle.rules.specs.Board.{gridBoard};
+ghost use Rattle.encoder.specs.Lists.{each, joined};
+ghost use Rattle.encoder.specs.Variables.{opens};
+ghost use Rattle.encoder.specs.Clauses.{start, clauseList};
+ghost use Rattle.encoder.proofs.Emitting.{listOf, atCell};
+ghost use Rattle.encoder_shapes.specs.Writable.{Writable};
+ghost use Rattle.encoder_numbers.specs.Tables.{Tables};
+ghost use Rattle.encoder_call.specs.Families.{familyAt, familyParts};
+use super::Family;
+use encoder_cells::distance_at;
+use encoder_cells::links_at;
+use encoder_cells::start_at;
+use encoder_cells::touching_at;
+use encoder_lines::clue_lines;
+use encoder_numbers::Around;
+use encoder_numbers::cells::around;
+use encoder_numbers::tables::open_bit;
+use encoder_shapes::all_of;
+use rules::Grid;
+
+// What a family says of an open cell.
+fn open_cell(family: Family, list: &mut [i32], at: usize, f: usize, x: Around) -> usize
+    requires { ⌜ Writable at (joined (familyParts «family» f x)) ⌝ }
+    requires { ⌜ (0 < f) × (x .ahead < 16777217) ⌝ }
+    ensures { λ r. ⌜ Wrote (now (list .entry)) at (joined (familyParts «family» f x)) (now (list .exit)) r ⌝ }
+{
+    match family {
+        Family::Touching => touching_at(list, at, x),
+        Family::Links => links_at(list, at, x),
+        Family::Start => start_at(list, at, x),
+        Family::Distance => distance_at(list, at, f, x),
+    }
+}
+
+// What a family says of a cell: nothing of a clue.
+fn cell(
+    family: Family,
+    list: &mut [i32],
+    at: usize,
+    g: Grid,
+    record: &[u8],
+    f: usize,
+    a: usize,
+    ranks: &[usize],
+    firsts: &[usize],
+    x: usize,
+) -> usize
+    requires { ⌜ Writable at (listOf (gridBoard g (now «record»)) (atCell (gridBoard g (now «record»)) (familyAt «family» (gridBoard g (now «record»))) x)) ⌝ }
+    requires { ⌜ Tables g (now «record») f a (now ranks) (now firsts) ⌝ }
+    requires { ⌜ x < size g ⌝ }
+    ensures { λ r. ⌜ Wrote (now (list .entry)) at (listOf (gridBoard g (now («record» .entry))) (atCell (gridBoard g (now («record» .entry))) (familyAt «family» (gridBoard g (now («record» .entry)))) x)) (now (list .exit)) r ⌝ }
+{
+    let open = open_bit(g, record, x);
+    if open == 0 {
+        return at;
+    }
+    let near = around(g, record, f, a, ranks, firsts, x);
+    open_cell(family, list, at, f, near)
+}
+
+// What a family says of all cells.
+fn cells(
+    family: Family,
+    list: &mut [i32],
+    at: usize,
+    g: Grid,
+    record: &[u8],
+    f: usize,
+    a: usize,
+    ranks: &[usize],
+    firsts: &[usize],
+) -> usize
+    requires { ⌜ Writable at (listOf (gridBoard g (now «record»)) (each (opens (gridBoard g (now «record»))) (familyAt «family» (gridBoard g (now «record»))))) ⌝ }
+    requires { ⌜ Tables g (now «record») f a (now ranks) (now firsts) ⌝ }
+    ensures { λ r. ⌜ Wrote (now (list .entry)) at (listOf (gridBoard g (now («record» .entry))) (each (opens (gridBoard g (now («record» .entry)))) (familyAt «family» (gridBoard g (now («record» .entry)))))) (now (list .exit)) r ⌝ }
+{
+    let n = g.size();
+    let mut i = at;
+    let mut k = 0;
+    while k < n {
+        i = cell(family, list, i, g, record, f, a, ranks, firsts, k);
+        k += 1;
+    }
+    i
+}
+
+// 4. Start: [all S], whose numbers come after those of Z; then cell by cell.
+fn start(
+    list: &mut [i32],
+    at: usize,
+    g: Grid,
+    record: &[u8],
+    f: usize,
+    a: usize,
+    ranks: &[usize],
+    firsts: &[usize],
+) -> usize
+    requires { ⌜ Writable at (listOf (gridBoard g (now «record»)) (start (gridBoard g (now «record»)))) ⌝ }
+    requires { ⌜ Tables g (now «record») f a (now ranks) (now firsts) ⌝ }
+    ensures { λ r. ⌜ Wrote (now (list .entry)) at (listOf (gridBoard g (now («record» .entry))) (start (gridBoard g (now («record» .entry))))) (now (list .exit)) r ⌝ }
+{
+    let i = all_of(list, at, f + 1, f);
+    cells(Family::Start, list, i, g, record, f, a, ranks, firsts)
+}
+
+// All families, in order.
+pub fn all_families(
+    list: &mut [i32],
+    at: usize,
+    g: Grid,
+    record: &[u8],
+    f: usize,
+    a: usize,
+    ranks: &[usize],
+    firsts: &[usize],
+) -> usize
+    requires { ⌜ Writable at (clauseList (gridBoard g (now «record»))) ⌝ }
+    requires { ⌜ Tables g (now «record») f a (now ranks) (now firsts) ⌝ }
+    ensures { λ r. ⌜ Wrote (now (list .entry)) at (clauseList (gridBoard g (now («record» .entry)))) (now (list .exit)) r ⌝ }
+{
+    let counts = f + f + a + f * f + 1;
+    let i = cells(Family::Touching, list, at, g, record, f, a, ranks, firsts);
+    let i = clue_lines(list, i, g, record, ranks, counts);
+    let i = cells(Family::Links, list, i, g, record, f, a, ranks, firsts);
+    let i = start(list, i, g, record, f, a, ranks, firsts);
+    cells(Family::Distance, list, i, g, record, f, a, ranks, firsts)
+}

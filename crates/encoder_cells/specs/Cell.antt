@@ -1,0 +1,77 @@
+-- The clauses of an open cell, family by family, by the numbers of their variables. 0 stands for a variable that is not there.
+use Prim.Native.Nat.{ℕ, zero, suc, _+_, _-_}
+use lib.IntN.{ℤ, pos}
+use mathlib.Core.List.{List, [], _∷_, _++_}
+use Rattle.encoder.specs.Lists.{joined}
+use Rattle.encoder_shapes.specs.Shapes.{no, notBoth, implies, orNot, anyOf, eachNotBoth, eachImplies, eachBothImply}
+use Rattle.encoder_numbers.specs.declared.Side.{Side}
+use Rattle.encoder_numbers.specs.declared.Around.{Around}
+
+-- nothing for a variable that is not there
+abbrev pub optional : ℕ → List ℤ → List ℤ
+optional zero xs = []
+optional (suc n) xs = xs
+
+-- a literal, and [−a −b], where they are there
+abbrev pub literalIf : ℕ → List ℤ
+literalIf a = optional a (pos a ∷ [])
+
+abbrev pub notBothIf : ℕ → ℕ → List ℤ
+notBothIf a b = optional a (optional b (notBoth a b))
+
+-- [z, those of four that are there], and the pairs of these
+abbrev pub anyParts : ℕ → ℕ → ℕ → ℕ → ℕ → List (List ℤ)
+anyParts z n e s w = (pos z ∷ []) ∷ literalIf n ∷ literalIf e ∷ literalIf s ∷ literalIf w ∷ (pos 0 ∷ []) ∷ []
+
+abbrev pub pairParts : ℕ → ℕ → ℕ → ℕ → List (List ℤ)
+pairParts n e s w = notBothIf n e ∷ notBothIf n s ∷ notBothIf n w ∷ notBothIf e s ∷ notBothIf e w ∷ notBothIf s w ∷ []
+
+-- 1. Touching: [−Zx −Zy], east then south
+abbrev pub touchingParts : Around → List (List ℤ)
+touchingParts x = notBothIf (x .black) (x .east .black) ∷ notBothIf (x .black) (x .south .black) ∷ []
+
+-- 3. Links: [−e −Zx] [−e −Zy]
+abbrev pub whiteEnds : ℕ → Side → List ℤ
+whiteEnds z y = optional (y .out) (notBoth (y .out) z ++ notBoth (y .out) (y .black))
+
+abbrev pub whiteParts : Around → List (List ℤ)
+whiteParts x = whiteEnds (x .black) (x .north) ∷ whiteEnds (x .black) (x .east) ∷ whiteEnds (x .black) (x .south) ∷ whiteEnds (x .black) (x .west) ∷ []
+
+-- [−(x→y) −(y→x)], east then south
+abbrev pub oneWayParts : Around → List (List ℤ)
+oneWayParts x = notBothIf (x .east .out) (x .east .back) ∷ notBothIf (x .south .out) (x .south .back) ∷ []
+
+abbrev pub linkParts : Around → List (List ℤ)
+linkParts x =
+    joined (whiteParts x) ∷
+    joined (anyParts (x .black) (x .north .out) (x .east .out) (x .south .out) (x .west .out)) ∷
+    joined (pairParts (x .north .out) (x .east .out) (x .south .out) (x .west .out)) ∷
+    joined (anyParts (x .black) (x .north .back) (x .east .back) (x .south .back) (x .west .back)) ∷
+    joined (pairParts (x .north .back) (x .east .back) (x .south .back) (x .west .back)) ∷
+    joined (oneWayParts x) ∷
+    []
+
+-- 4. Start: [−Sx x→east], or [−Sx]
+abbrev pub eastwardParts : ℕ → ℕ → List (List ℤ)
+eastwardParts s e = (no s ∷ []) ∷ literalIf e ∷ (pos 0 ∷ []) ∷ []
+
+-- [−Sx −Zx]; [−Sx Zy] for those of lower rank, whose numbers are 1 to the rank of x
+abbrev pub startParts : Around → List (List ℤ)
+startParts x = notBoth (x .start) (x .black) ∷ eachImplies (x .start) 1 (x .rank) ∷ joined (eastwardParts (x .start) (x .east .out)) ∷ []
+
+-- 5. Distance, with F open cells: [−(x→y) −Q(x,k) Q(y,k−1)] for k = 1 to F − 1
+abbrev pub nearer : ℕ → ℕ → Side → List ℤ
+nearer q f y = optional (y .out) (eachBothImply (y .out) (q + 1) (y .ahead) (f - 1))
+
+abbrev pub nearerParts : ℕ → Around → List (List ℤ)
+nearerParts f x = nearer (x .ahead) f (x .north) ∷ nearer (x .ahead) f (x .east) ∷ nearer (x .ahead) f (x .south) ∷ nearer (x .ahead) f (x .west) ∷ []
+
+abbrev pub distanceParts : ℕ → Around → List (List ℤ)
+distanceParts f x =
+    anyOf (x .black) (x .ahead) f ∷
+    eachNotBoth (x .black) (x .ahead) f ∷
+    implies (x .start) (x .ahead) ∷
+    orNot (x .start) (x .ahead) ∷
+    eachNotBoth (x .start) (x .ahead + 1) (f - 1) ∷
+    joined (nearerParts f x) ∷
+    []

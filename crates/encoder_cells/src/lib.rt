@@ -1,0 +1,200 @@
+// Writes the clauses of an open cell: families 1, 3, 4 and 5 of document 01, by the numbers of their variables.
+ghost use Prim.Native.Nat.{_+_, _-_, _<_};
+ghost use Rattle.answers.specs.Lent.{Wrote};
+ghost use Rattle.encoder.specs.Lists.{joined};
+ghost use Rattle.encoder_shapes.specs.Writable.{Writable};
+ghost use Rattle.encoder_cells.specs.Cell.{literalIf, notBothIf, anyParts, pairParts, touchingParts, whiteEnds, whiteParts, oneWayParts, linkParts, eastwardParts, startParts, nearer, nearerParts, distanceParts};
+use cnf::put;
+use cnf::put_not;
+use encoder_numbers::Around;
+use encoder_numbers::Side;
+use encoder_shapes::any_of;
+use encoder_shapes::each_both_imply;
+use encoder_shapes::each_implies;
+use encoder_shapes::each_not_both;
+use encoder_shapes::implies;
+use encoder_shapes::not_both;
+use encoder_shapes::or_not;
+
+fn literal_if(list: &mut [i32], at: usize, a: usize) -> usize
+    requires { ⌜ Writable at (literalIf a) ⌝ }
+    ensures { λ r. ⌜ Wrote (now (list .entry)) at (literalIf a) (now (list .exit)) r ⌝ }
+{
+    if a == 0 {
+        return at;
+    }
+    put(list, at, a)
+}
+
+// [−a −b], if both are there.
+fn not_both_if(list: &mut [i32], at: usize, a: usize, b: usize) -> usize
+    requires { ⌜ Writable at (notBothIf a b) ⌝ }
+    ensures { λ r. ⌜ Wrote (now (list .entry)) at (notBothIf a b) (now (list .exit)) r ⌝ }
+{
+    if a == 0 {
+        return at;
+    }
+    if b == 0 {
+        return at;
+    }
+    not_both(list, at, a, b)
+}
+
+// 1. Touching.
+pub fn touching_at(list: &mut [i32], at: usize, x: Around) -> usize
+    requires { ⌜ Writable at (joined (touchingParts x)) ⌝ }
+    ensures { λ r. ⌜ Wrote (now (list .entry)) at (joined (touchingParts x)) (now (list .exit)) r ⌝ }
+{
+    let i = not_both_if(list, at, x.black, x.east.black);
+    not_both_if(list, i, x.black, x.south.black)
+}
+
+// [z, those of the four that are there]
+fn any_four(list: &mut [i32], at: usize, z: usize, n: usize, e: usize, s: usize, w: usize) -> usize
+    requires { ⌜ Writable at (joined (anyParts z n e s w)) ⌝ }
+    ensures { λ r. ⌜ Wrote (now (list .entry)) at (joined (anyParts z n e s w)) (now (list .exit)) r ⌝ }
+{
+    let i = put(list, at, z);
+    let i = literal_if(list, i, n);
+    let i = literal_if(list, i, e);
+    let i = literal_if(list, i, s);
+    let i = literal_if(list, i, w);
+    put(list, i, 0)
+}
+
+// [−a −b], for each pair of the four that are there.
+fn pairs_four(list: &mut [i32], at: usize, n: usize, e: usize, s: usize, w: usize) -> usize
+    requires { ⌜ Writable at (joined (pairParts n e s w)) ⌝ }
+    ensures { λ r. ⌜ Wrote (now (list .entry)) at (joined (pairParts n e s w)) (now (list .exit)) r ⌝ }
+{
+    let i = not_both_if(list, at, n, e);
+    let i = not_both_if(list, i, n, s);
+    let i = not_both_if(list, i, n, w);
+    let i = not_both_if(list, i, e, s);
+    let i = not_both_if(list, i, e, w);
+    not_both_if(list, i, s, w)
+}
+
+// [−(x→y) −Zx] [−(x→y) −Zy]
+fn white_ends(list: &mut [i32], at: usize, z: usize, y: Side) -> usize
+    requires { ⌜ Writable at (whiteEnds z y) ⌝ }
+    ensures { λ r. ⌜ Wrote (now (list .entry)) at (whiteEnds z y) (now (list .exit)) r ⌝ }
+{
+    if y.out == 0 {
+        return at;
+    }
+    let i = not_both(list, at, y.out, z);
+    not_both(list, i, y.out, y.black)
+}
+
+fn all_white_ends(list: &mut [i32], at: usize, x: Around) -> usize
+    requires { ⌜ Writable at (joined (whiteParts x)) ⌝ }
+    ensures { λ r. ⌜ Wrote (now (list .entry)) at (joined (whiteParts x)) (now (list .exit)) r ⌝ }
+{
+    let i = white_ends(list, at, x.black, x.north);
+    let i = white_ends(list, i, x.black, x.east);
+    let i = white_ends(list, i, x.black, x.south);
+    white_ends(list, i, x.black, x.west)
+}
+
+// [−(x→y) −(y→x)], east then south.
+fn one_ways(list: &mut [i32], at: usize, x: Around) -> usize
+    requires { ⌜ Writable at (joined (oneWayParts x)) ⌝ }
+    ensures { λ r. ⌜ Wrote (now (list .entry)) at (joined (oneWayParts x)) (now (list .exit)) r ⌝ }
+{
+    let i = not_both_if(list, at, x.east.out, x.east.back);
+    not_both_if(list, i, x.south.out, x.south.back)
+}
+
+// 3. Links.
+pub fn links_at(list: &mut [i32], at: usize, x: Around) -> usize
+    requires { ⌜ Writable at (joined (linkParts x)) ⌝ }
+    ensures { λ r. ⌜ Wrote (now (list .entry)) at (joined (linkParts x)) (now (list .exit)) r ⌝ }
+{
+    let i = all_white_ends(list, at, x);
+    let i = any_four(
+        list,
+        i,
+        x.black,
+        x.north.out,
+        x.east.out,
+        x.south.out,
+        x.west.out,
+    );
+    let i = pairs_four(list, i, x.north.out, x.east.out, x.south.out, x.west.out);
+    let i = any_four(
+        list,
+        i,
+        x.black,
+        x.north.back,
+        x.east.back,
+        x.south.back,
+        x.west.back,
+    );
+    let i = pairs_four(
+        list,
+        i,
+        x.north.back,
+        x.east.back,
+        x.south.back,
+        x.west.back,
+    );
+    one_ways(list, i, x)
+}
+
+// [−Sx x→east], or [−Sx] without an open east neighbour.
+fn eastward(list: &mut [i32], at: usize, s: usize, e: usize) -> usize
+    requires { ⌜ Writable at (joined (eastwardParts s e)) ⌝ }
+    ensures { λ r. ⌜ Wrote (now (list .entry)) at (joined (eastwardParts s e)) (now (list .exit)) r ⌝ }
+{
+    let i = put_not(list, at, s);
+    let i = literal_if(list, i, e);
+    put(list, i, 0)
+}
+
+// 4. Start.
+pub fn start_at(list: &mut [i32], at: usize, x: Around) -> usize
+    requires { ⌜ Writable at (joined (startParts x)) ⌝ }
+    ensures { λ r. ⌜ Wrote (now (list .entry)) at (joined (startParts x)) (now (list .exit)) r ⌝ }
+{
+    let i = not_both(list, at, x.start, x.black);
+    let i = each_implies(list, i, x.start, 1, x.rank);
+    eastward(list, i, x.start, x.east.out)
+}
+
+// [−(x→y) −Q(x,k) Q(y,k−1)], k = 1 to F − 1.
+fn nearer(list: &mut [i32], at: usize, q: usize, f: usize, y: Side) -> usize
+    requires { ⌜ Writable at (nearer q f y) ⌝ }
+    requires { ⌜ (0 < f) × (q < 16777217) ⌝ }
+    ensures { λ r. ⌜ Wrote (now (list .entry)) at (nearer q f y) (now (list .exit)) r ⌝ }
+{
+    if y.out == 0 {
+        return at;
+    }
+    each_both_imply(list, at, y.out, q + 1, y.ahead, f - 1)
+}
+
+fn all_nearer(list: &mut [i32], at: usize, f: usize, x: Around) -> usize
+    requires { ⌜ Writable at (joined (nearerParts f x)) ⌝ }
+    requires { ⌜ (0 < f) × (x .ahead < 16777217) ⌝ }
+    ensures { λ r. ⌜ Wrote (now (list .entry)) at (joined (nearerParts f x)) (now (list .exit)) r ⌝ }
+{
+    let i = nearer(list, at, x.ahead, f, x.north);
+    let i = nearer(list, i, x.ahead, f, x.east);
+    let i = nearer(list, i, x.ahead, f, x.south);
+    nearer(list, i, x.ahead, f, x.west)
+}
+
+// 5. Distance.
+pub fn distance_at(list: &mut [i32], at: usize, f: usize, x: Around) -> usize
+    requires { ⌜ Writable at (joined (distanceParts f x)) ⌝ }
+    requires { ⌜ (0 < f) × (x .ahead < 16777217) ⌝ }
+    ensures { λ r. ⌜ Wrote (now (list .entry)) at (joined (distanceParts f x)) (now (list .exit)) r ⌝ }
+{
+    let i = any_of(list, at, x.black, x.ahead, f);
+    let i = each_not_both(list, i, x.black, x.ahead, f);
+    let i = implies(list, i, x.start, x.ahead);
+    let i = or_not(list, i, x.start, x.ahead);
+    let i = each_not_both(list, i, x.start, x.ahead + 1, f - 1);
+    all_nearer(list, i, f, x)
+}

@@ -1,0 +1,88 @@
+-- The clues of a grid, cell by cell: what a cell gives, and the number of its first T variable. Assumes nothing.
+use Prim.Native.Nat.{ℕ, zero, suc, _+_, _*_, _≤_, _<_, _^_}
+use native.Mathlib.Omega.{arith}
+use native.Mathlib.Nat.{mul-le-mul}
+use native.Mathlib.Numerals.{add-one}
+use lib.ListN.{length, getD, take, length-map}
+use lib.Seq.{take-all}
+use mathlib.Core.Path.{_≡_, refl, sym, _∙_, ap}
+use mathlib.Core.List.{List, [], _++_, map, append-nil}
+use Rattle.rules.specs.declared.Direction.{Direction}
+use Rattle.rules.specs.declared.Cell.{Cell}
+use Rattle.rules.specs.declared.Cell.the-variants.{Open, Clue as Clued}
+use Rattle.rules.specs.declared.Grid.{Grid}
+use Rattle.rules.specs.Record.{size, puzzle, Held}
+use Rattle.rules.specs.Board.{Clue, line, clueOf, cluesFrom, gridBoard}
+use Rattle.rules.proofs.Records.{held-filled}
+use Rattle.encoder.specs.Lists.{upTo, each, joined}
+use Rattle.encoder.specs.Variables.{T, openCount, number}
+use Rattle.encoder.specs.Clauses.{clueClauses, clueLines}
+use Rattle.encoder.proofs.Lists.{each-append}
+use Rattle.encoder.proofs.Places.{place-t}
+use Rattle.encoder.proofs.Clues.{clues-next, at-clue}
+use Rattle.encoder.proofs.Emitting.{each-next, listOf, list-each}
+use Rattle.encoder_numbers.proofs.Numbers.{countsOf, counts-on, line-few, below-few, rank-few, ways-few}
+use Rattle.encoder_numbers.specs.Numbered.{blackOf}
+use Rattle.encoder_numbers.proofs.Sides.{held-laws}
+use Rattle.encoder_lines.specs.Line.{clueNumbers, clueAt, firstCount}
+use Rattle.encoder_lines.proofs.Numbers.{clue-list}
+
+-- the number of the last T variable, with the line's length counted
+pub last-is : (first n : ℕ) (black : ℕ → ℕ) (xs : List ℕ) {cells : ℕ} → cells ≡ length xs → first + cells * (n + 1) + n ≡ first + length (map black xs) * (n + 1) + n
+last-is first n black xs e = ap (λ k. first + k * (n + 1) + n) (e ∙ sym (length-map xs black))
+
+pub last-few : {g : Grid} {s : List ℕ} {x n cells : ℕ} (d : Direction) → Held g s → x < size g → n < 256 → cells ≡ length (line (puzzle g s) d x) → cells * (n + 1) ≤ 576 * 256
+last-few d h l k e = mul-le-mul {n₂ = 576} {m₂ = 256} (omega (arith, line-few h l d)) (omega arith)
+
+module _ {g : Grid} {s : List ℕ} (h : Held g s) (x : ℕ) (l : x < size g) {c : Cell} (e : c ≡ getD (puzzle g s .cells) x Open) where
+  -- no clue, or a clue
+  pub clue-none : c ≡ Open → [] ≡ listOf (gridBoard g s) (clueAt (puzzle g s) x)
+  clue-none q = ap (λ c. listOf (gridBoard g s) (each (clueOf (puzzle g s) x c) (clueClauses (gridBoard g s .isOpen)))) (sym q ∙ e)
+
+  pub clue-some : {d : Direction} {n first : ℕ} → c ≡ Clued d n → first ≡ firstCount g s x → listOf (gridBoard g s) (clueAt (puzzle g s) x) ≡ joined (clueNumbers first n (map (blackOf (gridBoard g s)) (line (puzzle g s) d x)))
+  clue-some {d} {n} {first} q f =
+      let b = gridBoard g s in
+      let p = puzzle g s in
+      let w = held-filled h in
+      let k : Clue = record { cell = x; number = n; line = line p d x } in
+      let m = at-clue p x (omega arith) (sym e ∙ q) in
+      let z : number b (T x 0 0) ≡ first = (let r = place-t b (held-laws h) k (cluesFrom p 0 (take x (p .cells))) 0 0 m (omega arith) (omega arith) in omega arith) in
+      ap (λ c. listOf b (each (clueOf p x c) (clueClauses (b .isOpen)))) (sym e ∙ q) ∙ ap (listOf b) (append-nil (clueClauses (b .isOpen) k))
+      ∙ clue-list b (held-laws h) k (cluesFrom p 0 (take x (p .cells))) m ∙ ap (λ r. joined (clueNumbers r n (map (blackOf b) (line p d x)))) z
+
+module _ {g : Grid} {s : List ℕ} (h : Held g s) where
+  -- the number of the first T variable, one cell more
+  pub count-next : (x : ℕ) → x < size g → firstCount g s (x + 1) ≡ firstCount g s x + countsOf (puzzle g s) x
+  count-next x l = let w = held-filled h in let e = counts-on (puzzle g s) x (omega arith) in omega arith
+
+  pub count-few : (x : ℕ) → x ≤ size g → firstCount g s x ≤ 2 ^ 32
+  count-few x l =
+      let b = gridBoard g s in
+      let w = h .sides .few in
+      let f : openCount b ≤ 576 = omega (arith, rank-few b (size g)) in
+      let q : openCount b * openCount b ≤ 576 * 576 = mul-le-mul f f in
+      omega (arith, ways-few b (size g), below-few h x l)
+
+  -- the family, cell by cell
+  so-far : (x : ℕ) → x ≤ size g → each (cluesFrom (puzzle g s) 0 (take x (puzzle g s .cells))) (clueClauses (gridBoard g s .isOpen)) ≡ each (upTo x) (clueAt (puzzle g s))
+  so-far zero l = refl
+  so-far (suc x) l =
+      let p = puzzle g s in
+      let F = clueClauses (gridBoard g s .isOpen) in
+      let w = held-filled h in
+      let e : 0 + x ≡ x = omega arith in
+      ap (λ k. each (cluesFrom p 0 (take k (p .cells))) F) (sym (add-one x)) ∙ ap (λ cs. each cs F) (clues-next p x (omega arith))
+      ∙ each-append F (cluesFrom p 0 (take x (p .cells))) (clueOf p x (getD (p .cells) x Open))
+      ∙ (λ t. so-far x (omega arith) t ++ clueAt p (sym e t)) ∙ sym (each-next (clueAt p) 0 x) ∙ ap (λ k. each (upTo k) (clueAt p)) (add-one x)
+
+  pub lines-cells : clueLines (gridBoard g s) ≡ each (upTo (size g)) (clueAt (puzzle g s))
+  lines-cells =
+      let p = puzzle g s in
+      let w = held-filled h in
+      ap (λ cs. each (cluesFrom p 0 cs) (clueClauses (gridBoard g s .isOpen))) (sym (take-all (size g) (p .cells) (omega arith))) ∙ so-far (size g) (omega arith)
+
+  pub lines-each : {n : ℕ} → n ≡ size g → listOf (gridBoard g s) (clueLines (gridBoard g s)) ≡ each (upTo n) (λ x. listOf (gridBoard g s) (clueAt (puzzle g s) x))
+  lines-each {n} q =
+      let b = gridBoard g s in
+      let p = puzzle g s in
+      ap (listOf b) lines-cells ∙ list-each b (clueAt p) (upTo (size g)) ∙ ap (λ n. each (upTo n) (λ x. listOf b (clueAt p x))) (sym q)

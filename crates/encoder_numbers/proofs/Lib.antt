@@ -1,0 +1,4 @@
+-- Laws that the proofs of this crate and of those above share.
+pub mod Filling
+pub mod Numbers
+pub mod Sides

@@ -1,0 +1,41 @@
+-- `encoder_shapes::each_not_both` meets its contract. Assumes nothing.
+use Prim.Native.Nat.{_+_, _-_}
+use native.Mathlib.Omega.{arith}
+use borrow.Author.Needs.{needs}
+use Rattle.encoder_shapes.specs.Shapes.{notBoth}
+use Rattle.encoder_shapes.proofs.Writing.{Writing, write-start, write-needs, write-on, write-end, write-kept, no-small}
+use Rattle.encoder_shapes.proofs.each_not_both.Statement.{statement}
+use Rattle.encoder_shapes.proofs.each_not_both.Tie as tie
+
+abbrev Inv-loop : tie.InvT-loop
+Inv-loop list₀ at a first n i₀ k₀ list i k = Writing list₀ at (λ k. notBoth a (first + k)) n list i k
+
+abbrev μ-loop : tie.MeasureT-loop
+μ-loop list₀ at a first n i₀ k₀ list i k = n - k
+
+loop-holds : tie.Need-loop-holds Inv-loop μ-loop
+loop-holds c = write-start (c .pre)
+
+add-not-both : tie.Need-add-not-both Inv-loop μ-loop
+add-not-both c = omega (arith, no-small (c .before .before .before .args .first + c .before .before .loop .k) ((write-needs (c .before .before .loop .inv) (c .before .loop-test .taken)) .right .1 .0))
+
+not-both-requires : tie.Need-not-both-requires Inv-loop μ-loop
+not-both-requires c κs = write-needs (c .before .before .loop .inv) (c .before .loop-test .taken)
+
+add-k : tie.Need-add-k Inv-loop μ-loop
+add-k c = search needs
+
+loop-less : tie.Need-loop-less Inv-loop μ-loop
+loop-less c = search needs
+
+loop-again : tie.Need-loop-again Inv-loop μ-loop
+loop-again c = write-on (c .before .before .before .before .loop .inv) (c .before .before .before .loop-test .taken) (c .before .not-both .ensures)
+
+same-length : tie.Need-same-length Inv-loop μ-loop
+same-length c = write-kept (c .before .loop .inv)
+
+returns : tie.Need-returns Inv-loop μ-loop
+returns c = write-end (c .before .loop .inv) (c .loop-test .left)
+
+pub each-not-both-spec : {M : Type 1} → statement M
+each-not-both-spec = tie.close (tie.spec Inv-loop μ-loop loop-holds add-not-both not-both-requires add-k loop-less loop-again same-length returns)

@@ -1,0 +1,42 @@
+-- `encoder_shapes::literals` meets its contract. Assumes nothing.
+use Prim.Native.Nat.{_+_, _-_}
+use native.Mathlib.Omega.{arith}
+use borrow.Author.Needs.{needs}
+use lib.IntN.{pos}
+use mathlib.Core.List.{[], _∷_}
+use Rattle.encoder_shapes.proofs.Writing.{Writing, write-start, write-needs, write-on, write-end, write-kept, put-needs}
+use Rattle.encoder_shapes.proofs.literals.Statement.{statement}
+use Rattle.encoder_shapes.proofs.literals.Tie as tie
+
+abbrev Inv-loop : tie.InvT-loop
+Inv-loop list₀ at first n i₀ k₀ list i k = Writing list₀ at (λ k. pos (first + k) ∷ []) n list i k
+
+abbrev μ-loop : tie.MeasureT-loop
+μ-loop list₀ at first n i₀ k₀ list i k = n - k
+
+loop-holds : tie.Need-loop-holds Inv-loop μ-loop
+loop-holds c = write-start (c .pre)
+
+add-put : tie.Need-add-put Inv-loop μ-loop
+add-put c = let h = (write-needs (c .before .before .loop .inv) (c .before .loop-test .taken)) .right .0 in omega arith
+
+put-requires : tie.Need-put-requires Inv-loop μ-loop
+put-requires c κs = put-needs (write-needs (c .before .before .loop .inv) (c .before .loop-test .taken))
+
+add-k : tie.Need-add-k Inv-loop μ-loop
+add-k c = search needs
+
+loop-less : tie.Need-loop-less Inv-loop μ-loop
+loop-less c = search needs
+
+loop-again : tie.Need-loop-again Inv-loop μ-loop
+loop-again c = write-on (c .before .before .before .before .loop .inv) (c .before .before .before .loop-test .taken) (c .before .put .ensures)
+
+same-length : tie.Need-same-length Inv-loop μ-loop
+same-length c = write-kept (c .before .loop .inv)
+
+returns : tie.Need-returns Inv-loop μ-loop
+returns c = write-end (c .before .loop .inv) (c .loop-test .left)
+
+pub literals-spec : {M : Type 1} → statement M
+literals-spec = tie.close (tie.spec Inv-loop μ-loop loop-holds add-put put-requires add-k loop-less loop-again same-length returns)

@@ -1,0 +1,192 @@
+// Counts a grid's clauses and their elements without writing them: of each cell by products, so that no clause is gone through.
+ghost use mathlib.Core.Path.{_≡_};
+ghost use Prim.Native.Nat.{_*_, _≤_, _<_, _^_};
+ghost use lib.ListN.{length, getD};
+ghost use Rattle.answers.specs.Lists.{howMany};
+ghost use Rattle.rules.specs.declared.Cell.the-variants.{Open, Clue};
+ghost use Rattle.rules.specs.Record.{size, puzzle, Held};
+ghost use Rattle.rules.specs.Board.{line, gridBoard};
+ghost use Rattle.encoder.specs.Variables.{openCount};
+ghost use Rattle.encoder.specs.Clauses.{clauses};
+ghost use Rattle.encoder.proofs.Counts.{pairCount, Sized};
+ghost use Rattle.encoder.proofs.Places.{rank};
+ghost use Rattle.encoder_numbers.specs.Tables.{RanksHeld};
+ghost use Rattle.encoder_size.specs.Counts.{countsOf, amountOf, openAmount, clueAmount, cellFamilies, Amounts};
+use encoder_numbers::tables::fill_ranks;
+use encoder_numbers::tables::fill_ways;
+use encoder_numbers::tables::links_before;
+use encoder_numbers::tables::open_bit;
+use encoder_numbers::tables::open_there;
+use encoder_numbers::tables::variable_count;
+use rules::Cell;
+use rules::Direction;
+use rules::Grid;
+use rules::MOST_CELLS;
+use rules::board::go;
+use rules::board::line_end;
+use rules::board::opposite;
+
+// Some clauses, and their elements with the closing zeros.
+pub struct Amount {
+    pub clauses: usize,
+    pub elements: usize,
+}
+
+// What the encoder answers.
+pub struct Counts {
+    pub elements: usize,
+    pub variables: usize,
+    pub clauses: usize,
+}
+
+// How many pairs n things have.
+fn pair_count(n: usize) -> usize
+    requires { ⌜ n ≤ 256 ⌝ }
+    ensures { λ r. ⌜ r ≡ pairCount n ⌝ }
+    ensures { λ r. ⌜ r < 2 ^ 15 ⌝ }
+{
+    if n == 0 {
+        return 0;
+    }
+    n * (n - 1) / 2
+}
+
+// A product of small numbers is small.
+fn times(n: usize, m: usize) -> usize
+    requires { ⌜ (n < 2 ^ 15) × (m < 2 ^ 15) ⌝ }
+    ensures { λ r. ⌜ r ≡ n * m ⌝ }
+    ensures { λ r. ⌜ r < 2 ^ 30 ⌝ }
+{
+    n * m
+}
+
+// Clauses of one, two and three literals, and further literals in them.
+fn of_lengths(ones: usize, twos: usize, threes: usize, more: usize) -> Amount
+    requires { ⌜ (ones < 2 ^ 32) × (twos < 2 ^ 32) × (threes < 2 ^ 32) × (more < 2 ^ 32) ⌝ }
+    ensures { λ r. ⌜ r ≡ amountOf ones twos threes more ⌝ }
+{
+    let clauses = ones + twos + threes;
+    let elements = ones * 2 + twos * 3 + threes * 4 + more;
+    Amount { clauses, elements }
+}
+
+// An open cell, with F, its rank, its open neighbours, those to the east and south, and that to the east.
+fn open_amount(f: usize, lower: usize, around: usize, after: usize, east: usize) -> Amount
+    requires { ⌜ (0 < f) × (f ≤ 576) × (lower ≤ 576) ⌝ }
+    requires { ⌜ (around ≤ 4) × (after ≤ 2) × (east ≤ 1) ⌝ }
+    ensures { λ r. ⌜ r ≡ openAmount f lower around after east ⌝ }
+{
+    let pairs = pair_count(around);
+    let twos = (after + around + pairs + f + 1) * 2 + lower;
+    of_lengths(4, twos, times(around, f - 1), around * 2 + east + f)
+}
+
+// A clue with number n, with the open cells and the clues on its line.
+fn clue_amount(n: usize, opens: usize, clues: usize) -> Amount
+    requires { ⌜ (n < 256) × (opens ≤ 576) × (clues ≤ 576) ⌝ }
+    ensures { λ r. ⌜ r ≡ clueAmount n opens clues ⌝ }
+{
+    let pairs = pair_count(n + 1);
+    let twos = times(opens + clues, pairs) + times(clues, n + 1) + opens;
+    of_lengths(n + 2, twos, times(opens, n * 2 + 1), 0)
+}
+
+// The open cells on the line that leaves x in direction d.
+fn open_on_line(g: Grid, record: &[u8], x: usize, d: Direction) -> usize
+    requires { ⌜ Held g (now «record») ⌝ }
+    requires { ⌜ x < size g ⌝ }
+    ensures { λ r. ⌜ r ≡ howMany (gridBoard g (now («record» .entry)) .isOpen) (line (puzzle g (now («record» .entry))) d x) ⌝ }
+{
+    let end = line_end(g, record, x, d);
+    let cells = end.cells;
+    let mut y = end.cell;
+    let mut count = 0;
+    let mut j = 0;
+    while j < cells {
+        let open = open_bit(g, record, y);
+        count += open;
+        let back = opposite(d);
+        y = go(g, y, back);
+        j += 1;
+    }
+    count
+}
+
+// The clauses of an open cell.
+fn at_open(g: Grid, record: &[u8], f: usize, lower: usize, x: usize) -> Amount
+    requires { ⌜ Held g (now «record») ⌝ }
+    requires { ⌜ (x < size g) × (getD (puzzle g (now «record») .cells) x Open ≡ Open) ⌝ }
+    requires { ⌜ (f ≡ openCount (gridBoard g (now «record»))) × (lower ≡ rank (gridBoard g (now «record»)) x) ⌝ }
+    ensures { λ r. ⌜ Amounts (gridBoard g (now («record» .entry))) (cellFamilies g (now («record» .entry)) x) r ⌝ }
+{
+    let before = links_before(g, record, x, Direction::West);
+    let west = open_there(g, record, x, Direction::West);
+    let east = open_there(g, record, x, Direction::East);
+    let south = open_there(g, record, x, Direction::South);
+    open_amount(f, lower, before + west, east + south, east)
+}
+
+// The clauses of a clue.
+fn at_clue(g: Grid, record: &[u8], x: usize, d: Direction, n: usize) -> Amount
+    requires { ⌜ Held g (now «record») ⌝ }
+    requires { ⌜ (x < size g) × (n < 256) × (getD (puzzle g (now «record») .cells) x Open ≡ Clue d n) ⌝ }
+    ensures { λ r. ⌜ Amounts (gridBoard g (now («record» .entry))) (cellFamilies g (now («record» .entry)) x) r ⌝ }
+{
+    let end = line_end(g, record, x, d);
+    let cells = end.cells;
+    let opens = open_on_line(g, record, x, d);
+    clue_amount(n, opens, cells - opens)
+}
+
+// The clauses of a cell.
+fn at_cell(g: Grid, record: &[u8], f: usize, lower: usize, x: usize) -> Amount
+    requires { ⌜ Held g (now «record») ⌝ }
+    requires { ⌜ x < size g ⌝ }
+    requires { ⌜ (f ≡ openCount (gridBoard g (now «record»))) × (lower ≡ rank (gridBoard g (now «record»)) x) ⌝ }
+    ensures { λ r. ⌜ Amounts (gridBoard g (now («record» .entry))) (cellFamilies g (now («record» .entry)) x) r ⌝ }
+{
+    let c = g.cell(record, x);
+    let Cell::Clue(d, n) = c else {
+        return at_open(g, record, f, lower, x);
+    };
+    at_clue(g, record, x, d, n as usize)
+}
+
+// All clauses: those of the cells, and [all S].
+fn all_clauses(g: Grid, record: &[u8], f: usize, ranks: &[usize]) -> Amount
+    requires { ⌜ RanksHeld g (now «record») (now ranks) ⌝ }
+    requires { ⌜ f ≡ openCount (gridBoard g (now «record»)) ⌝ }
+    ensures { λ r. ⌜ Sized (gridBoard g (now («record» .entry))) (clauses (gridBoard g (now («record» .entry)))) (r .clauses) (r .elements) ⌝ }
+{
+    let n = g.size();
+    let mut clauses = 1;
+    let mut elements = f + 1;
+    let mut x = 0;
+    while x < n {
+        let more = at_cell(g, record, f, ranks[x], x);
+        clauses += more.clauses;
+        elements += more.elements;
+        x += 1;
+    }
+    Amount { clauses, elements }
+}
+
+// The elements of a grid's clause list, V, and the number of its clauses.
+pub fn count(g: Grid, record: &[u8]) -> Counts
+    requires { ⌜ Held g (now «record») ⌝ }
+    ensures { λ r. ⌜ r ≡ countsOf (gridBoard g (now («record» .entry))) ⌝ }
+{
+    let mut ranks = [0usize; MOST_CELLS];
+    let mut firsts = [0usize; MOST_CELLS];
+    let open = fill_ranks(g, record, &mut ranks);
+    let links = fill_ways(g, record, &mut firsts);
+    let variables = variable_count(g, record, open, links);
+    let all = all_clauses(g, record, open, &ranks);
+    let elements = all.elements;
+    let clauses = all.clauses;
+    Counts {
+        elements,
+        variables,
+        clauses,
+    }
+}

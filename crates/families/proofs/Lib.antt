@@ -1,2 +1,0 @@
--- Laws of the families.
-pub mod EachCell

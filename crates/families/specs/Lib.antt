@@ -1,2 +1,0 @@
--- The families of clauses that go cell by cell.
-pub mod Families

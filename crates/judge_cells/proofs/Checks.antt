@@ -1,0 +1,89 @@
+-- The judge's tests of a cell, by the code's branches. Assumes nothing.
+use Prim.Native.Nat.{ℕ, zero, suc, _+_, _≤_, _<_}
+use native.Mathlib.Omega.{arith}
+use lib.Dec.{eqb}
+use lib.ListN.{length, getD}
+use borrow.Author.Tests.{lt-ltb, le-ltb, le-leb, lt-leb, ne-eqb}
+use mathlib.Core.Path.{_≡_, refl, sym, _∙_, ap}
+use mathlib.Core.Bool.{Bool, true, false, not}
+use mathlib.Core.Option.{Option}
+use mathlib.Core.List.{List, [], _∷_, _++_}
+use Rattle.answers.specs.Lists.{howMany}
+use Rattle.answers.specs.First.{found, firstFrom, firstWhere}
+use Rattle.rules.specs.declared.Direction.{Direction}
+use Rattle.rules.specs.declared.Direction.the-variants.{North as north, East as east, South as south, West as west}
+use Rattle.rules.specs.declared.Cell.{Cell}
+use Rattle.rules.specs.declared.Cell.the-variants.{Open, Clue as Clued}
+use Rattle.rules.specs.declared.Grid.{Grid}
+use Rattle.rules.specs.Directions.{bit}
+use Rattle.rules.specs.Record.{Puzzle, size, On, Held, Drawn, puzzle}
+use Rattle.rules.specs.Board.{openCell, openAt, line, clueOf, cluesFrom, gridBoard}
+use Rattle.rules.specs.Drawing.{weight, blackAt}
+use Rattle.rules.specs.Judge.{badByte, foundClue, unmetClue}
+use Rattle.judge_cells.specs.Tests.{unmetCell, unmetAt}
+use Rattle.rules.proofs.Boards.{Filled}
+use Rattle.rules.proofs.Records.{held-filled}
+
+-- bytes of a drawing
+pub clue-or-not : (o : Bool) → o ≡ badByte o 0x20
+clue-or-not true = refl
+clue-or-not false = refl
+
+pub low-byte : (o : Bool) (v : ℕ) → v ≤ 0x10 → not o ≡ badByte o v
+low-byte true v h = simp (le-ltb 0x20 v (omega arith), lt-leb 0x11 v (omega arith), ne-eqb v 0x20 (λ e. omega arith))
+low-byte false v h = simp (le-ltb 0x20 v (omega arith), lt-leb 0x11 v (omega arith), ne-eqb v 0x20 (λ e. omega arith))
+
+pub middle-byte : (o : Bool) (v : ℕ) → 0x11 ≤ v → v ≤ 0x1F → true ≡ badByte o v
+middle-byte o v h k = simp (le-ltb 0x20 v (omega arith), le-leb 0x11 v h, le-leb v 0x1F k)
+
+pub over-byte : (o : Bool) (v : ℕ) → 0x20 < v → true ≡ badByte o v
+over-byte o v h = simp (lt-ltb 0x20 v h)
+
+-- a cell that was read tells whether it is open
+open-at : (cs : List Cell) (x : ℕ) → x < length cs → openCell (getD cs x Open) ≡ openAt cs x
+open-at [] x h = absurd (omega arith)
+open-at (c ∷ cs) zero h = refl
+open-at (c ∷ cs) (suc x) h = open-at cs x (omega arith)
+
+module _ {g : Grid} {s : List ℕ} {x : ℕ} (h : Held g s) (inside : x < size g) where
+  pub is-opened : {c : Cell} → c ≡ getD (puzzle g s .cells) x Open → openCell c ≡ gridBoard g s .isOpen x
+  is-opened e = let l = held-filled h in ap openCell e ∙ open-at (puzzle g s .cells) x (omega arith)
+
+-- a cell of a grid with its drawing
+pub on-drawn : {g : Grid} {s ds : List ℕ} {x : ℕ} → Drawn g s ds → x < size g → On g x
+on-drawn d h = record { sides = d .held .sides; inside = h }
+
+-- the first unmet clue of the board is the first cell that is one
+module _ (p : Puzzle) (ds : List ℕ) where
+  unmet-from : (cs : List Cell) (a : ℕ) → ((k : ℕ) → k < length cs → getD (p .cells) (a + k) Open ≡ getD cs k Open) → firstFrom (unmetAt p ds) a (length cs) ≡ unmetClue (blackAt ds) (cluesFrom p a cs)
+  unfolding firstFrom
+  unmet-from [] a at = refl
+  unmet-from (c ∷ cs) a at = ap (λ (t : Bool). found t a (firstFrom (unmetAt p ds) (suc a) (length cs))) (ap (unmetCell p (blackAt ds) a) here) ∙ by c (unmet-from cs (suc a) later)
+    where
+      here : getD (p .cells) a Open ≡ c
+      here = let e : a + 0 ≡ a = omega arith in rw e at (at 0 (omega arith))
+
+      later : (k : ℕ) → k < length cs → getD (p .cells) (suc a + k) Open ≡ getD cs k Open
+      later k h = let e : a + suc k ≡ suc a + k = omega arith in rw e at (at (suc k) (omega arith))
+
+      turned : (t : Bool) (rest : Option ℕ) → found (not t) a rest ≡ foundClue t a rest
+      turned true rest = refl
+      turned false rest = refl
+
+      by : (c : Cell) → firstFrom (unmetAt p ds) (suc a) (length cs) ≡ unmetClue (blackAt ds) (cluesFrom p (suc a) cs)
+          → found (unmetCell p (blackAt ds) a c) a (firstFrom (unmetAt p ds) (suc a) (length cs)) ≡ unmetClue (blackAt ds) (clueOf p a c ++ cluesFrom p (suc a) cs)
+      by Open ih = ih
+      by (Clued d n) ih = turned (eqb (howMany (blackAt ds) (line p d a)) n) _ ∙ ap (foundClue (eqb (howMany (blackAt ds) (line p d a)) n) a) ih
+
+  pub unmet-first : Filled p → firstWhere (unmetAt p ds) (size (p .grid)) ≡ unmetClue (blackAt ds) (cluesFrom p 0 (p .cells))
+  unmet-first f = ap (firstWhere (unmetAt p ds)) (sym f) ∙ unmet-from (p .cells) 0 (λ k h. let e : 0 + k ≡ k = omega arith in rw e)
+
+pub weight-positive : (d : Direction) → 0 < weight d
+weight-positive north = omega arith
+weight-positive east = omega arith
+weight-positive south = omega arith
+weight-positive west = omega arith
+
+pub bit-small : (t : Bool) → bit t ≤ 1
+bit-small true = omega arith
+bit-small false = omega arith

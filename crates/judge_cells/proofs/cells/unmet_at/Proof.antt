@@ -1,0 +1,41 @@
+-- `judge_cells::cells::unmet_at` meets its contract. Assumes nothing.
+use mathlib.Core.Path.{sym, _∙_, ap}
+use Rattle.rules.specs.Record.{puzzle}
+use Rattle.rules.specs.Drawing.{blackAt}
+use Rattle.judge_cells.specs.Tests.{unmetCell}
+use borrow.Author.Needs.{needs}
+use Rattle.judge_cells.proofs.cells.unmet_at.Statement.{statement}
+use Rattle.judge_cells.proofs.cells.unmet_at.Tie as tie
+
+cell-requires : tie.Need-cell-requires
+cell-requires c κs = search needs
+
+enum-known-c : tie.Need-enum-known-c
+enum-known-c c = search needs
+
+enum-told : tie.Need-enum-told
+enum-told c = search needs
+
+returns : tie.Need-returns
+returns c = ap (unmetCell (puzzle (c .before .before .before .before .before .args .g) (c .before .before .before .before .before .args .«record» .now)) (blackAt (c .before .before .before .before .before .args .drawing .now)) (c .before .before .before .before .before .args .x)) (sym (c .enum-told .given .1) ∙ c .before .before .cell .ensures)
+
+black-count-requires : tie.Need-black-count-requires
+black-count-requires c κs = search needs
+
+cast-result : tie.Need-cast-result
+cast-result c = search needs
+
+returns-2 : tie.Need-returns-2
+returns-2 c = rw (c .black-count .ensures) (ap (unmetCell (puzzle (c .before .before .before .before .before .before .before .args .g) (c .before .before .before .before .before .before .before .args .«record» .now)) (blackAt (c .before .before .before .before .before .before .before .args .drawing .now)) (c .before .before .before .before .before .before .before .args .x)) (sym (c .before .before .c .given .1) ∙ c .before .before .before .before .cell .ensures))
+
+pub unmet-at-spec : {M : Type 1} → statement M
+unmet-at-spec =
+    tie.close
+    (tie.spec
+    cell-requires
+    enum-known-c
+    enum-told
+    returns
+    black-count-requires
+    cast-result
+    returns-2)

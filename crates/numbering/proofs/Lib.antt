@@ -1,3 +1,0 @@
--- Laws that the proofs of this crate and of those above share.
-pub mod Filling
-pub mod Numbers

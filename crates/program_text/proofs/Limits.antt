@@ -1,0 +1,106 @@
+-- The programs' refusals: which they are, beside those of a call that begins with the record reader's rows too, and that what is printed fits.
+-- Assumes nothing.
+use Prim.Native.Nat.{ℕ, _≤_}
+use native.Mathlib.Omega.{arith}
+use lib.Dec.{eqb, ltb}
+use lib.ListN.{length, take, length-append}
+use lib.Seq.{length-take-le}
+use borrow.Author.Tests.{eq-eqb, ne-eqb, eqb-true, ltb-false}
+use mathlib.Core.Path.{_≡_, refl, sym, _∙_, ap}
+use mathlib.Core.Bool.{Bool, true, false, cond}
+use mathlib.Core.Option.{Option, none, some}
+use mathlib.Core.List.{List, [], _∷_, _++_}
+use Rattle.answers.specs.declared.Told.{Told}
+use Rattle.answers.specs.Told.{answer, Row, row, cause, unless, turnedDown}
+use Rattle.answers.specs.Lent.{Wrote}
+use Rattle.answers.specs.Lists.{All}
+use Rattle.answers.proofs.Lent.{wrote-length}
+use Rattle.answers.proofs.Bools.{or-neither}
+use Rattle.answers.proofs.Rows.{Clear, turned-append, answered-clear, clear-answered, no-cause}
+use Rattle.rules.specs.Record.{recordRows, IsAccepted}
+use Rattle.rules.specs.Board.{boardOf}
+use Rattle.dimacs.specs.Text.{decimal, lineFeed}
+use Rattle.dimacs_writer.proofs.Decimals.{digits-few}
+use Rattle.encoder.specs.Variables.{variableCount}
+use Rattle.encoder.specs.Clauses.{clauseList}
+use Rattle.encoder.proofs.Lists.{all-left, all-right}
+use Rattle.program_text.specs.Lines.{refusedLine}
+use Rattle.program_text.specs.Programs.{mostElements, mostHeld, needsMore, programRows, programNumber, printed}
+
+-- calls with the same first rows tell the same number, if they do wherever these are passed
+same-rows : (rs qs ps : List Row) (t u : Told) → (Clear rs → turnedDown qs t .number ≡ turnedDown ps u .number) → turnedDown (rs ++ qs) t .number ≡ turnedDown (rs ++ ps) u .number
+same-rows [] qs ps t u h = h tt
+same-rows (r ∷ rs) qs ps t u h = by (r .beside) refl (same-rows rs qs ps t u)
+  where
+    by : (o : Option ℕ) → r .beside ≡ o → ((Clear rs → turnedDown qs t .number ≡ turnedDown ps u .number) → turnedDown (rs ++ qs) t .number ≡ turnedDown (rs ++ ps) u .number)
+        → unless (r .number) o (turnedDown (rs ++ qs) t) .number ≡ unless (r .number) o (turnedDown (rs ++ ps) u) .number
+    by none e go = go (λ c. h (e, c))
+    by (some v) e go = refl
+
+-- the number that row 6 gives
+abbrev pub limited : Bool → ℕ
+limited t = unless 6 (cause t) (answer 0 0 0) .number
+
+module _ (s : List ℕ) where
+  -- a record without a cause is left to the rows after the reader's
+  pub left : Clear (recordRows s) → (qs : List Row) (t : Told) → turnedDown (recordRows s ++ qs) t ≡ turnedDown qs t
+  left c qs t = turned-append (recordRows s) qs t ∙ clear-answered (recordRows s) _ c
+
+  pub left-to-limits : Clear (recordRows s) → programNumber s ≡ limited (needsMore (boardOf s))
+  left-to-limits c = ap (λ (t : Told). t .number) (left c (row 6 (cause (needsMore (boardOf s))) ∷ []) (answer 0 0 0))
+
+  pub clear-parts : (qs : List Row) → Clear (recordRows s ++ qs) → Clear (recordRows s) × Clear qs
+  clear-parts qs c = (all-left (λ (r : Row). r .beside ≡ none) (recordRows s) qs c, all-right (λ (r : Row). r .beside ≡ none) (recordRows s) qs c)
+
+  pub clear-accepted : Clear (recordRows s) → IsAccepted s
+  clear-accepted c = ap (λ (t : Told). t .number) (clear-answered (recordRows s) _ c)
+
+  -- no refusal: an accepted grid that needs no more than the programs hold
+  pub unrefused : programNumber s ≡ 0 → IsAccepted s × (length (clauseList (boardOf s)) ≤ mostElements) × (variableCount (boardOf s) ≤ mostHeld)
+  unrefused e =
+      let (c, l) = clear-parts (row 6 (cause (needsMore (boardOf s))) ∷ []) (answered-clear (programRows s) (answer 0 0 0) refl e) in
+      let n = or-neither (ltb mostElements (length (clauseList (boardOf s)))) _ (no-cause (needsMore (boardOf s)) (l .0)) in
+      (clear-accepted c, ltb-false mostElements (length (clauseList (boardOf s))) (n .0), ltb-false mostHeld (variableCount (boardOf s)) (n .1))
+
+  -- the same refusal as that of another call
+  pub same-number : (qs : List Row) (t : Told) → (Clear (recordRows s) → turnedDown qs t .number ≡ limited (needsMore (boardOf s))) → turnedDown (recordRows s ++ qs) t .number ≡ programNumber s
+  same-number qs t h = same-rows (recordRows s) qs (row 6 (cause (needsMore (boardOf s))) ∷ []) t (answer 0 0 0) h
+
+-- what is printed
+pub printed-refused : {n m : ℕ} (text : List ℕ) → n ≡ m → (m ≡ 0 → ⊥) → refusedLine n ≡ printed m text
+printed-refused {m = m} text e h = ap refusedLine e ∙ sym (ap (λ b. cond b text (refusedLine m)) (ne-eqb m 0 h))
+
+pub printed-text : {m : ℕ} (text : List ℕ) → m ≡ 0 → text ≡ printed m text
+printed-text {m} text e = sym (ap (λ b. cond b text (refusedLine m)) (eq-eqb m 0 e))
+
+-- no row has a number over 6, so the line of a refusal is short
+rows-most : (rs : List Row) (t : Told) → All (λ (r : Row). r .number ≤ 6) rs → t .number ≤ 6 → turnedDown rs t .number ≤ 6
+rows-most [] t a h = h
+rows-most (r ∷ rs) t a h = by (r .beside) (rows-most rs t (a .1) h)
+  where
+    by : (o : Option ℕ) → turnedDown rs t .number ≤ 6 → unless (r .number) o (turnedDown rs t) .number ≤ 6
+    by none i = i
+    by (some v) i = a .0
+
+line-short : (s : List ℕ) → length (refusedLine (programNumber s)) ≤ 10
+line-short s =
+    let m = rows-most (programRows s) (answer 0 0 0) (omega arith, (omega arith, (omega arith, (omega arith, (omega arith, (omega arith, tt)))))) (omega arith) in
+    let d = digits-few 0 (programNumber s) (omega arith) in
+    let a = length-append (decimal (programNumber s)) (lineFeed ∷ []) in
+    omega arith
+
+-- what is printed fits, if a text does that is printed without a refusal
+pub printed-fits : (s text : List ℕ) (room : ℕ) → 10 ≤ room → (programNumber s ≡ 0 → length text ≤ room) → length (printed (programNumber s) text) ≤ room
+printed-fits s text room r h = by (eqb (programNumber s) 0) refl
+  where
+    by : (b : Bool) → eqb (programNumber s) 0 ≡ b → length (cond b text (refusedLine (programNumber s))) ≤ room
+    by true e = h (eqb-true (programNumber s) 0 e)
+    by false e = omega (arith, line-short s)
+
+-- a text that fits its buffer is a part of it
+module _ {buf text after : List ℕ} {r : ℕ} (w : Wrote buf 0 text after r) (h : length text ≤ length buf) where
+  pub text-inside : r ≤ length after
+  text-inside = let p = w .place in omega (arith, wrote-length w)
+
+  pub text-long : r ≡ length (take r after)
+  text-long = sym (length-take-le r after text-inside)

@@ -1,0 +1,53 @@
+-- `program_text::put_word` meets its contract: the loop keeps `Putting`. Assumes nothing.
+use Prim.Native.Nat.{_≤_, _-_}
+use native.Mathlib.Omega.{arith}
+use lib.ListN.{length, drop, length-drop}
+use Rattle.answers.proofs.Lent.{wrote-length}
+use Rattle.program_text.proofs.Putting.{Putting, put-start, put-room, put-more, put-end, word-from, word-end}
+use Rattle.program_text.proofs.put_word.Statement.{statement}
+use Rattle.program_text.proofs.put_word.Tie as tie
+
+abbrev Inv-loop : tie.InvT-loop
+Inv-loop text₀ at word p₀ i₀ text p i = (i ≤ length word) × Putting word text₀ at text p (drop i word)
+
+abbrev μ-loop : tie.MeasureT-loop
+μ-loop text₀ at word p₀ i₀ text p i = length word - i
+
+loop-holds : tie.Need-loop-holds Inv-loop μ-loop
+loop-holds c = (omega arith, put-start (c .before .before .args .word .now) (c .before .before .args .text .now) (c .before .before .args .at))
+
+shared-slice-read-put-byte : tie.Need-shared-slice-read-put-byte Inv-loop μ-loop
+shared-slice-read-put-byte c = omega arith
+
+put-byte-requires : tie.Need-put-byte-requires Inv-loop μ-loop
+put-byte-requires c κs = omega (arith, put-room (c .before .before .before .loop .inv .1), length-drop (c .before .before .before .loop .i) (c .before .before .before .before .before .before .args .word .now))
+
+add-i : tie.Need-add-i Inv-loop μ-loop
+add-i c = omega arith
+
+loop-less : tie.Need-loop-less Inv-loop μ-loop
+loop-less c = omega arith
+
+loop-again : tie.Need-loop-again Inv-loop μ-loop
+loop-again c = (omega arith, put-more (c .before .before .before .before .before .before .loop .inv .1) (word-from (c .before .before .before .before .before .before .before .before .before .args .word .now) (c .before .before .before .before .before .before .loop .i) (omega arith)) (c .before .before .put-byte .ensures))
+
+same-length : tie.Need-same-length Inv-loop μ-loop
+same-length c = wrote-length (c .before .loop .inv .1 .wrote)
+
+returns : tie.Need-returns Inv-loop μ-loop
+returns c = put-end (c .before .loop .inv .1) (word-end (c .before .before .before .before .args .word .now) (c .before .loop .i) (omega arith))
+
+pub put-word-spec : {M : Type 1} → statement M
+put-word-spec =
+    tie.close
+    (tie.spec
+    Inv-loop
+    μ-loop
+    loop-holds
+    shared-slice-read-put-byte
+    put-byte-requires
+    add-i
+    loop-less
+    loop-again
+    same-length
+    returns)

@@ -1,0 +1,97 @@
+-- Turns of the loop under a budget. Assumes nothing.
+use Prim.Native.Nat.{ℕ, suc, _+_, _-_, _≤_, _<_}
+use native.Mathlib.Omega.{arith}
+use lib.IntN.{ℤ}
+use lib.ListN.{length}
+use mathlib.Core.Path.{_≡_, refl, sym, _∙_, ap, subst}
+use mathlib.Core.List.{List}
+use Rattle.answers.specs.Told.{answer}
+use Rattle.search.specs.Step.{Next, step}
+use Rattle.search.specs.Run.{Ending, Found, None, Halted, Done, ends, after, endingNumber, toldDone, run}
+use Rattle.search.proofs.Trails.{length-trail}
+use Rattle.search.proofs.Slices.{counted}
+use Rattle.search_scan.specs.Held.{lows}
+use Rattle.search_trail.specs.Running.{heldTrail, Running}
+use Rattle.search_step.specs.declared.Stepped.{Stepped}
+use Rattle.search_step.specs.declared.Stepped.the-variants.{MovedTo, Found as SaysFound, None as SaysNone}
+use Rattle.search_step.specs.Stepping.{Listed, nextOf, Steps}
+use Rattle.search_step.proofs.Choosing.{Standing}
+use Rattle.search_call.specs.declared.Answer.{Answer}
+use Rattle.search_call.specs.declared.Answer.the-variants.{Found as FoundAt, None as NoneAt, Halted as HaltedAt}
+use Rattle.search_call.specs.Answers.{toldAnswer, usedOf}
+use Rattle.search_call.specs.Runs.{Ran}
+
+-- n steps are made, and the rest of the budget leads to where the whole leads
+pub record Going (ls : List ℤ) (budget : ℕ) (ts₀ : List ℤ) (ms₀ : List ℕ) (first : ℕ) (ts : List ℤ) (ms : List ℕ) (used n : ℕ) : Type 0 where
+  pub early : n ≤ budget
+  pub listed : Listed (length ms₀) ls
+  pub running : Running (length ms₀) ts ms used
+  pub rest : counted n (run (length ms₀) ls (budget - n) (heldTrail ts ms used)) ≡ run (length ms₀) ls budget (heldTrail ts₀ ms₀ first)
+
+pub go-start : {ls : List ℤ} {budget : ℕ} {ts : List ℤ} {ms : List ℕ} {first : ℕ} → Running (length ms) ts ms first → Listed (length ms) ls → Going ls budget ts ms first ts ms first 0
+go-start {ls} {budget} {ts} {ms} {first} r k =
+    let d : Done = run (length ms) ls budget (heldTrail ts ms first) in
+    let z : 0 + d .steps ≡ d .steps = omega arith in
+    record { early = omega arith; listed = k; running = r; rest = ap (λ (b : ℕ). counted 0 (run (length ms) ls b (heldTrail ts ms first))) (omega arith) ∙ ap (λ (n : ℕ). ends (d .ending) n (d .trail)) z }
+
+module _ {ls : List ℤ} {budget : ℕ} {ts₀ : List ℤ} {ms₀ : List ℕ} {first : ℕ} {ts : List ℤ} {ms : List ℕ} {used n : ℕ} (g : Going ls budget ts₀ ms₀ first ts ms used n) where
+  abbrev whole : Done
+  whole = run (length ms₀) ls budget (heldTrail ts₀ ms₀ first)
+
+  pub go-standing : Standing ls ts ms used
+  go-standing = let e = sym (g .running .bytes) in record { running = subst (λ (v : ℕ). Running v ts ms used) e (g .running); listed = subst (λ (v : ℕ). Listed v ls) e (g .listed) }
+
+  -- an answer, with the trail as it is in us, ns
+  answers : {us : List ℤ} {ns : List ℕ} {m : ℕ} (x : Ending) (r : Answer) → toldAnswer r ≡ answer (endingNumber x) m used → usedOf r ≡ used → Running (length ms₀) us ns used → heldTrail us ns used ≡ heldTrail ts ms used
+      → ends x m (heldTrail ts ms used) ≡ whole → Ran ls budget ts₀ ms₀ first r us ns
+  answers {us} {ns} {m} x r t u k s e =
+      record {
+        tells = t ∙ ap (answer (endingNumber x) m) (sym (length-trail ts (lows ms) used)) ∙ ap toldDone e;
+        trail = ap (heldTrail us ns) u ∙ s ∙ ap (λ (d : Done). d .trail) e;
+        running = subst (Running (length ms₀) us ns) (sym u) k;
+      }
+
+  pub go-over : budget ≤ n → Ran ls budget ts₀ ms₀ first (HaltedAt (record { steps = n; used = used })) ts ms
+  unfolding run
+  go-over h =
+      let z : budget - n ≡ 0 = omega arith in
+      let q : n + 0 ≡ n = omega arith in
+      answers Halted _ refl refl (g .running) refl (rw q at (rw z at (g .rest)))
+
+  module _ (h : n < budget) {r : Stepped} {us : List ℤ} {ns : List ℕ} (s : Steps ts ms used (step (length ms) ls) r us ns) where
+    -- one step is made of what is left
+    next : counted n (after (nextOf r us ns) (heldTrail ts ms used) (λ u. run (length ms₀) ls (budget - (n + 1)) u)) ≡ whole
+    unfolding run
+    next =
+        let z : budget - n ≡ suc (budget - (n + 1)) = omega arith in
+        let e = s .says ∙ ap (λ (v : ℕ). step v ls (heldTrail ts ms used)) (g .running .bytes) in
+        ap (λ (x : Next). counted n (after x (heldTrail ts ms used) (λ u. run (length ms₀) ls (budget - (n + 1)) u))) e ∙ (rw z at (g .rest))
+
+  module _ (h : n < budget) {us : List ℤ} {ns : List ℕ} where
+    kept : {used₁ : ℕ} → Running (length ms) us ns used₁ → Running (length ms₀) us ns used₁
+    kept {used₁} k = subst (λ (v : ℕ). Running v us ns used₁) (g .running .bytes) k
+
+    moves : {u : ℕ} → Steps ts ms used (step (length ms) ls) (MovedTo u) us ns → Going ls budget ts₀ ms₀ first us ns u (n + 1)
+    moves {u} s =
+        let d : Done = run (length ms₀) ls (budget - (n + 1)) (heldTrail us ns u) in
+        let z : n + 1 + d .steps ≡ n + suc (d .steps) = omega arith in
+        record { early = omega arith; listed = g .listed; running = kept (s .running); rest = ap (λ (m : ℕ). ends (d .ending) m (d .trail)) z ∙ next h s }
+
+    finds : Steps ts ms used (step (length ms) ls) SaysFound us ns → Ran ls budget ts₀ ms₀ first (FoundAt (record { steps = n + 1; used = used })) us ns
+    finds s = answers Found _ refl refl (kept (s .running)) (s .stays) (next h s)
+
+    fails : Steps ts ms used (step (length ms) ls) SaysNone us ns → Ran ls budget ts₀ ms₀ first (NoneAt (record { steps = n + 1; used = used })) us ns
+    fails s = answers None _ refl refl (kept (s .running)) (s .stays) (next h s)
+
+    module _ {r : Stepped} (s : Steps ts ms used (step (length ms) ls) r us ns) where
+      turned : {x : Stepped} → r ≡ x → Steps ts ms used (step (length ms) ls) x us ns
+      turned e = subst (λ (x : Stepped). Steps ts ms used (step (length ms) ls) x us ns) e s
+
+      pub go-moved : {u : ℕ} → r ≡ MovedTo u → Going ls budget ts₀ ms₀ first us ns u (n + 1)
+      go-moved e = moves (turned e)
+
+      pub go-found : r ≡ SaysFound → Ran ls budget ts₀ ms₀ first (FoundAt (record { steps = n + 1; used = used })) us ns
+      go-found e = finds (turned e)
+
+      pub go-none : r ≡ SaysNone → Ran ls budget ts₀ ms₀ first (NoneAt (record { steps = n + 1; used = used })) us ns
+      go-none e = fails (turned e)

@@ -1,0 +1,89 @@
+-- `search_call::run` meets its contract: the loop keeps `Going`. Assumes nothing.
+use borrow.Author.Needs.{needs}
+use native.Mathlib.Omega.{arith}
+use Prim.Native.Nat.{_-_}
+use mathlib.Core.Path.{sym, _∙_}
+use Rattle.search_call.proofs.Budget.{Going, go-start, go-standing, go-over, go-moved, go-found, go-none}
+use Rattle.search_call.proofs.run.Statement.{statement}
+use Rattle.search_call.proofs.run.Tie as tie
+
+abbrev Inv-loop : tie.InvT-loop
+Inv-loop list trail₀ marks₀ first budget used₀ n₀ trail marks used n = Going list budget trail₀ marks₀ first trail marks used n
+
+abbrev μ-loop : tie.MeasureT-loop
+μ-loop list trail₀ marks₀ first budget used₀ n₀ trail marks used n = budget - n
+
+returns : tie.Need-returns Inv-loop μ-loop
+returns c = go-found (c .before .before .before .before .before .before .before .before .before .loop .inv) (c .before .before .before .before .before .before .before .before .loop-test .taken) (c .before .before .before .before .before .step .ensures) (c .enum-told .given .1)
+
+returns-2 : tie.Need-returns-2 Inv-loop μ-loop
+returns-2 c = go-none (c .before .before .before .before .before .before .before .before .before .loop .inv) (c .before .before .before .before .before .before .before .before .loop-test .taken) (c .before .before .before .before .before .step .ensures) (c .enum-told2 .given .1)
+
+returns-3 : tie.Need-returns-3 Inv-loop μ-loop
+returns-3 c = go-over (c .before .loop .inv) (c .loop-test .left)
+
+loop-holds : tie.Need-loop-holds Inv-loop μ-loop
+loop-holds c = go-start (c .before .pre .0) (c .before .pre .1)
+
+step-requires : tie.Need-step-requires Inv-loop μ-loop
+step-requires c κs = (go-standing (c .before .before .before .loop .inv) .running, go-standing (c .before .before .before .loop .inv) .listed)
+
+add-steps : tie.Need-add-steps Inv-loop μ-loop
+add-steps c = search needs
+
+enum-known-s : tie.Need-enum-known-s Inv-loop μ-loop
+enum-known-s c = search needs
+
+loop-less : tie.Need-loop-less Inv-loop μ-loop
+loop-less c = omega arith
+
+loop-again : tie.Need-loop-again Inv-loop μ-loop
+loop-again c = go-moved (c .before .before .before .before .before .before .before .before .before .before .loop .inv) (c .before .before .before .before .before .before .before .before .before .loop-test .taken) (c .before .before .before .before .before .before .step .ensures) (c .before .s .given .1)
+
+enum-told : tie.Need-enum-told Inv-loop μ-loop
+enum-told c = search needs
+
+same-length : tie.Need-same-length Inv-loop μ-loop
+same-length c = returns c .running .literals ∙ sym (c .before .before .before .before .before .before .before .before .before .before .before .pre .0 .literals)
+
+same-length-2 : tie.Need-same-length-2 Inv-loop μ-loop
+same-length-2 c = returns c .running .bytes
+
+enum-told-2 : tie.Need-enum-told-2 Inv-loop μ-loop
+enum-told-2 c = search needs
+
+same-length-3 : tie.Need-same-length-3 Inv-loop μ-loop
+same-length-3 c = returns-2 c .running .literals ∙ sym (c .before .before .before .before .before .before .before .before .before .before .before .pre .0 .literals)
+
+same-length-4 : tie.Need-same-length-4 Inv-loop μ-loop
+same-length-4 c = returns-2 c .running .bytes
+
+same-length-5 : tie.Need-same-length-5 Inv-loop μ-loop
+same-length-5 c = returns-3 c .running .literals ∙ sym (c .before .before .before .pre .0 .literals)
+
+same-length-6 : tie.Need-same-length-6 Inv-loop μ-loop
+same-length-6 c = returns-3 c .running .bytes
+
+pub run-spec : {M : Type 1} → statement M
+run-spec =
+    tie.close
+    (tie.spec
+    Inv-loop
+    μ-loop
+    loop-holds
+    step-requires
+    add-steps
+    enum-known-s
+    enum-told
+    same-length
+    same-length-2
+    returns
+    enum-told-2
+    same-length-3
+    same-length-4
+    returns-2
+    loop-less
+    loop-again
+    same-length-5
+    same-length-6
+    returns-3)

@@ -1,0 +1,23 @@
+-- The variables met so far, of some that follow each other: a byte for each, 1 if it was met.
+use Prim.Native.Nat.{ℕ, _-_}
+use lib.Dec.{eqb, leb, ltb}
+use lib.IntN.{ℤ}
+use lib.ListN.{getD, set}
+use mathlib.Core.Path.{_≡_}
+use mathlib.Core.Bool.{Bool, cond, _&&_}
+use mathlib.Core.List.{List}
+use Rattle.search_input.specs.Entries.{variableAt, usedAt}
+
+pub record NoFlag (fs : List ℕ) : Type 0 where
+  pub each : (k : ℕ) → getD fs k 0 ≡ 0
+
+-- a variable, by the flags of the variables from low on
+abbrev pub isMet : List ℕ → ℕ → ℕ → Bool
+isMet fs low x = leb low x && eqb (getD fs (x - low) 0) 1
+
+abbrev pub met : List ℕ → ℕ → ℕ → List ℕ
+met fs low x = cond (leb low x) (set fs (x - low) 1) fs
+
+-- an entry on a variable from low on and below high, and on that of an earlier entry
+abbrev pub againAt : List ℤ → ℕ → ℕ → ℕ → Bool
+againAt ts low high i = leb low (variableAt ts i) && ltb (variableAt ts i) high && usedAt ts i

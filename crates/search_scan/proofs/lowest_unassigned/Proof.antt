@@ -1,0 +1,59 @@
+use mathlib.Core.Path.{sym, _∙_, refl}
+-- `search_scan::lowest_unassigned` meets its contract: the loop keeps `Seeking`. Assumes nothing.
+use borrow.Author.Needs.{needs}
+use native.Mathlib.Omega.{arith}
+use Prim.Native.Nat.{suc, _-_}
+use lib.ListN.{length}
+use Rattle.answers.proofs.First.{Seeking, seek-start, seek-on, seek-found, seek-none}
+use Rattle.search.specs.Trail.{isUnassigned}
+use Rattle.search.specs.Step.{lowestUnassigned}
+use Rattle.search_scan.specs.Held.{held}
+use Rattle.search_scan.proofs.lowest_unassigned.Statement.{statement}
+use Rattle.search_scan.proofs.lowest_unassigned.Tie as tie
+
+abbrev Inv-loop : tie.InvT-loop
+Inv-loop marks i₀ i = Seeking (λ n. isUnassigned (held marks (suc n))) (length marks) i
+
+abbrev μ-loop : tie.MeasureT-loop
+μ-loop marks i₀ i = length marks - i
+
+loop-holds : tie.Need-loop-holds Inv-loop μ-loop
+loop-holds c = seek-start
+
+shared-slice-read-is-unassigned : tie.Need-shared-slice-read-is-unassigned Inv-loop μ-loop
+shared-slice-read-is-unassigned c = omega arith
+
+is-unassigned-requires : tie.Need-is-unassigned-requires Inv-loop μ-loop
+is-unassigned-requires c κs = search needs
+
+returns : tie.Need-returns Inv-loop μ-loop
+unfolding lowestUnassigned
+returns c = seek-found (c .before .before .before .before .loop .inv) (omega arith) (sym (c .before .is-unassigned .ensures) ∙ c .if1 .taken) refl
+
+add-i : tie.Need-add-i Inv-loop μ-loop
+add-i c = omega arith
+
+loop-less : tie.Need-loop-less Inv-loop μ-loop
+loop-less c = omega arith
+
+loop-again : tie.Need-loop-again Inv-loop μ-loop
+loop-again c = seek-on (c .before .before .before .before .loop .inv) (omega arith) (sym (c .before .is-unassigned .ensures) ∙ c .if1 .left)
+
+returns-2 : tie.Need-returns-2 Inv-loop μ-loop
+unfolding lowestUnassigned
+returns-2 c = seek-none (c .before .loop .inv) (omega arith) refl
+
+pub lowest-unassigned-spec : {M : Type 1} → statement M
+lowest-unassigned-spec =
+    tie.close
+    (tie.spec
+    Inv-loop
+    μ-loop
+    loop-holds
+    shared-slice-read-is-unassigned
+    is-unassigned-requires
+    returns
+    add-i
+    loop-less
+    loop-again
+    returns-2)

@@ -1,0 +1,51 @@
+-- `solver_call::room::first_short` meets its contract. Assumes nothing.
+use lib.ListN.{drop}
+use mathlib.Core.Path.{sym}
+use mathlib.Core.List.{List}
+use Rattle.answers.specs.declared.Told.{Told}
+use Rattle.answers.specs.Told.{Row}
+use Rattle.answers.proofs.Rows.{Left, left-all, left-next, left-turn, left-done}
+use Rattle.answers.proofs.Settled.{short-by, long-enough}
+use Rattle.solver_call.specs.Room.{shortRows}
+use borrow.Author.Needs.{needs}
+use Rattle.solver_call.proofs.rooms.first_short.Statement.{statement}
+use Rattle.solver_call.proofs.rooms.first_short.Tie as tie
+
+abbrev rows : tie.Start → List Row
+rows c = shortRows (c .args .lent) (c .args .needed)
+
+past-list : (c : tie.Else1) (t : Told) → Left (rows (c .before .before .before)) t (drop 1 (rows (c .before .before .before)))
+past-list c t = left-next (left-all (rows (c .before .before .before)) t) (sym (long-enough _ (c .if1 .left)))
+
+past-trail : (c : tie.Else2) (t : Told) → Left (rows (c .before .before .before .before .before .before)) t (drop 2 (rows (c .before .before .before .before .before .before)))
+past-trail c t = left-next (past-list (c .before .before .before) t) (sym (long-enough _ (c .if2 .left)))
+
+past-marks : (c : tie.Else3) (t : Told) → Left (rows (c .before .before .before .before .before .before .before .before .before)) t (drop 3 (rows (c .before .before .before .before .before .before .before .before .before)))
+past-marks c t = left-next (past-trail (c .before .before .before) t) (sym (long-enough _ (c .if3 .left)))
+
+past-values : (c : tie.Else4) (t : Told) → Left (rows (c .before .before .before .before .before .before .before .before .before .before .before .before)) t (drop 4 (rows (c .before .before .before .before .before .before .before .before .before .before .before .before)))
+past-values c t = left-next (past-marks (c .before .before .before) t) (sym (long-enough _ (c .if4 .left)))
+
+past-drawing : (c : tie.Else5) (t : Told) → Left (rows (c .before .before .before .before .before .before .before .before .before .before .before .before .before .before .before)) t (drop 5 (rows (c .before .before .before .before .before .before .before .before .before .before .before .before .before .before .before)))
+past-drawing c t = left-next (past-values (c .before .before .before) t) (sym (long-enough _ (c .if5 .left)))
+
+returns : tie.Need-returns
+returns c t = left-turn (left-all (rows (c .before .before .before)) t) (sym (short-by _ (c .if1 .taken) (search needs)))
+
+returns-2 : tie.Need-returns-2
+returns-2 c t = left-turn (past-list (c .before .before .before) t) (sym (short-by _ (c .if2 .taken) (search needs)))
+
+returns-3 : tie.Need-returns-3
+returns-3 c t = left-turn (past-trail (c .before .before .before) t) (sym (short-by _ (c .if3 .taken) (search needs)))
+
+returns-4 : tie.Need-returns-4
+returns-4 c t = left-turn (past-marks (c .before .before .before) t) (sym (short-by _ (c .if4 .taken) (search needs)))
+
+returns-5 : tie.Need-returns-5
+returns-5 c t = left-turn (past-values (c .before .before .before) t) (sym (short-by _ (c .if5 .taken) (search needs)))
+
+returns-6 : tie.Need-returns-6
+returns-6 c t = left-done (past-drawing c t)
+
+pub first-short-spec : {M : Type 1} → statement M
+first-short-spec = tie.close (tie.spec returns returns-2 returns-3 returns-4 returns-5 returns-6)

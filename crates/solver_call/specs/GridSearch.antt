@@ -1,0 +1,49 @@
+-- What the functions ask and give.
+use Prim.Native.Nat.{ℕ, _≤_, _<_}
+use lib.IntN.{ℤ, pos}
+use lib.ListN.{length, getD, take}
+use mathlib.Core.Path.{_≡_}
+use mathlib.Core.List.{List}
+use Rattle.answers.specs.Lent.{filled}
+use Rattle.rules.specs.Record.{IsAccepted}
+use Rattle.rules.specs.Board.{boardOf}
+use Rattle.encoder.specs.Variables.{variableCount}
+use Rattle.encoder.specs.Clauses.{clauseList}
+use Rattle.encoder.specs.Decoding.{decoded}
+use Rattle.search.specs.Trail.{trailImage, marksImage, trailOf}
+use Rattle.search.specs.Run.{toldDone}
+use Rattle.search_theory.proofs.Lists.{Proper}
+use Rattle.search_theory.proofs.Legal.{Legal}
+use Rattle.search_call.specs.declared.Answer.{Answer}
+use Rattle.search_call.specs.Answers.{toldAnswer}
+use Rattle.solver.specs.Solving.{solved, trailBytes, atFound}
+use Rattle.solver_call.specs.declared.Needs.{Needs}
+use Rattle.solver_call.specs.Room.{needsOf}
+
+-- v literals of v variables
+pub record Literals (v : ℕ) (ts : List ℤ) : Type 0 where
+  pub long : length ts ≡ v
+  pub each : (i : ℕ) → i < v → Proper v (getD ts i (pos 0))
+
+-- where these are, with any marks, the literals of a trail, the bytes are that trail's
+abbrev pub Gives : ℕ → List ℤ → List ℕ → Type 0
+Gives v ts vs = (ms : List ℕ) → Legal v (trailOf ts ms v) → vs ≡ trailBytes v (trailOf ts ms v)
+
+-- an accepted record, a list that begins with its grid's clauses, and buffers that have room
+pub record Fits (s : List ℕ) (needed : Needs) (ls ts : List ℤ) (ms vs ds : List ℕ) : Type 0 where
+  pub accepted : IsAccepted s
+  pub needs : needed ≡ needsOf (boardOf s)
+  pub clauses : take (needed .elements) ls ≡ clauseList (boardOf s)
+  pub list : needed .elements ≤ length ls
+  pub trail : needed .variables ≤ length ts
+  pub marks : needed .variables ≤ length ms
+  pub values : needed .variables ≤ length vs
+  pub drawing : needed .cells ≤ length ds
+
+-- from trail, marks, values and drawing, what is answered and left in them
+pub record Ends (s : List ℕ) (budget : ℕ) (ts : List ℤ) (ms vs ds : List ℕ) (a : Answer) (us : List ℤ) (ns ws es : List ℕ) : Type 0 where
+  pub told : toldAnswer a ≡ toldDone (solved (boardOf s) budget)
+  pub trail : us ≡ filled ts (trailImage (variableCount (boardOf s)) (solved (boardOf s) budget .trail))
+  pub marks : ns ≡ filled ms (marksImage (variableCount (boardOf s)) (solved (boardOf s) budget .trail))
+  pub values : ws ≡ atFound (solved (boardOf s) budget .ending) vs (filled vs (trailBytes (variableCount (boardOf s)) (solved (boardOf s) budget .trail)))
+  pub drawing : es ≡ atFound (solved (boardOf s) budget .ending) ds (filled ds (decoded (boardOf s) (trailBytes (variableCount (boardOf s)) (solved (boardOf s) budget .trail))))

@@ -1,0 +1,55 @@
+// The search on a grid's clauses, and at "found" the drawing to which its trail decodes.
+ghost use lib.ListN.{length};
+ghost use Rattle.solver_call.specs.GridSearch.{Literals, Gives, Fits, Ends};
+use super::Needs;
+use cnf::code_at;
+use decoder::decode;
+use search_call::Answer;
+use search_call::search;
+
+// Writes a full trail's bytes: 1 at the variable of each literal, 0 if it is negated.
+fn give_values(trail: &[i32], values: &mut [u8])
+    requires { ⌜ Literals (length (now values)) (now trail) ⌝ }
+    ensures { λ r. ⌜ Gives (length (now (values .entry))) (now (trail .entry)) (now (values .exit)) ⌝ }
+{
+    let mut i: usize = 0;
+    while i < trail.len() {
+        let k = code_at(trail, i);
+        let x = k / 2 - 1;
+        values[x] = 1 - (k % 2) as u8;
+        i += 1;
+    }
+}
+
+// Searches a grid's clauses, begun empty; at "found" writes the trail's bytes and draws them. Of each buffer the part that is needed is lent on.
+pub fn find_drawing(
+    record: &[u8],
+    list: &[i32],
+    trail: &mut [i32],
+    marks: &mut [u8],
+    values: &mut [u8],
+    drawing: &mut [u8],
+    needed: Needs,
+    budget: u64,
+) -> Answer
+    requires { ⌜ Fits (now «record») needed (now list) (now trail) (now marks) (now values) (now drawing) ⌝ }
+    ensures { λ r. ⌜ Ends (now («record» .entry)) budget (now (trail .entry)) (now (marks .entry)) (now (values .entry)) (now (drawing .entry)) r (now (trail .exit)) (now (marks .exit)) (now (values .exit)) (now (drawing .exit)) ⌝ }
+{
+    let elements = needed.elements;
+    let v = needed.variables;
+    let n = needed.cells;
+    let answer = search(
+        v,
+        &list[..elements],
+        &mut trail[..v],
+        &mut marks[..v],
+        0,
+        budget,
+    );
+    let Answer::Found(_) = answer else {
+        return answer;
+    };
+    give_values(&trail[..v], &mut values[..v]);
+    decode(record, &values[..v], &mut drawing[..n]);
+    answer
+}

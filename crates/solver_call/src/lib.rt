@@ -1,0 +1,112 @@
+// The solver: a record's bytes in; a drawing, "none" or "halted" out.
+ghost use mathlib.Core.Path.{_≡_};
+ghost use Rattle.solver.specs.Solving.{solverAnswer, solverLeaves};
+ghost use Rattle.solver_call.specs.Answer.{toldSolved, passedUp, endedAs, lentOf};
+use encoder_call::encode;
+use grid_search::find_drawing;
+use rooms::first_short;
+use rooms::needs_of;
+use rules::Parsed;
+use rules::Refusal;
+use rules::record::read;
+use search_call::Answer;
+use search_call::Count;
+
+pub mod told; // what the answers tell
+mod rooms; // what a grid needs of the lent buffers
+mod grid_search; // the search on a grid's clauses, with its drawing
+
+// The elements of a grid's clause list, V and N.
+pub struct Needs {
+    pub elements: usize,
+    pub variables: usize,
+    pub cells: usize,
+}
+
+// The elements of the five lent buffers.
+pub struct Lengths {
+    pub list: usize,
+    pub trail: usize,
+    pub marks: usize,
+    pub values: usize,
+    pub drawing: usize,
+}
+
+// Whether there is room, or the elements needed where there is not.
+pub enum Room {
+    Enough,
+    Short(usize),
+}
+
+// Why a call is turned down: the record's refusal, else 6 with the elements needed.
+pub enum Unsolved {
+    Record(Refusal),
+    TooShort(usize),
+}
+
+// The answers of the search, each with its steps and its used count.
+pub enum Solved {
+    Found(Count),
+    None(Count),
+    Halted(Count),
+    Refused(Unsolved),
+}
+
+// How a search on a grid's clauses ended. It is never turned down.
+fn ended(answer: Answer) -> Solved
+    ensures { λ r. ⌜ r ≡ endedAs answer ⌝ }
+{
+    match answer {
+        Answer::Found(c) => Solved::Found(c),
+        Answer::None(c) => Solved::None(c),
+        Answer::Halted(c) => Solved::Halted(c),
+        Answer::Lengths => Solved::Halted(Count { steps: 0, used: 0 }),
+        Answer::List(_) => Solved::Halted(Count { steps: 0, used: 0 }),
+        Answer::Entry(_) => Solved::Halted(Count { steps: 0, used: 0 }),
+        Answer::Untrue => Solved::Halted(Count { steps: 0, used: 0 }),
+    }
+}
+
+// A refusal of the record reader, passed up unchanged.
+fn passed_up(p: Parsed) -> Solved
+    ensures { λ r. ⌜ r ≡ passedUp p ⌝ }
+{
+    let Parsed::Refused(r) = p else {
+        return Solved::Halted(Count { steps: 0, used: 0 });
+    };
+    Solved::Refused(Unsolved::Record(r))
+}
+
+// Solves a record's grid, or names the first cause against it.
+pub fn solve(
+    record: &[u8],
+    list: &mut [i32],
+    trail: &mut [i32],
+    marks: &mut [u8],
+    values: &mut [u8],
+    drawing: &mut [u8],
+    budget: u64,
+) -> Solved
+    ensures { λ r. ⌜ toldSolved r ≡ solverAnswer (now («record» .entry)) budget (lentOf (now (list .entry)) (now (trail .entry)) (now (marks .entry)) (now (values .entry)) (now (drawing .entry))) ⌝ }
+    ensures { λ r. ⌜ lentOf (now (list .exit)) (now (trail .exit)) (now (marks .exit)) (now (values .exit)) (now (drawing .exit)) ≡ solverLeaves (now («record» .entry)) budget (lentOf (now (list .entry)) (now (trail .entry)) (now (marks .entry)) (now (values .entry)) (now (drawing .entry))) ⌝ }
+{
+    let p = read(record);
+    let Parsed::Accepted(g) = p else {
+        return passed_up(p);
+    };
+    let needed = needs_of(g, record);
+    let lent = Lengths {
+        list: list.len(),
+        trail: trail.len(),
+        marks: marks.len(),
+        values: values.len(),
+        drawing: drawing.len(),
+    };
+    let room = first_short(lent, needed);
+    if let Room::Short(n) = room {
+        return Solved::Refused(Unsolved::TooShort(n));
+    }
+    encode(record, list);
+    let answer = find_drawing(record, list, trail, marks, values, drawing, needed, budget);
+    ended(answer)
+}
