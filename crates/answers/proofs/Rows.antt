@@ -7,42 +7,42 @@ use mathlib.Core.Path.{_≡_, refl, sym, _∙_, ap}
 use mathlib.Core.Bool.{Bool, true, false}
 use mathlib.Core.Option.{Option, none, some, Option·some-ne-none}
 use mathlib.Core.List.{List, [], _∷_, _++_}
-use Rattle.answers.specs.declared.Told.{Told}
-use Rattle.answers.specs.Told.{Row, row, refusal, cause, unless, turnedDown}
+use Rattle.answers.specs.declared.Outcome.{Outcome}
+use Rattle.answers.specs.Outcome.{Row, row, refusal, cause, unless, firstRefusal}
 use Rattle.answers.specs.Lists.{tally, howMany, All}
 
 -- how the rows are gone through: passed one by one, until one turns the call down or none is left
-pub data Tells : List Row → Told → Told → Type 0 where
-  answers : {t : Told} → Tells [] t t
-  turns : {n v : ℕ} {o : Option ℕ} {rs : List Row} {t : Told} → o ≡ some v → Tells (row n o ∷ rs) t (refusal n v)
-  passes : {n : ℕ} {o : Option ℕ} {rs : List Row} {t u : Told} → o ≡ none → Tells rs t u → Tells (row n o ∷ rs) t u
+pub data Tells : List Row → Outcome → Outcome → Type 0 where
+  answers : {t : Outcome} → Tells [] t t
+  turns : {n v : ℕ} {o : Option ℕ} {rs : List Row} {t : Outcome} → o ≡ some v → Tells (row n o ∷ rs) t (refusal n v)
+  passes : {n : ℕ} {o : Option ℕ} {rs : List Row} {t u : Outcome} → o ≡ none → Tells rs t u → Tells (row n o ∷ rs) t u
 
-pub tells : {rs : List Row} {t u : Told} → Tells rs t u → u ≡ turnedDown rs t
+pub tells : {rs : List Row} {t u : Outcome} → Tells rs t u → u ≡ firstRefusal rs t
 tells answers = refl
-tells (turns {n = n} {rs = rs} {t = t} e) = sym (ap (λ (o : Option ℕ). unless n o (turnedDown rs t)) e)
-tells (passes {n = n} {rs = rs} {t = t} e h) = tells h ∙ sym (ap (λ (o : Option ℕ). unless n o (turnedDown rs t)) e)
+tells (turns {n = n} {rs = rs} {t = t} e) = sym (ap (λ (o : Option ℕ). unless n o (firstRefusal rs t)) e)
+tells (passes {n = n} {rs = rs} {t = t} e h) = tells h ∙ sym (ap (λ (o : Option ℕ). unless n o (firstRefusal rs t)) e)
 
 -- what is left of a table's rows, those before being passed: what the rest tells is what the whole tells
-pub record Left (whole : List Row) (t : Told) (rows : List Row) : Type 0 where
-  pub leads : {u : Told} → Tells rows t u → u ≡ turnedDown whole t
+pub record Left (whole : List Row) (t : Outcome) (rows : List Row) : Type 0 where
+  pub leads : {u : Outcome} → Tells rows t u → u ≡ firstRefusal whole t
 
-pub left-all : (whole : List Row) (t : Told) → Left whole t whole
+pub left-all : (whole : List Row) (t : Outcome) → Left whole t whole
 left-all whole t = record { leads = λ h. tells h }
 
-module _ {whole rows : List Row} {t : Told} {n : ℕ} {o : Option ℕ} (l : Left whole t (row n o ∷ rows)) where
+module _ {whole rows : List Row} {t : Outcome} {n : ℕ} {o : Option ℕ} (l : Left whole t (row n o ∷ rows)) where
   pub left-next : none ≡ o → Left whole t rows
   left-next e = record { leads = λ h. l .leads (passes (sym e) h) }
 
-  pub left-turn : {v : ℕ} → some v ≡ o → refusal n v ≡ turnedDown whole t
+  pub left-turn : {v : ℕ} → some v ≡ o → refusal n v ≡ firstRefusal whole t
   left-turn e = l .leads (turns (sym e))
 
-pub left-done : {whole : List Row} {t : Told} → Left whole t [] → t ≡ turnedDown whole t
+pub left-done : {whole : List Row} {t : Outcome} → Left whole t [] → t ≡ firstRefusal whole t
 left-done l = l .leads answers
 
 -- rows in two parts
-pub turned-append : (rs qs : List Row) (t : Told) → turnedDown (rs ++ qs) t ≡ turnedDown rs (turnedDown qs t)
-turned-append [] qs t = refl
-turned-append (r ∷ rs) qs t = ap (unless (r .number) (r .beside)) (turned-append rs qs t)
+pub refusals-append : (rs qs : List Row) (t : Outcome) → firstRefusal (rs ++ qs) t ≡ firstRefusal rs (firstRefusal qs t)
+refusals-append [] qs t = refl
+refusals-append (r ∷ rs) qs t = ap (unless (r .number) (r .beside)) (refusals-append rs qs t)
 
 -- no row's cause is there
 abbrev pub Clear : List Row → Type 0
@@ -52,30 +52,30 @@ Clear rs = All (λ (r : Row). r .beside ≡ none) rs
 abbrev unnumbered : List Row → ℕ
 unnumbered rs = howMany (λ (r : Row). eqb (r .number) 0) rs
 
-pub answered-clear : (rs : List Row) (t : Told) → unnumbered rs ≡ 0 → turnedDown rs t .number ≡ 0 → Clear rs
+pub answered-clear : (rs : List Row) (t : Outcome) → unnumbered rs ≡ 0 → firstRefusal rs t .number ≡ 0 → Clear rs
 answered-clear [] t n e = tt
 answered-clear (r ∷ rs) t n e = by (eqb (r .number) 0) refl n (r .beside) refl e (answered-clear rs t)
   where
-    by : (z : Bool) → eqb (r .number) 0 ≡ z → tally z (unnumbered rs) ≡ 0 → (o : Option ℕ) → r .beside ≡ o → unless (r .number) o (turnedDown rs t) .number ≡ 0
-        → (unnumbered rs ≡ 0 → turnedDown rs t .number ≡ 0 → Clear rs) → Clear (r ∷ rs)
+    by : (z : Bool) → eqb (r .number) 0 ≡ z → tally z (unnumbered rs) ≡ 0 → (o : Option ℕ) → r .beside ≡ o → unless (r .number) o (firstRefusal rs t) .number ≡ 0
+        → (unnumbered rs ≡ 0 → firstRefusal rs t .number ≡ 0 → Clear rs) → Clear (r ∷ rs)
     by true q n o p e go = absurd (omega arith)
     by false q n none p e go = (p, go n e)
     by false q n (some v) p e go = absurd (eqb-false (r .number) 0 q e)
 
-pub clear-answered : (rs : List Row) (t : Told) → Clear rs → turnedDown rs t ≡ t
+pub clear-answered : (rs : List Row) (t : Outcome) → Clear rs → firstRefusal rs t ≡ t
 clear-answered [] t c = refl
-clear-answered (r ∷ rs) t c = ap (λ (o : Option ℕ). unless (r .number) o (turnedDown rs t)) (c .0) ∙ clear-answered rs t (c .1)
+clear-answered (r ∷ rs) t c = ap (λ (o : Option ℕ). unless (r .number) o (firstRefusal rs t)) (c .0) ∙ clear-answered rs t (c .1)
 
 pub no-cause : (t : Bool) → cause t ≡ none → t ≡ false
 no-cause true e = absurd (Option·some-ne-none 0 e)
 no-cause false e = refl
 
 -- a call that the first rows turn down is turned down whatever comes after them
-pub still-turned : (rs qs : List Row) (t u : Told) → t .number ≡ 0 → (turnedDown rs t .number ≡ 0 → ⊥) → turnedDown rs t ≡ turnedDown (rs ++ qs) u
-still-turned [] qs t u z n = absurd (n z)
-still-turned (r ∷ rs) qs t u z n = by (r .beside) n (still-turned rs qs t u z)
+pub still-refused : (rs qs : List Row) (t u : Outcome) → t .number ≡ 0 → (firstRefusal rs t .number ≡ 0 → ⊥) → firstRefusal rs t ≡ firstRefusal (rs ++ qs) u
+still-refused [] qs t u z n = absurd (n z)
+still-refused (r ∷ rs) qs t u z n = by (r .beside) n (still-refused rs qs t u z)
   where
-    by : (o : Option ℕ) → (unless (r .number) o (turnedDown rs t) .number ≡ 0 → ⊥) → ((turnedDown rs t .number ≡ 0 → ⊥) → turnedDown rs t ≡ turnedDown (rs ++ qs) u)
-        → unless (r .number) o (turnedDown rs t) ≡ unless (r .number) o (turnedDown (rs ++ qs) u)
+    by : (o : Option ℕ) → (unless (r .number) o (firstRefusal rs t) .number ≡ 0 → ⊥) → ((firstRefusal rs t .number ≡ 0 → ⊥) → firstRefusal rs t ≡ firstRefusal (rs ++ qs) u)
+        → unless (r .number) o (firstRefusal rs t) ≡ unless (r .number) o (firstRefusal (rs ++ qs) u)
     by none n go = go n
     by (some v) n go = refl

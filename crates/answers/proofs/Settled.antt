@@ -7,9 +7,9 @@ use mathlib.Core.Path.{_≡_, _∙_, ap}
 use mathlib.Core.Bool.{cond}
 use mathlib.Core.Option.{none, some}
 use mathlib.Core.List.{List}
-use Rattle.answers.specs.declared.Told.{Told}
-use Rattle.answers.specs.Told.{Row, turnedDown}
-use Rattle.answers.specs.Lent.{capped, tooShort, leaves}
+use Rattle.answers.specs.declared.Outcome.{Outcome}
+use Rattle.answers.specs.Outcome.{Row, firstRefusal}
+use Rattle.answers.specs.Lent.{capped, tooShort, unlessRefused}
 use Rattle.answers.proofs.First.{not-found}
 use Rattle.answers.proofs.Rows.{Tells, tells}
 
@@ -28,9 +28,9 @@ module _ (room : ℕ) {needed : ℕ} where
   enough e = ltb-false room needed (not-found (ltb room needed) (capped needed) e)
 
 -- a refusal leaves all as it was
-pub untouched : {A : Type 0} (t : Told) (before after : A) → (t .number ≡ 0 → ⊥) → leaves t before after ≡ before
+pub untouched : {A : Type 0} (t : Outcome) (before after : A) → (t .number ≡ 0 → ⊥) → unlessRefused t before after ≡ before
 untouched t before after n = ap (λ b. cond b after before) (ne-eqb (t .number) 0 n)
 
 -- what it tells, and what it leaves in the buffer
-pub settled : {A : Type 0} (rows : List Row) (t : Told) (before after : A) {new : A} {u : Told} → Tells rows t u → new ≡ leaves u before after → (u ≡ turnedDown rows t) × (new ≡ leaves (turnedDown rows t) before after)
-settled rows t before after g l = let e = tells g in (e, l ∙ ap (λ s. leaves s before after) e)
+pub settled : {A : Type 0} (rows : List Row) (t : Outcome) (before after : A) {new : A} {u : Outcome} → Tells rows t u → new ≡ unlessRefused u before after → (u ≡ firstRefusal rows t) × (new ≡ unlessRefused (firstRefusal rows t) before after)
+settled rows t before after g l = let e = tells g in (e, l ∙ ap (λ s. unlessRefused s before after) e)

@@ -7,7 +7,7 @@ use mathlib.Core.Path.{_≡_}
 use mathlib.Core.Bool.{cond}
 use mathlib.Core.Option.{Option, none}
 use mathlib.Core.List.{List, _++_}
-use Rattle.answers.specs.declared.Told.{Told}
+use Rattle.answers.specs.declared.Outcome.{Outcome}
 use Rattle.answers.specs.First.{found}
 
 -- a number beside a refusal: 2^64 − 1 if more
@@ -23,8 +23,8 @@ abbrev pub filled : {A : Type 0} → List A → List A → List A
 filled buf xs = xs ++ drop (length xs) buf
 
 -- turned down, a call leaves all as it was
-abbrev pub leaves : {A : Type 0} → Told → A → A → A
-leaves t before after = cond (eqb (t .number) 0) after before
+abbrev pub unlessRefused : {A : Type 0} → Outcome → A → A → A
+unlessRefused t before after = cond (eqb (t .number) 0) after before
 
 -- the contract of what writes: the buffer before, the place, the elements, the buffer after, the place after them.
 -- An element beyond the end is left out and counted all the same.

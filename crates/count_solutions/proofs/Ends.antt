@@ -11,16 +11,16 @@ use Rattle.answers.proofs.Lent.{wrote-recast}
 use Rattle.rules.specs.Board.{boardOf}
 use Rattle.encoder.specs.Variables.{variableCount}
 use Rattle.encoder_size.specs.declared.Counts.{Counts}
-use Rattle.encoder_call.specs.Answer.{toldCounts}
+use Rattle.encoder_call.specs.Answer.{countsOutcome}
 use Rattle.search.specs.Run.{IsAccepted}
-use Rattle.solver.specs.Counting.{Many, NoSolution, OneSolution, SeveralSolutions, Unsettled, manyIn, manyOf}
+use Rattle.solver.specs.SolutionCount.{SolutionCount, NoSolution, OneSolution, SeveralSolutions, Unknown, solutionCountIn, solutionCountOf}
 use Rattle.solver.proofs.Begun as begun
 use Rattle.program_text.specs.Programs.{mostHeld, budget}
 use Rattle.program_text.proofs.Limits.{printed-text, printed-fits}
-use Rattle.program_text.proofs.Encoding.{Encodes, read, variables, listed, unrefused}
+use Rattle.program_text.proofs.Encoded.{Encodes, read, variables, listed, unrefused}
 use Rattle.count_solutions.specs.Printed.{countLine, printedCount}
 
-module _ {s : List ℕ} {new : List ℤ} {c : Counts} (w : Encodes s (toldCounts c) new) (h : c .variables ≤ mostHeld) where
+module _ {s : List ℕ} {new : List ℤ} {c : Counts} (w : Encodes s (countsOutcome c) new) (h : c .variables ≤ mostHeld) where
   -- the parts of trail and marks that are lent on
   part-long : {A : Type 0} (x : A) → length (take (c .variables) (replicate mostHeld x)) ≡ variableCount (boardOf s)
   part-long x = length-take-le (c .variables) (replicate mostHeld x) (omega (arith, length-replicate mostHeld x)) ∙ variables w refl
@@ -34,14 +34,14 @@ module _ {s : List ℕ} {new : List ℤ} {c : Counts} (w : Encodes s (toldCounts
   pub taken : IsAccepted (length ts) (take (c .elements) new) ts ms 0
   taken = rw (part-long (pos 0), listed w refl) (begun.taken s (read w refl) budget ts ms (part-long (pos 0)) (part-long 0))
 
-  pub ends-counted : {m : Many} {buf after : List ℕ} {r : ℕ} → m ≡ manyIn (length ts) (take (c .elements) new) budget → Wrote buf 0 (countLine m) after r → Wrote buf 0 (printedCount s) after r
-  ends-counted e p = wrote-recast (ap countLine (e ∙ (λ i. manyIn (part-long (pos 0) i) (listed w refl i) budget)) ∙ printed-text _ (unrefused w refl h)) p
+  pub ends-counted : {m : SolutionCount} {buf after : List ℕ} {r : ℕ} → m ≡ solutionCountIn (length ts) (take (c .elements) new) budget → Wrote buf 0 (countLine m) after r → Wrote buf 0 (printedCount s) after r
+  ends-counted e p = wrote-recast (ap countLine (e ∙ (λ i. solutionCountIn (part-long (pos 0) i) (listed w refl i) budget)) ∙ printed-text _ (unrefused w refl h)) p
 
 pub count-fits : (s : List ℕ) → length (printedCount s) ≤ 4096
-count-fits s = printed-fits s _ 4096 (omega arith) (λ e. by (manyOf (boardOf s) budget))
+count-fits s = printed-fits s _ 4096 (omega arith) (λ e. by (solutionCountOf (boardOf s) budget))
   where
-    by : (m : Many) → length (countLine m) ≤ 4096
+    by : (m : SolutionCount) → length (countLine m) ≤ 4096
     by NoSolution = omega arith
     by OneSolution = omega arith
     by SeveralSolutions = omega arith
-    by Unsettled = omega arith
+    by Unknown = omega arith

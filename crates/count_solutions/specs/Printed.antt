@@ -2,15 +2,15 @@
 use Prim.Native.Nat.{ℕ}
 use mathlib.Core.List.{List}
 use Rattle.rules.specs.Board.{boardOf}
-use Rattle.solver.specs.Counting.{Many, NoSolution, OneSolution, SeveralSolutions, Unsettled, manyOf}
+use Rattle.solver.specs.SolutionCount.{SolutionCount, NoSolution, OneSolution, SeveralSolutions, Unknown, solutionCountOf}
 use Rattle.program_text.specs.Lines.{noneLine, oneLine, severalLine, haltedLine}
 use Rattle.program_text.specs.Programs.{programNumber, printed, budget}
 
-abbrev pub countLine : Many → List ℕ
+abbrev pub countLine : SolutionCount → List ℕ
 countLine NoSolution = noneLine
 countLine OneSolution = oneLine
 countLine SeveralSolutions = severalLine
-countLine Unsettled = haltedLine
+countLine Unknown = haltedLine
 
 abbrev pub printedCount : List ℕ → List ℕ
-printedCount s = printed (programNumber s) (countLine (manyOf (boardOf s) budget))
+printedCount s = printed (programNumber s) (countLine (solutionCountOf (boardOf s) budget))

@@ -7,7 +7,7 @@ use encoder_call::Encoded;
 use encoder_call::encode;
 use program_text::put_refused;
 use program_text::put_word;
-use solver_count::Many;
+use solver_count::SolutionCount;
 use solver_count::count_solutions;
 
 // The list elements that the program holds.
@@ -20,14 +20,14 @@ const MOST_VARIABLES: usize = 4096;
 const BUDGET: u64 = 1000000;
 
 // The line of an answer.
-fn put_many(text: &mut [u8], many: Many) -> usize
+fn put_count(text: &mut [u8], many: SolutionCount) -> usize
     ensures { λ r. ⌜ Wrote (now (text .entry)) 0 (countLine (meant many)) (now (text .exit)) r ⌝ }
 {
     match many {
-        Many::NoSolution => put_word(text, 0, b"none\n"),
-        Many::OneSolution => put_word(text, 0, b"one\n"),
-        Many::SeveralSolutions => put_word(text, 0, b"several\n"),
-        Many::Unsettled => put_word(text, 0, b"halted\n"),
+        SolutionCount::NoSolution => put_word(text, 0, b"none\n"),
+        SolutionCount::OneSolution => put_word(text, 0, b"one\n"),
+        SolutionCount::SeveralSolutions => put_word(text, 0, b"several\n"),
+        SolutionCount::Unknown => put_word(text, 0, b"halted\n"),
     }
 }
 
@@ -37,8 +37,8 @@ fn count_text(record: &[u8], text: &mut [u8]) -> usize
 {
     let mut list = [0i32; MOST_ELEMENTS];
     let e = encode(record, &mut list);
-    let Encoded::Listed(c) = e else {
-        return put_refused(text, e.told().number as usize);
+    let Encoded::Written(c) = e else {
+        return put_refused(text, e.outcome().number as usize);
     };
     let elements = c.elements;
     let v = c.variables;
@@ -48,7 +48,7 @@ fn count_text(record: &[u8], text: &mut [u8]) -> usize
     let mut trail = [0i32; MOST_VARIABLES];
     let mut marks = [0u8; MOST_VARIABLES];
     let many = count_solutions(&list[..elements], &mut trail[..v], &mut marks[..v], BUDGET);
-    put_many(text, many)
+    put_count(text, many)
 }
 
 // No record has more than 65,535 bytes, so 65,536 of a longer input are enough to refuse it.

@@ -26,7 +26,7 @@ use Rattle.encoder.proofs.Known.{Known, in-variables}
 use Rattle.encoder.proofs.Places.{rank, place-z, place-e}
 use Rattle.encoder.proofs.Values.{value-known}
 use Rattle.encoder.proofs.Bounds.{place-below}
-use Rattle.encoder_numbers.specs.Tables.{wayPlace}
+use Rattle.encoder_numbers.specs.Tables.{linkPlace}
 use Rattle.decoder.specs.Values.{Valued}
 
 -- a link, by the values of E either way
@@ -48,7 +48,7 @@ module _ {g : Grid} {s values : List ℕ} {f : ℕ} {firsts : List ℕ} (p : Val
   w = valueOf b values
 
   law : Laws b
-  law = laws (puzzle g s) (held-filled (p .ways .held))
+  law = laws (puzzle g s) (held-filled (p .linkVariables .recordFits))
 
   -- only a variable has a value that holds
   proper : (v : Variable) → w v ≡ true → Known b v
@@ -70,7 +70,7 @@ module _ {g : Grid} {s values : List ℕ} {f : ℕ} {firsts : List ℕ} (p : Val
   pub at-z : (x : ℕ) {i : ℕ} → b .isOpen x ≡ true → i ≡ rank b x → i ≡ place (Z x) (variables b)
   at-z x h e = e ∙ sym (place-z b law x h)
 
-  pub at-e : (x : ℕ) (d : Direction) {i : ℕ} → Known b (E x d) → i ≡ wayPlace b x d → i ≡ place (E x d) (variables b)
+  pub at-e : (x : ℕ) (d : Direction) {i : ℕ} → Known b (E x d) → i ≡ linkPlace b x d → i ≡ place (E x d) (variables b)
   at-e x d (h, (y, l, o)) e = e ∙ sym (place-e b law x d y h l o)
 
   -- the other way of a link is a variable too

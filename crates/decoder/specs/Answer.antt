@@ -4,31 +4,31 @@ use lib.Dec.{eqb}
 use lib.ListN.{length}
 use mathlib.Core.Bool.{not}
 use mathlib.Core.List.{List, [], _∷_, _++_}
-use Rattle.answers.specs.declared.Told.{Told}
-use Rattle.answers.specs.Told.{refusal, Row, row, cause}
+use Rattle.answers.specs.declared.Outcome.{Outcome}
+use Rattle.answers.specs.Outcome.{refusal, Row, row, cause}
 use Rattle.rules.specs.declared.Grid.{Grid}
 use Rattle.rules.specs.declared.Parsed.{Parsed}
 use Rattle.rules.specs.declared.Parsed.the-variants.{Accepted, Refused as NotRead}
-use Rattle.rules.specs.Record.{size, toldRefusal}
+use Rattle.rules.specs.Record.{size, recordRefusalOutcome}
 use Rattle.rules.specs.Board.{gridBoard}
-use Rattle.rules.specs.Judge.{judgeRows, saysYes, toldFault}
+use Rattle.rules.specs.Judge.{judgeRows, saysYes, judgeRefusalOutcome}
 use Rattle.encoder.specs.Variables.{variableCount}
 use Rattle.encoder.specs.Decoding.{decoded, wrongValue}
-use Rattle.decoder.specs.declared.Undrawn.{Undrawn}
-use Rattle.decoder.specs.declared.Undrawn.the-variants.{Record, ValuesLength, DrawingLength, Value, Judged}
+use Rattle.decoder.specs.declared.DecodeRefusal.{DecodeRefusal}
+use Rattle.decoder.specs.declared.DecodeRefusal.the-variants.{Record, ValuesLength, DrawingLength, Value, Judged}
 use Rattle.decoder.specs.declared.Decoded.{Decoded}
 use Rattle.decoder.specs.declared.Decoded.the-variants.{Drawn, Refused}
 
-abbrev pub toldUndrawn : Undrawn → Told
-toldUndrawn (Record r) = toldRefusal r
-toldUndrawn ValuesLength = refusal 8 0
-toldUndrawn DrawingLength = refusal 7 0
-toldUndrawn (Value n) = refusal 9 n
-toldUndrawn (Judged f) = toldFault f
+abbrev pub decodeRefusalOutcome : DecodeRefusal → Outcome
+decodeRefusalOutcome (Record r) = recordRefusalOutcome r
+decodeRefusalOutcome ValuesLength = refusal 8 0
+decodeRefusalOutcome DrawingLength = refusal 7 0
+decodeRefusalOutcome (Value n) = refusal 9 n
+decodeRefusalOutcome (Judged f) = judgeRefusalOutcome f
 
-abbrev pub toldDecoded : Decoded → Told
-toldDecoded Drawn = saysYes
-toldDecoded (Refused u) = toldUndrawn u
+abbrev pub decodedOutcome : Decoded → Outcome
+decodedOutcome Drawn = saysYes
+decodedOutcome (Refused u) = decodeRefusalOutcome u
 
 -- a refusal of the record reader is passed up unchanged (an accepted record has none to pass up)
 abbrev pub passedUp : Parsed → Decoded

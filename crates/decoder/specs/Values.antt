@@ -9,7 +9,7 @@ use Rattle.rules.specs.Board.{Board, gridBoard}
 use Rattle.encoder.specs.Variables.{Z, variableCount}
 use Rattle.encoder.specs.Decoding.{valueOf, drawnLink, drawnByte}
 use Rattle.encoder.proofs.Places.{rank}
-use Rattle.encoder_numbers.specs.Tables.{Table, WaysHeld}
+use Rattle.encoder_numbers.specs.Tables.{Table, LinkTableFits}
 
 -- the byte of a cell in the drawing that values give
 abbrev pub byteAt : Board → List ℕ → ℕ → ℕ
@@ -17,7 +17,7 @@ byteAt b values x = drawnByte (b .isOpen x) (valueOf b values (Z x)) (drawnLink 
 
 -- what the functions ask that look at values: as many as there are variables, with F and the table of first E variables,
 pub record Valued (g : Grid) (s values : List ℕ) (f : ℕ) (firsts : List ℕ) : Type 0 where
-  pub ways : WaysHeld g s f firsts
+  pub linkVariables : LinkTableFits g s f firsts
   pub long : length values ≡ variableCount (gridBoard g s)
 
 -- and with the table of ranks

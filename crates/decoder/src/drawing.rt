@@ -11,8 +11,8 @@ ghost use Rattle.rules.specs.Drawing.{linkSum};
 ghost use Rattle.encoder.specs.Decoding.{drawnLink, valueOf, decoded};
 ghost use Rattle.decoder.specs.Values.{byteAt, Valued, Numbered};
 use answers::Place;
+use encoder_numbers::tables::link_place;
 use encoder_numbers::tables::open_bit;
-use encoder_numbers::tables::way_place;
 use rules::Direction;
 use rules::Grid;
 use rules::board::neighbour;
@@ -40,12 +40,12 @@ fn link_bit(
     if there == 0 {
         return 0;
     }
-    let out = way_place(g, record, open, firsts, x, d);
+    let out = link_place(g, record, open, firsts, x, d);
     if values[out] == 1 {
         return 1;
     }
     let back = opposite(d);
-    let into = way_place(g, record, open, firsts, y, back);
+    let into = link_place(g, record, open, firsts, y, back);
     if values[into] == 1 {
         return 1;
     }

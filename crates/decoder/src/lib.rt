@@ -3,44 +3,44 @@ ghost use mathlib.Core.Path.{_≡_};
 ghost use lib.ListN.{length, getD};
 ghost use lib.Dec.{ltb};
 ghost use Rattle.answers.specs.First.{firstWhere, placed};
-ghost use Rattle.answers.specs.Told.{turnedDown};
-ghost use Rattle.answers.specs.Lent.{leaves};
-ghost use Rattle.rules.specs.Record.{size, Held};
+ghost use Rattle.answers.specs.Outcome.{firstRefusal};
+ghost use Rattle.answers.specs.Lent.{unlessRefused};
+ghost use Rattle.rules.specs.Record.{size, RecordFits};
 ghost use Rattle.rules.specs.Board.{gridBoard};
-ghost use Rattle.rules.specs.Judge.{judgeRows, saysYes, toldVerdict};
+ghost use Rattle.rules.specs.Judge.{judgeRows, saysYes, verdictOutcome};
 ghost use Rattle.encoder.specs.Decoding.{decoded, decoderAnswer, decoderLeaves};
 ghost use Rattle.decoder.specs.Values.{Numbered};
-ghost use Rattle.decoder.specs.Answer.{valueRows, gridRows, passedUp, toldDecoded};
+ghost use Rattle.decoder.specs.Answer.{valueRows, gridRows, passedUp, decodedOutcome};
 use answers::Place;
 use drawing::draw;
+use encoder_numbers::tables::fill_first_links;
 use encoder_numbers::tables::fill_ranks;
-use encoder_numbers::tables::fill_ways;
 use encoder_numbers::tables::variable_count;
 use judge::judge_grid;
-use rules::Fault;
 use rules::Grid;
+use rules::JudgeRefusal;
 use rules::MOST_CELLS;
 use rules::Parsed;
-use rules::Refusal;
+use rules::RecordRefusal;
 use rules::Verdict;
 use rules::record::read;
 
-pub mod told; // what the answers tell
+pub mod outcome; // the outcomes in document 01's numbers
 mod drawing; // from values to bytes
 
 // Why values are turned down: the record's refusal, else 8, 7 and 9 of document 01's table, else the judge's.
-pub enum Undrawn {
-    Record(Refusal),
+pub enum DecodeRefusal {
+    Record(RecordRefusal),
     ValuesLength,
     DrawingLength,
     // The number of the first variable whose value is not 0 or 1.
     Value(usize),
-    Judged(Fault),
+    Judged(JudgeRefusal),
 }
 
 pub enum Decoded {
     Drawn,
-    Refused(Undrawn),
+    Refused(DecodeRefusal),
 }
 
 // 9: the first value that is not 0 or 1.
@@ -59,29 +59,29 @@ fn wrong_value(values: &[u8]) -> Place
 
 // 8, 7 and 9, in order, with V, N and the length of the lent drawing.
 fn check(values: &[u8], v: usize, n: usize, lent: usize) -> Decoded
-    ensures { λ r. ⌜ toldDecoded r ≡ turnedDown (valueRows v n (now (values .entry)) lent) saysYes ⌝ }
+    ensures { λ r. ⌜ decodedOutcome r ≡ firstRefusal (valueRows v n (now (values .entry)) lent) saysYes ⌝ }
 {
     if values.len() != v {
-        return Decoded::Refused(Undrawn::ValuesLength);
+        return Decoded::Refused(DecodeRefusal::ValuesLength);
     }
     if lent != n {
-        return Decoded::Refused(Undrawn::DrawingLength);
+        return Decoded::Refused(DecodeRefusal::DrawingLength);
     }
     let p = wrong_value(values);
     let Place::At(i) = p else {
         return Decoded::Drawn;
     };
-    Decoded::Refused(Undrawn::Value(i + 1))
+    Decoded::Refused(DecodeRefusal::Value(i + 1))
 }
 
 // What the judge's verdict makes of the call.
 fn answer(verdict: Verdict) -> Decoded
-    ensures { λ r. ⌜ toldDecoded r ≡ toldVerdict verdict ⌝ }
+    ensures { λ r. ⌜ decodedOutcome r ≡ verdictOutcome verdict ⌝ }
 {
     let Verdict::No(f) = verdict else {
         return Decoded::Drawn;
     };
-    Decoded::Refused(Undrawn::Judged(f))
+    Decoded::Refused(DecodeRefusal::Judged(f))
 }
 
 // Draws into an array of its own, and hands the drawing out if the judge says yes.
@@ -96,8 +96,8 @@ fn judged(
 ) -> Decoded
     requires { ⌜ Numbered g (now «record») (now values) «open» (now ranks) (now firsts) ⌝ }
     requires { ⌜ length (now drawing) ≡ size g ⌝ }
-    ensures { λ r. ⌜ toldDecoded r ≡ turnedDown (judgeRows (gridBoard g (now («record» .entry))) (decoded (gridBoard g (now («record» .entry))) (now (values .entry)))) saysYes ⌝ }
-    ensures { λ r. ⌜ now (drawing .exit) ≡ leaves (turnedDown (judgeRows (gridBoard g (now («record» .entry))) (decoded (gridBoard g (now («record» .entry))) (now (values .entry)))) saysYes) (now (drawing .entry)) (decoded (gridBoard g (now («record» .entry))) (now (values .entry))) ⌝ }
+    ensures { λ r. ⌜ decodedOutcome r ≡ firstRefusal (judgeRows (gridBoard g (now («record» .entry))) (decoded (gridBoard g (now («record» .entry))) (now (values .entry)))) saysYes ⌝ }
+    ensures { λ r. ⌜ now (drawing .exit) ≡ unlessRefused (firstRefusal (judgeRows (gridBoard g (now («record» .entry))) (decoded (gridBoard g (now («record» .entry))) (now (values .entry)))) saysYes) (now (drawing .entry)) (decoded (gridBoard g (now («record» .entry))) (now (values .entry))) ⌝ }
 {
     let mut own = [0u8; MOST_CELLS];
     draw(g, record, values, open, ranks, firsts, &mut own);
@@ -113,14 +113,14 @@ fn judged(
 
 // 8, 7, 9 and 10 to 15, in order.
 fn decode_grid(g: Grid, record: &[u8], values: &[u8], drawing: &mut [u8]) -> Decoded
-    requires { ⌜ Held g (now «record») ⌝ }
-    ensures { λ r. ⌜ toldDecoded r ≡ turnedDown (gridRows g (now («record» .entry)) (now (values .entry)) (now (drawing .entry))) saysYes ⌝ }
-    ensures { λ r. ⌜ now (drawing .exit) ≡ leaves (turnedDown (gridRows g (now («record» .entry)) (now (values .entry)) (now (drawing .entry))) saysYes) (now (drawing .entry)) (decoded (gridBoard g (now («record» .entry))) (now (values .entry))) ⌝ }
+    requires { ⌜ RecordFits g (now «record») ⌝ }
+    ensures { λ r. ⌜ decodedOutcome r ≡ firstRefusal (gridRows g (now («record» .entry)) (now (values .entry)) (now (drawing .entry))) saysYes ⌝ }
+    ensures { λ r. ⌜ now (drawing .exit) ≡ unlessRefused (firstRefusal (gridRows g (now («record» .entry)) (now (values .entry)) (now (drawing .entry))) saysYes) (now (drawing .entry)) (decoded (gridBoard g (now («record» .entry))) (now (values .entry))) ⌝ }
 {
     let mut ranks = [0usize; MOST_CELLS];
     let mut firsts = [0usize; MOST_CELLS];
     let open = fill_ranks(g, record, &mut ranks);
-    let links = fill_ways(g, record, &mut firsts);
+    let links = fill_first_links(g, record, &mut firsts);
     let v = variable_count(g, record, open, links);
     let n = g.size();
     let checked = check(values, v, n, drawing.len());
@@ -137,12 +137,12 @@ fn passed_up(p: Parsed) -> Decoded
     let Parsed::Refused(r) = p else {
         return Decoded::Drawn;
     };
-    Decoded::Refused(Undrawn::Record(r))
+    Decoded::Refused(DecodeRefusal::Record(r))
 }
 
 // Draws the values, or names the first cause against it.
 pub fn decode(record: &[u8], values: &[u8], drawing: &mut [u8]) -> Decoded
-    ensures { λ r. ⌜ toldDecoded r ≡ decoderAnswer (now («record» .entry)) (now (values .entry)) (now (drawing .entry)) ⌝ }
+    ensures { λ r. ⌜ decodedOutcome r ≡ decoderAnswer (now («record» .entry)) (now (values .entry)) (now (drawing .entry)) ⌝ }
     ensures { λ r. ⌜ now (drawing .exit) ≡ decoderLeaves (now («record» .entry)) (now (values .entry)) (now (drawing .entry)) ⌝ }
 {
     let p = read(record);

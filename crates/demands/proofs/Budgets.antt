@@ -2,10 +2,10 @@
 use Prim.Native.Nat.{ℕ, zero, suc, _+_, _≤_}
 use native.Mathlib.Omega.{arith}
 use mathlib.Core.Path.{_≡_, refl, sym, _∙_, ap, subst}
-use Rattle.answers.specs.declared.Told.{Told}
+use Rattle.answers.specs.declared.Outcome.{Outcome}
 use Rattle.search.specs.Run.{Halted}
-use Rattle.search.specs.Following.{following}
-use Rattle.search_theory.proofs.Following as next
+use Rattle.search.specs.NextCall.{following}
+use Rattle.search_theory.proofs.NextCall as next
 use Rattle.search_theory.specs.Calls.{Call, Searching, Following, goesOn, Handed, hands}
 use Rattle.search_theory.specs.Budgets.{inAll}
 use Rattle.search_theory.proofs.Budgets as budgets
@@ -20,11 +20,11 @@ after-step zero h = absurd (omega arith)
 after-step (suc n) h = refl
 
 -- no steps made before
-none-before : (h on : Handed) → h .told .second ≡ 0 → on .told .number ≡ 0 → inAll h on ≡ on
+none-before : (h on : Handed) → h .outcome .second ≡ 0 → on .outcome .number ≡ 0 → inAll h on ≡ on
 none-before h on e k =
-    let sum : h .told .second + on .told .second ≡ on .told .second = omega arith in
+    let sum : h .outcome .second + on .outcome .second ≡ on .outcome .second = omega arith in
     (λ j. record {
-      told = record { number = sym k j; first = on .told .first; second = sum j; third = on .told .third };
+      outcome = record { number = sym k j; first = on .outcome .first; second = sum j; third = on .outcome .third };
       trail = on .trail;
       marks = on .marks;
     })
@@ -37,9 +37,9 @@ module _ (c : Search) (ok : IsNext c) (says : Says (byNext c) Halted) where
   whole : steps (byNext c) ≡ c .budget
   whole = halted-steps Following c ok says .0
 
-  gone-on : {x : Call} → goesOn Following (steps (byNext c)) ≡ x → (b : ℕ) → (on b x .told .number ≡ 0) × (byNext (under c (c .budget + b)) ≡ inAll (byNext c) (on b x))
+  gone-on : {x : Call} → goesOn Following (steps (byNext c)) ≡ x → (b : ℕ) → (on b x .outcome .number ≡ 0) × (byNext (under c (c .budget + b)) ≡ inAll (byNext c) (on b x))
   gone-on e b =
-      subst (λ x. (on b x .told .number ≡ 0) × (byNext (under c (c .budget + b)) ≡ inAll (byNext c) (on b x))) e (
+      subst (λ x. (on b x .outcome .number ≡ 0) × (byNext (under c (c .budget + b)) ≡ inAll (byNext c) (on b x))) e (
         budgets.goes-on (c .variables) (c .list) (startOf Following c) (c .budget) ok says b,
         budgets.adds-up (c .variables) (c .list) (startOf Following c) (c .budget) ok says b,
       )
@@ -57,7 +57,7 @@ module _ (c : Search) (ok : IsNext c) (says : Says (byNext c) Halted) where
 halted-at-once : (c : Search) → IsNext c → c .budget ≡ 0 → Says (byNext c) Halted
 unfolding following
 halted-at-once c ok z =
-    ap (λ n. byNext (under c n) .told .first) z ∙ ap (λ (t : Told). t .first) (next.next-told (next.next-taken (c .variables) (c .list) (c .trail) (c .marks) (c .used) (c .budget) .1 ok) 0)
+    ap (λ n. byNext (under c n) .outcome .first) z ∙ ap (λ (t : Outcome). t .first) (next.next-outcome (next.next-taken (c .variables) (c .list) (c .trail) (c .marks) (c .used) (c .budget) .1 ok) 0)
 
 pub request-e2 : RequestE2
 request-e2 =

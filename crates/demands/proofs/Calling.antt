@@ -4,10 +4,10 @@ use lib.Dec.{eqb}
 use borrow.Author.Tests.{eq-eqb}
 use mathlib.Core.Path.{_≡_, sym, _∙_, ap, subst}
 use mathlib.Core.Bool.{false}
-use Rattle.answers.specs.declared.Told.{Told}
+use Rattle.answers.specs.declared.Outcome.{Outcome}
 use Rattle.answers.proofs.Bools.{clash}
 use Rattle.search.specs.Trail.{trailOf}
-use Rattle.search.specs.Run.{Ending, Halted, Done, endingNumber, toldDone}
+use Rattle.search.specs.Run.{Ending, Halted, Done, endingNumber, doneOutcome}
 use Rattle.search.proofs.Endings.{same-ending}
 use Rattle.search_theory.specs.Calls.{Call, Handed, hands}
 use Rattle.search_theory.proofs.Taken as calls
@@ -25,7 +25,7 @@ handed x c = hands (c .variables) (c .list) (startOf x c) (c .budget)
 abbrev pub done : Call → Search → Done
 done x c = calls.done (c .variables) (c .list) x (c .trail) (c .marks) (c .used) (c .budget)
 
-module _ (x : Call) (c : Search) (taken : handed x c .told .number ≡ 0) where
+module _ (x : Call) (c : Search) (taken : handed x c .outcome .number ≡ 0) where
   takes : calls.Takes (c .variables) (c .list) (c .trail) (c .marks) (c .used) x
   takes = calls.taken x (c .budget) taken
 
@@ -37,25 +37,25 @@ module _ (x : Call) (c : Search) (taken : handed x c .told .number ≡ 0) where
       record {
         done = done x c;
         made = m;
-        tells = ap (λ (h : Handed). h .told) hands-out;
+        tells = ap (λ (h : Handed). h .outcome) hands-out;
         trail = ap (λ (h : Handed). h .trail) hands-out;
         marks = ap (λ (h : Handed). h .marks) hands-out;
       }
 
-  pub tells : handed x c .told ≡ toldDone (done x c)
-  tells = calls.told (c .budget) takes
+  pub tells : handed x c .outcome ≡ doneOutcome (done x c)
+  tells = calls.outcome (c .budget) takes
 
   pub said : (y : Ending) → done x c .ending ≡ y → Says (handed x c) y
-  said y e = ap (λ (t : Told). t .first) tells ∙ ap endingNumber e
+  said y e = ap (λ (t : Outcome). t .first) tells ∙ ap endingNumber e
 
   pub saying : (y : Ending) → Says (handed x c) y → done x c .ending ≡ y
-  saying y e = same-ending (done x c .ending) y (sym (ap (λ (t : Told). t .first) tells) ∙ e)
+  saying y e = same-ending (done x c .ending) y (sym (ap (λ (t : Outcome). t .first) tells) ∙ e)
 
   pub at-end : endsAt (handed x c) ≡ done x c .trail
-  at-end = ap (λ (t : Told). trailOf (handed x c .trail) (handed x c .marks) (t .third)) tells ∙ calls.left (c .budget) takes
+  at-end = ap (λ (t : Outcome). trailOf (handed x c .trail) (handed x c .marks) (t .third)) tells ∙ calls.left (c .budget) takes
 
   counted : steps (handed x c) ≡ done x c .steps
-  counted = ap (λ (t : Told). t .second) tells
+  counted = ap (λ (t : Outcome). t .second) tells
 
   pub few-steps : (steps (handed x c) ≤ c .budget) × (steps (handed x c) ≤ 2 ^ (c .variables + 1) - 1)
   few-steps = subst (λ n. (n ≤ c .budget) × (n ≤ 2 ^ (c .variables + 1) - 1)) (sym counted) (calls.few-steps (c .budget) takes)

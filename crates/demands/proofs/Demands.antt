@@ -3,9 +3,9 @@
 use lib.ListN.{length}
 use mathlib.Core.Path.{refl, sym, _∙_, ap}
 use mathlib.Core.List.{_++_}
-use Rattle.answers.specs.declared.Told.{Told}
-use Rattle.answers.specs.Told.{answer}
-use Rattle.answers.specs.Lent.{filled, leaves}
+use Rattle.answers.specs.declared.Outcome.{Outcome}
+use Rattle.answers.specs.Outcome.{answer}
+use Rattle.answers.specs.Lent.{filled, unlessRefused}
 use Rattle.answers.proofs.First.{first-some, some-first}
 use Rattle.answers.proofs.Rows.{answered-clear, clear-answered}
 use Rattle.rules.specs.Record.{sides, recordRows}
@@ -16,13 +16,13 @@ use Rattle.dimacs.specs.Text.{textOf}
 use Rattle.dimacs.specs.Reader.{listOf, headerOf}
 use Rattle.dimacs.specs.Calls.{writerRows, readerRows, writerAnswer, readerAnswer}
 use Rattle.dimacs_theory.proofs.Theorems as dimacs
-use Rattle.dimacs_theory.proofs.Calling.{reader-passed}
+use Rattle.dimacs_theory.proofs.Calls.{reader-passed}
 use Rattle.encoder.specs.Variables.{variableCount}
 use Rattle.encoder.specs.Clauses.{clauses, clauseList}
 use Rattle.encoder.specs.Encoding.{encoderRows, encoderAnswer}
 use Rattle.encoder_theory.proofs.Theorems as encoder
 use Rattle.search.specs.Trail.{trailImage, marksImage}
-use Rattle.search.specs.Run.{Done, toldDone, searched}
+use Rattle.search.specs.Run.{Done, doneOutcome, searched}
 use Rattle.search_theory.specs.Calls.{Searching}
 use Rattle.demands.specs.Searches.{rows, bySearch, begins}
 use Rattle.demands.specs.Demands.{Demand1, Demand2, Demand3}
@@ -43,8 +43,8 @@ demand-1 =
       decoder = λ s values lent. decoder-call s values lent _ refl;
       search = λ c.
           let done : Done = searched (c .variables) (c .list) (c .trail) (c .marks) (c .used) (c .budget) in
-          by-rows (toldDone done) refl _ (rows c) refl refl
-          (λ n. (untouched (bySearch c .told) (c .trail) (trailImage (c .variables) (done .trail)) n, untouched (bySearch c .told) (c .marks) (marksImage (c .variables) (done .trail)) n));
+          by-rows (doneOutcome done) refl _ (rows c) refl refl
+          (λ n. (untouched (bySearch c .outcome) (c .trail) (trailImage (c .variables) (done .trail)) n, untouched (bySearch c .outcome) (c .marks) (marksImage (c .variables) (done .trail)) n));
       writer = λ v ls out.
           by-rows (answer (length (textOf v ls)) 0 0) refl _ (writerRows v ls (length out)) refl refl (untouched (writerAnswer v ls out) out (filled out (textOf v ls)));
       text-reader = λ text out.
@@ -62,11 +62,11 @@ demand-2 =
       judge-right = rules.judge-right;
       clauses = λ b. refl;
       encoded = λ s out e.
-          let told = clear-answered (encoderRows s out) _ (answered-clear (encoderRows s out) _ refl e) in
-          (told ∙ ap (answer (length (clauseList (boardOf s))) (variableCount (boardOf s))) (sym (encoder.clauses-told (boardOf s))), ap (λ (t : Told). leaves t out (filled out (clauseList (boardOf s)))) told);
+          let outcome = clear-answered (encoderRows s out) _ (answered-clear (encoderRows s out) _ refl e) in
+          (outcome ∙ ap (answer (length (clauseList (boardOf s))) (variableCount (boardOf s))) (sym (encoder.clauses-outcome (boardOf s))), ap (λ (t : Outcome). unlessRefused t out (filled out (clauseList (boardOf s)))) outcome);
       text = λ v ls buf e.
-          let told = clear-answered (writerRows v ls (length buf)) _ (answered-clear (writerRows v ls (length buf)) _ refl e) in
-          record { told = told; left = ap (λ (t : Told). leaves t buf (filled buf (textOf v ls))) told };
+          let outcome = clear-answered (writerRows v ls (length buf)) _ (answered-clear (writerRows v ls (length buf)) _ refl e) in
+          record { outcome = outcome; left = ap (λ (t : Outcome). unlessRefused t buf (filled buf (textOf v ls))) outcome };
       reads-back = dimacs.write-read;
       written-again = λ text out buf e u room. dimacs.read-write text out buf (dimacs.narrow-exactly text .0 (reader-passed text out e .0, u)) e room;
       listed-steps = λ c e. calling.stepped Searching c e (comes-to (c .variables) (c .list) (c .budget) (begins c));

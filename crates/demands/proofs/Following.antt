@@ -9,7 +9,7 @@ use mathlib.Core.Logic.{_↔_, _⊎_, inl, inr, ⊎-elim}
 use mathlib.Core.Option.{Option, none, some}
 use mathlib.Core.List.{List, [], _∷_, map, List·Memᴰ·head, List·Memᴰ·not-nil, List·Memᴰ·cases-cons, Memᴰ·map, Memᴰ·cast}
 use Rattle.answers.specs.Lists.{_∈_}
-use Rattle.answers.specs.declared.Told.{Told}
+use Rattle.answers.specs.declared.Outcome.{Outcome}
 use Rattle.answers.proofs.Settled.{untouched}
 use Rattle.rules.specs.Record.{IsAccepted}
 use Rattle.rules.specs.Board.{boardOf}
@@ -20,15 +20,15 @@ use Rattle.encoder.proofs.Lists.{all-map, apart-on}
 use Rattle.encoder_theory.proofs.Theorems.{decodes-to-solution, comes-from-one, comes-from-only-one}
 use Rattle.search.specs.Trail.{Trail, trailImage, marksImage, Open, valuesOf}
 use Rattle.search.specs.Step.{undo, undone}
-use Rattle.search.specs.Run.{Ending, Found, None, Halted, Done, after, toldDone, run, IsAccepted as SearchAccepted}
-use Rattle.search.specs.Following.{following, IsFollowed}
+use Rattle.search.specs.Run.{Ending, Found, None, Halted, Done, after, doneOutcome, run, IsAccepted as SearchAccepted}
+use Rattle.search.specs.NextCall.{following, IsFollowed}
 use Rattle.search.proofs.Trails.{length-trail}
 use Rattle.search_theory.specs.Openings.{FoundOne, OtherAt}
 use Rattle.search_theory.specs.Calls.{Searching, Following}
 use Rattle.search_theory.specs.Listing.{Lists, ListsAll}
 use Rattle.search_theory.proofs.Accepted.{accepted-legal}
 use Rattle.search_theory.proofs.Theorems as search
-use Rattle.search_theory.proofs.Following as next
+use Rattle.search_theory.proofs.NextCall as next
 use Rattle.search_theory.proofs.Listing as listing
 use Rattle.demands.specs.Searches.{Search, bySearch, IsTaken, begins, Says, endsAt, BegunOn}
 use Rattle.demands.specs.Solutions.{Solutions, OneSolution, SeveralSolutions}
@@ -131,14 +131,14 @@ module _ (s : List ℕ) (c : Search) (b : BegunOn s c) (f : Says (bySearch c) Fo
 
   gone-ok : IsFollowed (c .variables) (c .list) (gone .trail) (gone .marks) (gone .used)
   gone-ok =
-      subst (IsFollowed (c .variables) (c .list) (gone .trail) (gone .marks)) (sym (ap (λ (t : Told). t .third) (calling.tells Searching c taken)))
+      subst (IsFollowed (c .variables) (c .list) (gone .trail) (gone .marks)) (sym (ap (λ (t : Outcome). t .third) (calling.tells Searching c taken)))
       (next.found-next (searching.ok c taken) (c .budget) (calling.saying Searching c taken Found f))
 
   gone-taken : IsNext gone
   gone-taken = next.next-taken (c .variables) (c .list) (gone .trail) (gone .marks) (gone .used) budget .0 gone-ok
 
-  pub goes-to : byNext gone .told ≡ toldDone (following (c .variables) (c .list) budget (endsAt (bySearch c)))
-  goes-to = next.next-told gone-ok budget
+  pub goes-to : byNext gone .outcome ≡ doneOutcome (following (c .variables) (c .list) budget (endsAt (bySearch c)))
+  goes-to = next.next-outcome gone-ok budget
 
   first : Satisfying s (given gone)
   first = record { gives = next.next-one gone-ok .assignment ∙ b .variables; satisfies = subst (Satisfies (given gone)) (b .list) (next.next-satisfies gone-ok) }
@@ -225,7 +225,7 @@ request-e1 =
       one-listed = one-listed;
       turned-down = λ c.
           let d : Done = done Following c in
-          by-rows (toldDone d) refl _ (rows c) refl refl
-          (λ n. (untouched (byNext c .told) (c .trail) (trailImage (c .variables) (d .trail)) n, untouched (byNext c .told) (c .marks) (marksImage (c .variables) (d .trail)) n));
+          by-rows (doneOutcome d) refl _ (rows c) refl refl
+          (λ n. (untouched (byNext c .outcome) (c .trail) (trailImage (c .variables) (d .trail)) n, untouched (byNext c .outcome) (c .marks) (marksImage (c .variables) (d .trail)) n));
       taken-exactly = taken-exactly;
     }

@@ -10,8 +10,8 @@ use mathlib.Core.Logic.{_↔_, _⊎_, inl, inr, ⊎-elim}
 use mathlib.Core.Option.{none}
 use mathlib.Core.List.{List}
 use Rattle.answers.specs.First.{firstWhere}
-use Rattle.answers.specs.Told.{cause}
-use Rattle.answers.specs.Lent.{leaves}
+use Rattle.answers.specs.Outcome.{cause}
+use Rattle.answers.specs.Lent.{unlessRefused}
 use Rattle.answers.proofs.First.{none-first}
 use Rattle.rules.specs.Board.{boardOf}
 use Rattle.rules.specs.Drawing.{SolutionBytes}
@@ -20,7 +20,7 @@ use Rattle.cnf.specs.Clauses.{Satisfies}
 use Rattle.encoder.specs.Variables.{variableCount}
 use Rattle.encoder.specs.Clauses.{clauseList}
 use Rattle.encoder.specs.Decoding.{decoded, bytesOf, Satisfying, DecodesTo}
-use Rattle.encoder_theory.proofs.Theorems.{decodes-to-solution, comes-from-one, never-turned-down}
+use Rattle.encoder_theory.proofs.Theorems.{decodes-to-solution, comes-from-one, never-refused}
 use Rattle.search.specs.Trail.{Trail, Open, trailOf, valuesOf}
 use Rattle.search.specs.Run.{Ending, Found, None, Halted, wrongLengths, wrongEntryAt, IsAccepted}
 use Rattle.search_theory.specs.Calls.{Searching}
@@ -58,14 +58,14 @@ pub hands : (s : List ℕ) {a : List Bool} {ds : List ℕ} → DecodesTo s a ds 
 hands s {a} h =
     let zeros : List ℕ = replicate (boardOf s .size) 0 in
     let long : length zeros ≡ boardOf s .size = length-replicate (boardOf s .size) 0 in
-    sym (ap (λ t. leaves t zeros (decoded (boardOf s) (bytesOf a))) (h .says zeros long)) ∙ h .hands zeros long
+    sym (ap (λ t. unlessRefused t zeros (decoded (boardOf s) (bytesOf a))) (h .says zeros long)) ∙ h .hands zeros long
 
 module _ (s : List ℕ) (c : Search) (b : BegunOn s c) where
   pub begun-taken : IsTaken c
   begun-taken = search.accepted (c .variables) (c .list) (c .trail) (c .marks) (c .used) (c .budget) .0 (record { clear = (ap cause lengths, (list, (entries, tt))) })
     where
       never : (variableCount (boardOf s) ≤ mostVariables) × (tooManyVariables (variableCount (boardOf s)) ≡ false) × (wrongList (variableCount (boardOf s)) (clauseList (boardOf s)) ≡ none)
-      never = never-turned-down s (b .grid)
+      never = never-refused s (b .grid)
 
       lengths : wrongLengths (c .variables) (c .trail) (c .marks) (c .used) ≡ false
       lengths =

@@ -6,8 +6,8 @@ use lib.ListN.{getD, drop, replicate, length-replicate}
 use mathlib.Core.Path.{_≡_, refl, sym, _∙_, ap, subst}
 use mathlib.Core.Option.{some}
 use mathlib.Core.List.{List, [], _∷_, _++_, map, List·Memᴰ·head, List·Memᴰ·not-nil}
-use Rattle.answers.specs.declared.Told.{Told}
-use Rattle.answers.specs.Told.{answer}
+use Rattle.answers.specs.declared.Outcome.{Outcome}
+use Rattle.answers.specs.Outcome.{answer}
 use Rattle.answers.specs.First.{firstFrom}
 use Rattle.answers.specs.Lists.{All}
 use Rattle.rules.specs.Record.{recordAnswer}
@@ -24,7 +24,7 @@ use Rattle.encoder.proofs.Lists.{all-append}
 use Rattle.search.specs.Trail.{trailOf, variableValue}
 use Rattle.search.specs.Step.{everyLiteral, firstClause, forcedAt, failedClause, forcedPlace, lowestUnassigned, undo, step}
 use Rattle.search.specs.Run.{None, endingNumber, run}
-use Rattle.search.specs.Following.{following}
+use Rattle.search.specs.NextCall.{following}
 use Rattle.search.proofs.Cases as lists
 use Rattle.search_theory.specs.Calls.{Searching}
 use Rattle.search_theory.specs.Listing.{none}
@@ -45,7 +45,7 @@ record Facts : Type 0 where
   number : ℕ
   variables : ℕ
   clauses : List ℤ
-  says : Told
+  says : Outcome
 
 abbrev computes : GridStar → Facts
 computes g =
@@ -57,7 +57,7 @@ computes g =
     }
 
 abbrev claims : GridStar → Facts
-claims g = record { number = 0; variables = g .grid .told .second; clauses = g .grid .list; says = g .says }
+claims g = record { number = 0; variables = g .grid .outcome .second; clauses = g .grid .list; says = g .says }
 
 computed : map computes gridStars ≡ map claims gridStars
 unfolding firstFrom outward same variables place clauses clauseList trailOf variableValue everyLiteral firstClause forcedAt failedClause forcedPlace lowestUnassigned undo step run
@@ -82,16 +82,16 @@ printed-text = refl
 abbrev begun : GridStar → Search
 begun g =
     record {
-      variables = g .grid .told .second;
+      variables = g .grid .outcome .second;
       list = g .grid .list;
-      trail = replicate (g .grid .told .second) (pos 0);
-      marks = replicate (g .grid .told .second) 0;
+      trail = replicate (g .grid .outcome .second) (pos 0);
+      marks = replicate (g .grid .outcome .second) 0;
       used = 0;
       budget = 1000000;
     }
 
 -- what is computed of a grid, with the number of its solutions
-module _ (g : GridStar) (e : computes g ≡ claims g) (encoded : grids.encodes (g .grid) ≡ g .grid) (text : TextIs (g .grid .told .second) (g .grid .list) (g .text)) where
+module _ (g : GridStar) (e : computes g ≡ claims g) (encoded : grids.encodes (g .grid) ≡ g .grid) (text : TextIs (g .grid .outcome .second) (g .grid .list) (g .text)) where
   begun-on : BegunOn (g .grid .bytes) (begun g)
   begun-on =
       record {
@@ -99,11 +99,11 @@ module _ (g : GridStar) (e : computes g ≡ claims g) (encoded : grids.encodes (
         variables = sym (ap (λ (f : Facts). f .variables) e);
         list = sym (ap (λ (f : Facts). f .clauses) e);
         empty = refl;
-        trail = length-replicate (g .grid .told .second) (pos 0);
-        marks = length-replicate (g .grid .told .second) 0;
+        trail = length-replicate (g .grid .outcome .second) (pos 0);
+        marks = length-replicate (g .grid .outcome .second) 0;
       }
 
-  says : bySearch (begun g) .told ≡ g .says
+  says : bySearch (begun g) .outcome ≡ g .says
   says = ap (λ (f : Facts). f .says) e
 
   holds : {dss : List (List ℕ)} → dss ≡ g .solutions → Solutions (boardOf (g .grid .bytes)) dss → GridHolds g
@@ -120,13 +120,13 @@ module _ (g : GridStar) (e : computes g ≡ claims g) (encoded : grids.encodes (
   none-holds h q = holds q (lists-solutions (g .grid .bytes) (begun g) begun-on [] (none 1000000 (says ∙ h)))
 
   one-holds : {ds : List ℕ} → g .says .first ≡ 1 → ds ∷ [] ≡ g .solutions → judgeAnswer (g .grid .bytes) ds ≡ saysYes
-      → following (g .grid .told .second) (g .grid .list) 1000000 (run (g .grid .told .second) (g .grid .list) 1000000 [] .trail) .ending ≡ None
+      → following (g .grid .outcome .second) (g .grid .list) 1000000 (run (g .grid .outcome .second) (g .grid .list) 1000000 [] .trail) .ending ≡ None
       → GridHolds g
   unfolding trailOf
   one-holds {ds} n q judged last =
-      let found = ap (λ (t : Told). t .first) says ∙ n in
-      let ends = ap (λ t. following (g .grid .told .second) (g .grid .list) 1000000 t .ending) (at-end Searching (begun g) (begun-taken (g .grid .bytes) (begun g) begun-on)) ∙ last in
-      let o = then-none (g .grid .bytes) (begun g) begun-on found 1000000 (ap (λ (t : Told). t .first) (goes-to (g .grid .bytes) (begun g) begun-on found 1000000) ∙ ap endingNumber ends) in
+      let found = ap (λ (t : Outcome). t .first) says ∙ n in
+      let ends = ap (λ t. following (g .grid .outcome .second) (g .grid .list) 1000000 t .ending) (at-end Searching (begun g) (begun-taken (g .grid .bytes) (begun g) begun-on)) ∙ last in
+      let o = then-none (g .grid .bytes) (begun g) begun-on found 1000000 (ap (λ (t : Outcome). t .first) (goes-to (g .grid .bytes) (begun g) begun-on found 1000000) ∙ ap endingNumber ends) in
       let S = judge-right (g .grid .bytes) (begun-on .grid) ds .0 judged in
       holds q (record { apart = (λ y m e. List·Memᴰ·not-nil m, tt); each = (S, tt); all = λ es R. List·Memᴰ·head (o .only es R ∙ sym (o .only ds S)) })
 

@@ -9,11 +9,11 @@ use mathlib.Core.Bool.{Bool, true, false, not}
 use mathlib.Core.Logic.{_↔_}
 use mathlib.Core.Option.{Option, none, some, Option·some-injective, Option·some-ne-none}
 use mathlib.Core.List.{List, [], _∷_, _++_, map}
-use Rattle.answers.specs.declared.Told.{Told}
+use Rattle.answers.specs.declared.Outcome.{Outcome}
 use Rattle.answers.specs.First.{found}
 use Rattle.answers.specs.Lists.{tally, howMany}
-use Rattle.answers.specs.Told.{Row, row, refusal, cause, unless, turnedDown}
-use Rattle.answers.specs.Lent.{capped, tooShort, leaves}
+use Rattle.answers.specs.Outcome.{Row, row, refusal, cause, unless, firstRefusal}
+use Rattle.answers.specs.Lent.{capped, tooShort, unlessRefused}
 use Rattle.answers.proofs.Rows.{answered-clear, clear-answered}
 use Rattle.answers.proofs.Settled.{untouched}
 use Rattle.rules.specs.Record.{recordRows}
@@ -35,28 +35,28 @@ numbered : {rs : List Row} {n v : ℕ} → unnumbered rs ≡ 0 → FirstCause rs
 numbered h (here {n = n} {rs = rs}) = eqb-false n 0 (none-unnumbered (eqb n 0) (unnumbered rs) h .0)
 numbered h (later {m = m} {rs = rs} f) = numbered (none-unnumbered (eqb m 0) (unnumbered rs) h .1) f
 
-module _ (t : Told) (answers : t .number ≡ 0) where
-  first-turns : {rs : List Row} {n v : ℕ} → FirstCause rs n v → turnedDown rs t ≡ refusal n v
+module _ (t : Outcome) (answers : t .number ≡ 0) where
+  first-turns : {rs : List Row} {n v : ℕ} → FirstCause rs n v → firstRefusal rs t ≡ refusal n v
   first-turns here = refl
   first-turns (later f) = first-turns f
 
-  turns-first : (rs : List Row) {n v : ℕ} → (n ≡ 0 → ⊥) → turnedDown rs t ≡ refusal n v → FirstCause rs n v
-  turns-first [] z e = absurd (z (sym (ap (λ (t : Told). t .number) e) ∙ answers))
+  turns-first : (rs : List Row) {n v : ℕ} → (n ≡ 0 → ⊥) → firstRefusal rs t ≡ refusal n v → FirstCause rs n v
+  turns-first [] z e = absurd (z (sym (ap (λ (t : Outcome). t .number) e) ∙ answers))
   turns-first (r ∷ rs) {n} {v} z e = by (r .beside) e (turns-first rs z)
     where
-      by : (o : Option ℕ) → unless (r .number) o (turnedDown rs t) ≡ refusal n v → (turnedDown rs t ≡ refusal n v → FirstCause rs n v) → FirstCause (row (r .number) o ∷ rs) n v
+      by : (o : Option ℕ) → unless (r .number) o (firstRefusal rs t) ≡ refusal n v → (firstRefusal rs t ≡ refusal n v → FirstCause rs n v) → FirstCause (row (r .number) o ∷ rs) n v
       by none e go = later (go e)
-      by (some w) e go = subst₂ (FirstCause (row (r .number) (some w) ∷ rs)) (ap (λ (t : Told). t .number) e) (ap (λ (t : Told). t .first) e) here
+      by (some w) e go = subst₂ (FirstCause (row (r .number) (some w) ∷ rs)) (ap (λ (t : Outcome). t .number) e) (ap (λ (t : Outcome). t .first) e) here
 
   -- a call that goes by these rows
   pub by-rows : (order : List ℕ) (rs : List Row) {Untouched : Type 0} → map (λ (r : Row). r .number) rs ≡ order → unnumbered rs ≡ 0
-      → ((turnedDown rs t .number ≡ 0 → ⊥) → Untouched) → Call order rs (turnedDown rs t) Untouched
+      → ((firstRefusal rs t .number ≡ 0 → ⊥) → Untouched) → Call order rs (firstRefusal rs t) Untouched
   by-rows order rs o h k =
       record {
         in-order = o;
         turned-down = λ n v. (λ f. (numbered h f, first-turns f), λ e. turns-first rs (e .0) (e .1));
         kept = k;
-        answered = (λ c. ap (λ (t : Told). t .number) (clear-answered rs t c) ∙ answers, answered-clear rs t h);
+        answered = (λ c. ap (λ (t : Outcome). t .number) (clear-answered rs t c) ∙ answers, answered-clear rs t h);
       }
 
 -- row 6: turned down exactly if there is less room than needed
@@ -71,9 +71,9 @@ short room needed n = (by (ltb room needed) refl, λ h. rw (lt-ltb room needed (
 drawn-right : (b : Board) (values : List ℕ) → wrongDrawing b (decoded b values) ≡ none
 drawn-right b values = ap (λ t. cause (not t)) (eq-eqb _ _ (length-map (upTo (b .size)) _ ∙ length-from 0 (b .size)))
 
-decoder-tells : (s values lent : List ℕ) → turnedDown (decoderTable s values lent) saysYes ≡ decoderAnswer s values lent
-decoder-tells s values lent =
-    ap (λ o. turnedDown (recordRows s ++ (
+decoder-outcome : (s values lent : List ℕ) → firstRefusal (decoderTable s values lent) saysYes ≡ decoderAnswer s values lent
+decoder-outcome s values lent =
+    ap (λ o. firstRefusal (recordRows s ++ (
     row 8 (wrongValues (boardOf s) values) ∷
     row 7 (wrongDrawing (boardOf s) lent) ∷
     row 9 (wrongValue values) ∷
@@ -83,5 +83,5 @@ decoder-tells s values lent =
 pub decoder-call : (s values lent : List ℕ) (order : List ℕ) → map (λ (r : Row). r .number) (decoderTable s values lent) ≡ order
     → Call order (decoderTable s values lent) (decoderAnswer s values lent) (decoderLeaves s values lent ≡ lent)
 decoder-call s values lent order o =
-    subst (λ t. Call order (decoderTable s values lent) t (leaves t lent (decoded (boardOf s) values) ≡ lent)) (decoder-tells s values lent)
-    (by-rows saysYes refl order (decoderTable s values lent) o refl (untouched (turnedDown (decoderTable s values lent) saysYes) lent (decoded (boardOf s) values)))
+    subst (λ t. Call order (decoderTable s values lent) t (unlessRefused t lent (decoded (boardOf s) values) ≡ lent)) (decoder-outcome s values lent)
+    (by-rows saysYes refl order (decoderTable s values lent) o refl (untouched (firstRefusal (decoderTable s values lent) saysYes) lent (decoded (boardOf s) values)))

@@ -17,7 +17,7 @@ use mathlib.Core.Logic.{_↔_, _⊎_}
 use mathlib.Core.Option.{some}
 use mathlib.Core.List.{List, [], _∷_, _++_}
 use Rattle.answers.specs.First.{firstWhere, Least}
-use Rattle.answers.specs.Told.{answer}
+use Rattle.answers.specs.Outcome.{answer}
 use Rattle.answers.specs.Lent.{capped, tooShort, filled}
 use Rattle.rules.specs.Record.{recordRows, recordAnswer, IsAccepted}
 use Rattle.rules.specs.Board.{Board, boardOf}
@@ -50,7 +50,7 @@ pub record Demand1 : Type 0 where
   pub encoder : (s : List ℕ) (out : List ℤ) → Call (1 ∷ 2 ∷ 3 ∷ 4 ∷ 5 ∷ 6 ∷ []) (encoderRows s out) (encoderAnswer s out) (encoderLeaves s out ≡ out)
   pub decoder : (s values lent : List ℕ)
       → Call (1 ∷ 2 ∷ 3 ∷ 4 ∷ 5 ∷ 8 ∷ 7 ∷ 9 ∷ 10 ∷ 11 ∷ 12 ∷ 13 ∷ 14 ∷ 15 ∷ []) (decoderTable s values lent) (decoderAnswer s values lent) (decoderLeaves s values lent ≡ lent)
-  pub search : (c : Search) → Call (17 ∷ 16 ∷ 18 ∷ []) (rows c) (bySearch c .told) ((bySearch c .trail ≡ c .trail) × (bySearch c .marks ≡ c .marks))
+  pub search : (c : Search) → Call (17 ∷ 16 ∷ 18 ∷ []) (rows c) (bySearch c .outcome) ((bySearch c .trail ≡ c .trail) × (bySearch c .marks ≡ c .marks))
   pub writer : (v : ℕ) (ls : List ℤ) (out : List ℕ) → Call (17 ∷ 16 ∷ 6 ∷ []) (writerRows v ls (length out)) (writerAnswer v ls out) (writerLeaves v ls out ≡ out)
   pub text-reader : (text : List ℕ) (out : List ℤ) → Call (19 ∷ 6 ∷ []) (readerRows text (length out)) (readerAnswer text out) (readerLeaves text out ≡ out)
   -- (The places: each "first .." of the table is the least index at which a test holds; beside 6 stand the elements needed; and the place beside 19 is the

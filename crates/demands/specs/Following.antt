@@ -8,14 +8,14 @@ use mathlib.Core.Bool.{Bool}
 use mathlib.Core.Logic.{_↔_, _⊎_}
 use mathlib.Core.Option.{none, some}
 use mathlib.Core.List.{List, [], _∷_, map}
-use Rattle.answers.specs.Told.{Row}
+use Rattle.answers.specs.Outcome.{Row}
 use Rattle.rules.specs.Board.{boardOf}
 use Rattle.cnf.specs.Clauses.{Assignment, Satisfies}
 use Rattle.encoder.specs.Decoding.{decoded, bytesOf}
 use Rattle.search.specs.Trail.{Trail, Open, valuesOf}
 use Rattle.search.specs.Step.{undo}
 use Rattle.search.specs.Run.{Found, None, Halted, Done, ends, oneMore}
-use Rattle.search.specs.Following.{nextRows, nextAnswer, nextTrail, nextMarks}
+use Rattle.search.specs.NextCall.{nextRows, nextAnswer, nextTrail, nextMarks}
 use Rattle.search_theory.specs.Openings.{FoundOne, OtherAt}
 use Rattle.search_theory.specs.Calls.{Searching, Handed}
 use Rattle.search_theory.specs.Listing.{Lists, ListsAll}
@@ -31,14 +31,14 @@ module _ (c : Search) where
   abbrev pub byNext : Handed
   byNext =
       record {
-        told = nextAnswer (c .variables) (c .list) (c .trail) (c .marks) (c .used) (c .budget);
+        outcome = nextAnswer (c .variables) (c .list) (c .trail) (c .marks) (c .used) (c .budget);
         trail = nextTrail (c .variables) (c .list) (c .trail) (c .marks) (c .used) (c .budget);
         marks = nextMarks (c .variables) (c .list) (c .trail) (c .marks) (c .used) (c .budget);
       }
 
   -- it is not turned down
   abbrev pub IsNext : Type 0
-  IsNext = byNext .told .number ≡ 0
+  IsNext = byNext .outcome .number ≡ 0
 
   -- the assignment on the trail that it was given
   abbrev pub given : List Bool
@@ -46,7 +46,7 @@ module _ (c : Search) where
 
 -- a call on what an earlier one handed out
 abbrev pub resumed : Search → Handed → ℕ → Search
-resumed c h budget = record { variables = c .variables; list = c .list; trail = h .trail; marks = h .marks; used = h .told .third; budget = budget }
+resumed c h budget = record { variables = c .variables; list = c .list; trail = h .trail; marks = h .marks; used = h .outcome .third; budget = budget }
 
 -- what the call comes to at a trail t under a budget
 pub data GoesOn (v : ℕ) (ls : List ℤ) (t : Trail) : ℕ → Done → Type 0 where
@@ -87,5 +87,5 @@ pub record RequestE1 : Type 0 where
   pub one-listed : (s : List ℕ) (c : Search) → BegunOn s c → (found : List (List Bool))
       → Lists (c .variables) (c .list) Searching (c .trail) (c .marks) (c .used) found → length found ≡ 1 ↔ OneSolution s
   -- "Errors: 20, trail not full or some clause untrue under it, beside it 0, after 18."
-  pub turned-down : (c : Search) → Call (17 ∷ 16 ∷ 18 ∷ 20 ∷ []) (rows c) (byNext c .told) ((byNext c .trail ≡ c .trail) × (byNext c .marks ≡ c .marks))
+  pub turned-down : (c : Search) → Call (17 ∷ 16 ∷ 18 ∷ 20 ∷ []) (rows c) (byNext c .outcome) ((byNext c .trail ≡ c .trail) × (byNext c .marks ≡ c .marks))
   pub taken-exactly : (c : Search) → IsNext c ↔ (IsTaken c × (c .used ≡ c .variables) × Satisfies (given c) (c .list))

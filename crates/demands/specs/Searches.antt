@@ -5,14 +5,14 @@ use lib.ListN.{length, getD}
 use mathlib.Core.Path.{_≡_}
 use mathlib.Core.Option.{none, some}
 use mathlib.Core.List.{List, _∷_}
-use Rattle.answers.specs.Told.{Row}
+use Rattle.answers.specs.Outcome.{Row}
 use Rattle.rules.specs.Record.{IsAccepted}
 use Rattle.rules.specs.Board.{boardOf}
 use Rattle.encoder.specs.Variables.{variableCount}
 use Rattle.encoder.specs.Clauses.{clauseList}
 use Rattle.search.specs.Trail.{entry, Trail, trailOf, variableValue, trailImage, marksImage}
 use Rattle.search.specs.Step.{failedClause, forcedPlace, lowestUnassigned, undo, Next, Moved, AnsweredFound, AnsweredNone}
-use Rattle.search.specs.Run.{Ending, Found, None, Halted, Done, ends, endingNumber, toldDone, searchRows, searchAnswer, trailAfter, marksAfter}
+use Rattle.search.specs.Run.{Ending, Found, None, Halted, Done, ends, endingNumber, doneOutcome, searchRows, searchAnswer, trailAfter, marksAfter}
 use Rattle.search_theory.specs.Calls.{Handed}
 
 -- what a search call gets
@@ -33,14 +33,14 @@ module _ (c : Search) where
   abbrev pub bySearch : Handed
   bySearch =
       record {
-        told = searchAnswer (c .variables) (c .list) (c .trail) (c .marks) (c .used) (c .budget);
+        outcome = searchAnswer (c .variables) (c .list) (c .trail) (c .marks) (c .used) (c .budget);
         trail = trailAfter (c .variables) (c .list) (c .trail) (c .marks) (c .used) (c .budget);
         marks = marksAfter (c .variables) (c .list) (c .trail) (c .marks) (c .used) (c .budget);
       }
 
   -- a list and a trail, with their V, are accepted if the search call that gets them doesn't turn them down
   abbrev pub IsTaken : Type 0
-  IsTaken = bySearch .told .number ≡ 0
+  IsTaken = bySearch .outcome .number ≡ 0
 
   -- the search begins at the trail handed in
   abbrev pub begins : Trail
@@ -50,15 +50,15 @@ module _ (c : Search) where
 module _ (h : Handed) where
   -- it says "found", "none" or "halted"
   abbrev pub Says : Ending → Type 0
-  Says x = h .told .first ≡ endingNumber x
+  Says x = h .outcome .first ≡ endingNumber x
 
   -- the number of steps that this call made
   abbrev pub steps : ℕ
-  steps = h .told .second
+  steps = h .outcome .second
 
   -- it ends at the trail that it leaves
   abbrev pub endsAt : Trail
-  endsAt = trailOf (h .trail) (h .marks) (h .told .third)
+  endsAt = trailOf (h .trail) (h .marks) (h .outcome .third)
 
 -- a search begun empty on an accepted grid's clauses: V is that grid's, the used count is 0; trail and marks are lent V elements each
 pub record BegunOn (s : List ℕ) (c : Search) : Type 0 where
@@ -99,6 +99,6 @@ module _ (v : ℕ) (ls : List ℤ) where
 pub record Stepped (v : ℕ) (Made : Done → Type 0) (h : Handed) : Type 0 where
   pub done : Done
   pub made : Made done
-  pub tells : h .told ≡ toldDone done
+  pub tells : h .outcome ≡ doneOutcome done
   pub trail : h .trail ≡ trailImage v (done .trail)
   pub marks : h .marks ≡ marksImage v (done .trail)

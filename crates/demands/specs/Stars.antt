@@ -5,8 +5,8 @@ use lib.ListN.{getD}
 use mathlib.Core.Path.{_≡_}
 use mathlib.Core.Option.{Option, none, some}
 use mathlib.Core.List.{List, [], _∷_, _++_, map}
-use Rattle.answers.specs.declared.Told.{Told}
-use Rattle.answers.specs.Told.{answer}
+use Rattle.answers.specs.declared.Outcome.{Outcome}
+use Rattle.answers.specs.Outcome.{answer}
 use Rattle.rules.specs.Record.{recordAnswer, IsAccepted}
 use Rattle.rules.specs.Board.{boardOf}
 use Rattle.rules_theory.proofs.Cases as records
@@ -20,7 +20,7 @@ use Rattle.demands.specs.Solutions.{Solutions}
 pub record GridStar : Type 0 where
   pub grid : grids.Case
   pub solutions : List (List ℕ)
-  pub says : Told
+  pub says : Outcome
   pub text : Option (List ℕ)
 
 -- the text of V and a list, where one is given
@@ -30,14 +30,14 @@ TextIs v ls (some text) = textOf v ls ≡ text
 
 -- V and the list, searched
 abbrev pub searchOf : GridStar → lists.Case
-searchOf g = record { v = g .grid .told .second; list = g .grid .list; says = g .says }
+searchOf g = record { v = g .grid .outcome .second; list = g .grid .list; says = g .says }
 
 pub record GridHolds (g : GridStar) : Type 0 where
   pub accepted : IsAccepted (g .grid .bytes)
   pub encoded : grids.encodes (g .grid) ≡ g .grid
   pub solutions : Solutions (boardOf (g .grid .bytes)) (g .solutions)
   pub searched : lists.fromEmpty (searchOf g) ≡ g .says
-  pub printed : TextIs (g .grid .told .second) (g .grid .list) (g .text)
+  pub printed : TextIs (g .grid .outcome .second) (g .grid .list) (g .text)
 
 -- a starred case: a grid, a record that is refused, or a list that is searched
 pub data Star : Type 0 where
@@ -77,7 +77,7 @@ oneCellText =
 
 -- the k-th grid of the encoder's cases
 abbrev pub gridCase : ℕ → grids.Case
-gridCase k = getD grids.cases k (record { bytes = []; told = answer 0 0 0; list = [] })
+gridCase k = getD grids.cases k (record { bytes = []; outcome = answer 0 0 0; list = [] })
 
 abbrev pub gridStars : List GridStar
 gridStars =

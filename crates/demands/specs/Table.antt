@@ -5,9 +5,9 @@ use mathlib.Core.Logic.{_↔_}
 use mathlib.Core.Option.{none, some}
 use mathlib.Core.List.{List, _∷_, _++_, map}
 use lib.ListN.{drop}
-use Rattle.answers.specs.declared.Told.{Told}
+use Rattle.answers.specs.declared.Outcome.{Outcome}
 use Rattle.answers.specs.Lists.{All}
-use Rattle.answers.specs.Told.{Row, row, refusal}
+use Rattle.answers.specs.Outcome.{Row, row, refusal}
 use Rattle.rules.specs.Record.{recordRows}
 use Rattle.rules.specs.Board.{boardOf}
 use Rattle.rules.specs.Judge.{wrongDrawing, judgeRows}
@@ -20,14 +20,14 @@ pub data FirstCause : List Row → ℕ → ℕ → Type 0 where
 
 -- how a call goes by its rows: their numbers in order, the rows, what the call tells (a number that is not 0 says that it is turned down), and the statement
 -- that every lent buffer is as it was
-pub record Call (order : List ℕ) (rows : List Row) (told : Told) (Untouched : Type 0) : Type 0 where
+pub record Call (order : List ℕ) (rows : List Row) (outcome : Outcome) (Untouched : Type 0) : Type 0 where
   pub in-order : map (λ (r : Row). r .number) rows ≡ order
   -- turned down with the number and the value of the first row whose cause is there, and with no others;
-  pub turned-down : (n v : ℕ) → FirstCause rows n v ↔ (n ≡ 0 → ⊥) × (told ≡ refusal n v)
+  pub turned-down : (n v : ℕ) → FirstCause rows n v ↔ (n ≡ 0 → ⊥) × (outcome ≡ refusal n v)
   -- every lent buffer stays as it was;
-  pub kept : (told .number ≡ 0 → ⊥) → Untouched
+  pub kept : (outcome .number ≡ 0 → ⊥) → Untouched
   -- answered exactly if no row has its cause
-  pub answered : All (λ (r : Row). r .beside ≡ none) rows ↔ told .number ≡ 0
+  pub answered : All (λ (r : Row). r .beside ≡ none) rows ↔ outcome .number ≡ 0
 
 -- the decoder's rows, without the 7 of the judge: what it draws has N bytes
 abbrev pub decoderTable : List ℕ → List ℕ → List ℕ → List Row

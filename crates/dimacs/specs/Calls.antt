@@ -3,9 +3,9 @@ use Prim.Native.Nat.{ℕ}
 use lib.IntN.{ℤ}
 use lib.ListN.{length}
 use mathlib.Core.List.{List, [], _∷_}
-use Rattle.answers.specs.declared.Told.{Told}
-use Rattle.answers.specs.Told.{answer, Row, row, cause, turnedDown}
-use Rattle.answers.specs.Lent.{tooShort, filled, leaves}
+use Rattle.answers.specs.declared.Outcome.{Outcome}
+use Rattle.answers.specs.Outcome.{answer, Row, row, cause, firstRefusal}
+use Rattle.answers.specs.Lent.{tooShort, filled, unlessRefused}
 use Rattle.cnf.specs.Literals.{tooManyVariables, wrongList}
 use Rattle.dimacs.specs.Text.{textOf}
 use Rattle.dimacs.specs.Reader.{refusedAt, listOf, headerOf}
@@ -19,11 +19,11 @@ writerRows v ls room =
     []
 
 -- V, a list, a lent buffer: the count of bytes
-abbrev pub writerAnswer : ℕ → List ℤ → List ℕ → Told
-writerAnswer v ls buf = turnedDown (writerRows v ls (length buf)) (answer (length (textOf v ls)) 0 0)
+abbrev pub writerAnswer : ℕ → List ℤ → List ℕ → Outcome
+writerAnswer v ls buf = firstRefusal (writerRows v ls (length buf)) (answer (length (textOf v ls)) 0 0)
 
 abbrev pub writerLeaves : ℕ → List ℤ → List ℕ → List ℕ
-writerLeaves v ls buf = leaves (writerAnswer v ls buf) buf (filled buf (textOf v ls))
+writerLeaves v ls buf = unlessRefused (writerAnswer v ls buf) buf (filled buf (textOf v ls))
 
 -- text reader 19, 6
 abbrev pub readerRows : List ℕ → ℕ → List Row
@@ -33,9 +33,9 @@ readerRows text room =
     []
 
 -- a text, a lent buffer: the count of elements, V and the number of clauses
-abbrev pub readerAnswer : List ℕ → List ℤ → Told
+abbrev pub readerAnswer : List ℕ → List ℤ → Outcome
 readerAnswer text buf =
-    turnedDown (readerRows text (length buf)) (answer (length (listOf text)) (headerOf text .variables) (headerOf text .clauses))
+    firstRefusal (readerRows text (length buf)) (answer (length (listOf text)) (headerOf text .variables) (headerOf text .clauses))
 
 abbrev pub readerLeaves : List ℕ → List ℤ → List ℤ
-readerLeaves text buf = leaves (readerAnswer text buf) buf (filled buf (listOf text))
+readerLeaves text buf = unlessRefused (readerAnswer text buf) buf (filled buf (listOf text))

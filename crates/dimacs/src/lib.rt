@@ -1,7 +1,7 @@
 // "DIMACS text" of document 01.
 ghost use mathlib.Core.Path.{_≡_};
-ghost use Rattle.dimacs.specs.Answers.{toldWritten, toldReading};
-use answers::Told;
+ghost use Rattle.dimacs.specs.Answers.{writtenOutcome, readingOutcome};
+use answers::Outcome;
 
 // Why the writer turns a list down: 17 (for V alone), 16 and 6 of document 01's table.
 pub enum WriteRefusal {
@@ -17,8 +17,8 @@ pub enum Written {
 
 impl Written {
     // Document 01's number and values.
-    pub fn told(self) -> Told
-        ensures { λ r. ⌜ r ≡ toldWritten self ⌝ }
+    pub fn outcome(self) -> Outcome
+        ensures { λ r. ⌜ r ≡ writtenOutcome self ⌝ }
     {
         match self {
             Written::Bytes(n) => answers::answered(n as u64, 0, 0),
@@ -48,8 +48,8 @@ pub enum Reading {
 
 impl Reading {
     // Document 01's number and values.
-    pub fn told(self) -> Told
-        ensures { λ r. ⌜ r ≡ toldReading self ⌝ }
+    pub fn outcome(self) -> Outcome
+        ensures { λ r. ⌜ r ≡ readingOutcome self ⌝ }
     {
         match self {
             Reading::List {

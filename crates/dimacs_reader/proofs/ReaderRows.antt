@@ -7,9 +7,9 @@ use mathlib.Core.Path.{_≡_, refl, sym, _∙_, ap, subst}
 use mathlib.Core.Bool.{false}
 use mathlib.Core.Option.{Option, none, some, Option·some-ne-none}
 use mathlib.Core.List.{List}
-use Rattle.answers.specs.declared.Told.{Told}
-use Rattle.answers.specs.Told.{answer, refusal}
-use Rattle.answers.specs.Lent.{filled, leaves}
+use Rattle.answers.specs.declared.Outcome.{Outcome}
+use Rattle.answers.specs.Outcome.{answer, refusal}
+use Rattle.answers.specs.Lent.{filled, unlessRefused}
 use Rattle.answers.proofs.Lent.{wrote-recast, wrote-filled}
 use Rattle.answers.proofs.Rows.{Tells, turns, passes, answers}
 use Rattle.dimacs.specs.Automaton.{next}
@@ -31,14 +31,14 @@ head-read text d e = subst (Heads text line 0) e d
 pub head-refused : (text : List ℕ) {t : Head} {p : ℕ} → Heads text line 0 t → t ≡ NoHead p → Dead text line 0 p
 head-refused text d e = subst (Heads text line 0) e d
 
-abbrev Reads : List ℕ → List ℤ → Told → List ℤ → Type 0
+abbrev Reads : List ℕ → List ℤ → Outcome → List ℤ → Type 0
 Reads text buf u new = (u ≡ readerAnswer text buf) × (new ≡ readerLeaves text buf)
 
-abbrev told : List ℕ → Told
-told text = answer (length (listOf text)) (headerOf text .variables) (headerOf text .clauses)
+abbrev outcome : List ℕ → Outcome
+outcome text = answer (length (listOf text)) (headerOf text .variables) (headerOf text .clauses)
 
-reads : (text : List ℕ) (buf : List ℤ) {u : Told} {new : List ℤ} → Tells (readerRows text (length buf)) (told text) u → new ≡ leaves u buf (filled buf (listOf text)) → Reads text buf u new
-reads text buf = settled (readerRows text (length buf)) (told text) buf (filled buf (listOf text))
+reads : (text : List ℕ) (buf : List ℤ) {u : Outcome} {new : List ℤ} → Tells (readerRows text (length buf)) (outcome text) u → new ≡ unlessRefused u buf (filled buf (listOf text)) → Reads text buf u new
+reads text buf = settled (readerRows text (length buf)) (outcome text) buf (filled buf (listOf text))
 
 pub text-refused : {text : List ℕ} {p : ℕ} (buf : List ℤ) → Dead text line 0 p → Reads text buf (refusal 19 p) buf
 text-refused {text} buf d = reads text buf (turns (d .place)) refl

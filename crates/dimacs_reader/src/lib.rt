@@ -6,7 +6,7 @@ ghost use Rattle.answers.specs.Lent.{Wrote};
 ghost use Rattle.cnf.specs.Literals.{mostVariables};
 ghost use Rattle.dimacs.specs.Reader.{line};
 ghost use Rattle.dimacs.specs.Calls.{readerAnswer, readerLeaves};
-ghost use Rattle.dimacs.specs.Answers.{toldReading};
+ghost use Rattle.dimacs.specs.Answers.{readingOutcome};
 ghost use Rattle.dimacs_cursor.specs.Cursors.{headerWith, literal, closedAfter, HeadRead};
 ghost use Rattle.dimacs_reader.specs.Lists.{Lists};
 use dimacs::ReadRefusal;
@@ -86,7 +86,7 @@ fn read_body(
     list: &mut [i32],
 ) -> Reading
     requires { ⌜ HeadRead (now text) line 0 variables clauses from ⌝ }
-    ensures { λ r. ⌜ toldReading r ≡ readerAnswer (now (text .entry)) (now (list .entry)) ⌝ }
+    ensures { λ r. ⌜ readingOutcome r ≡ readerAnswer (now (text .entry)) (now (list .entry)) ⌝ }
     ensures { λ r. ⌜ now (list .exit) ≡ readerLeaves (now (text .entry)) (now (list .entry)) ⌝ }
 {
     let mut nothing = [0i32; 1];
@@ -108,7 +108,7 @@ fn read_body(
 
 // Refusals 19 and 6 in order, before anything is written.
 pub fn read(text: &[u8], list: &mut [i32]) -> Reading
-    ensures { λ r. ⌜ toldReading r ≡ readerAnswer (now (text .entry)) (now (list .entry)) ⌝ }
+    ensures { λ r. ⌜ readingOutcome r ≡ readerAnswer (now (text .entry)) (now (list .entry)) ⌝ }
     ensures { λ r. ⌜ now (list .exit) ≡ readerLeaves (now (text .entry)) (now (list .entry)) ⌝ }
 {
     let start = Cursor { at: 0 };

@@ -15,10 +15,10 @@ use Rattle.dimacs.specs.Reader.{Header, State, line, stepByte, accepts, noHeade
 use Rattle.dimacs_theory.specs.Place.{Refused, Automaton}
 use Rattle.dimacs_theory.specs.Reading.{ReadAs}
 use Rattle.dimacs_theory.proofs.Automata.{accepted-ends, ends-accepted, place}
-use Rattle.dimacs_theory.proofs.Running.{ends, reads, ran, accepted-run}
+use Rattle.dimacs_theory.proofs.Runs.{ends, reads, ran, accepted-run}
 use Rattle.dimacs_theory.proofs.Shapes.{Before}
-use Rattle.dimacs_theory.proofs.Reading.{kept, start, run-accepted}
-use Rattle.dimacs_theory.proofs.Completing.{completion}
+use Rattle.dimacs_theory.proofs.ReadBack.{kept, start, run-accepted}
+use Rattle.dimacs_theory.proofs.Completions.{completion}
 
 -- a state is live if something leads to it
 pub reader : Automaton State

@@ -4,9 +4,9 @@ pub mod Places
 pub mod Automata
 pub mod Decimals
 pub mod Closings
-pub mod Running
+pub mod Runs
 pub mod Shapes
-pub mod Reading
-pub mod Completing
+pub mod ReadBack
+pub mod Completions
 pub mod Exactly
-pub mod Calling
+pub mod Calls

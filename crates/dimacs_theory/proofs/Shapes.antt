@@ -13,7 +13,7 @@ use Rattle.cnf.specs.Clauses.{clauseCount}
 use Rattle.dimacs.specs.Text.{space, minus, decimal, signed, behind, lines, preamble, headerLine, CommentByte, commentLines}
 use Rattle.dimacs.specs.Reader.{Header, Number, State, ofVariables, ofClauses, element, line, comment, word, first, digits, clause}
 use Rattle.dimacs_theory.proofs.Closings.{Closing, more}
-use Rattle.dimacs_theory.proofs.Running.{Fits}
+use Rattle.dimacs_theory.proofs.Runs.{Fits}
 
 -- comment lines, and then this part
 pub record Opened (text part : List ℕ) : Type 0 where

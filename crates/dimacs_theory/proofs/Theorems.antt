@@ -8,7 +8,7 @@ use mathlib.Core.Path.{_≡_, refl, sym, ap, subst₃}
 use mathlib.Core.Logic.{_↔_}
 use mathlib.Core.Option.{none, some}
 use mathlib.Core.List.{List}
-use Rattle.answers.specs.declared.Told.{Told}
+use Rattle.answers.specs.declared.Outcome.{Outcome}
 use Rattle.cnf.specs.Clauses.{clauseCount}
 use Rattle.dimacs.specs.Text.{textOf, Writable, Narrow, Accepted}
 use Rattle.dimacs.specs.Automaton.{refusedFrom}
@@ -18,7 +18,7 @@ use Rattle.dimacs_theory.specs.Place.{Refused, Automaton}
 use Rattle.dimacs_theory.specs.Reading.{ReadAs, Writes, Reads, written, elementsRead}
 use Rattle.dimacs_theory.proofs.Automata as automata
 use Rattle.dimacs_theory.proofs.Exactly as exact
-use Rattle.dimacs_theory.proofs.Calling.{writer-passed, writer-answers, writer-hands, reader-passed, reader-answers, reader-hands, count-few}
+use Rattle.dimacs_theory.proofs.Calls.{writer-passed, writer-answers, writer-hands, reader-passed, reader-answers, reader-hands, count-few}
 
 -- The text of V and a list is read back: the reader takes it, and reads that V, that list and its number of clauses.
 pub reads-back : (v : ℕ) (ls : List ℤ) → Writable v ls → ReadAs (textOf v ls) v ls
@@ -69,5 +69,5 @@ read-write text out buf n e h =
     let r = exact.accepted-read (exact.narrow-accepted n) in
     let room : length (n .list) ≤ length out = rw (← r .list) (reader-passed text out e .1) in
     let fits : length (textOf (n .variables) (n .list)) ≤ length buf = omega (arith, ap length (n .is)) in
-    let told = ap (λ (t : Told). t .second) (reader-answers text out r room .told) in
-    subst₃ (λ v ls t. Writes v ls buf t) (sym told) (sym (reader-hands text out r room)) (sym (n .is)) (writer-answers (n .variables) (n .list) buf (n .writable) fits)
+    let outcome = ap (λ (t : Outcome). t .second) (reader-answers text out r room .outcome) in
+    subst₃ (λ v ls t. Writes v ls buf t) (sym outcome) (sym (reader-hands text out r room)) (sym (n .is)) (writer-answers (n .variables) (n .list) buf (n .writable) fits)

@@ -5,7 +5,7 @@ use lib.ListN.{length, take}
 use mathlib.Core.Path.{_≡_}
 use mathlib.Core.Option.{none}
 use mathlib.Core.List.{List}
-use Rattle.answers.specs.Told.{answer}
+use Rattle.answers.specs.Outcome.{answer}
 use Rattle.answers.specs.Lent.{filled}
 use Rattle.cnf.specs.Clauses.{clauseCount}
 use Rattle.dimacs.specs.Reader.{refusedAt, listOf, headerOf}
@@ -20,12 +20,12 @@ pub record ReadAs (text : List ℕ) (v : ℕ) (ls : List ℤ) : Type 0 where
 
 -- the writer answers: the text is written, and its length told
 pub record Writes (v : ℕ) (ls : List ℤ) (buf text : List ℕ) : Type 0 where
-  pub told : writerAnswer v ls buf ≡ answer (length text) 0 0
+  pub outcome : writerAnswer v ls buf ≡ answer (length text) 0 0
   pub left : writerLeaves v ls buf ≡ filled buf text
 
 -- the reader answers: the list is written; its length, V and the number of clauses are told
 pub record Reads (text : List ℕ) (buf : List ℤ) (v : ℕ) (ls : List ℤ) : Type 0 where
-  pub told : readerAnswer text buf ≡ answer (length ls) v (clauseCount ls)
+  pub outcome : readerAnswer text buf ≡ answer (length ls) v (clauseCount ls)
   pub left : readerLeaves text buf ≡ filled buf ls
 
 -- the bytes that the writer counts, out of the buffer that it leaves

@@ -9,9 +9,9 @@ use mathlib.Core.Path.{_≡_, refl, sym, _∙_, ap}
 use mathlib.Core.Bool.{Bool, true, false, cond}
 use mathlib.Core.Option.{none, some}
 use mathlib.Core.List.{List}
-use Rattle.answers.specs.declared.Told.{Told}
-use Rattle.answers.specs.Told.{answer, refusal, cause}
-use Rattle.answers.specs.Lent.{Wrote, filled, leaves}
+use Rattle.answers.specs.declared.Outcome.{Outcome}
+use Rattle.answers.specs.Outcome.{answer, refusal, cause}
+use Rattle.answers.specs.Lent.{Wrote, filled, unlessRefused}
 use Rattle.answers.proofs.Lent.{wrote-after, wrote-recast, wrote-filled}
 use Rattle.answers.proofs.Rows.{Tells, turns, passes, answers}
 use Rattle.cnf.specs.Literals.{tooManyVariables, wrongList}
@@ -52,10 +52,10 @@ text-counted {a} {b} v ls e p q r =
     r ∙ ap counted m
 
 -- what it tells, and what it leaves in the buffer
-abbrev Writes : ℕ → List ℤ → List ℕ → Told → List ℕ → Type 0
+abbrev Writes : ℕ → List ℤ → List ℕ → Outcome → List ℕ → Type 0
 Writes v ls buf u new = (u ≡ writerAnswer v ls buf) × (new ≡ writerLeaves v ls buf)
 
-writes : (v : ℕ) (ls : List ℤ) (buf : List ℕ) {u : Told} {new : List ℕ} → Tells (writerRows v ls (length buf)) (answer (length (textOf v ls)) 0 0) u → new ≡ leaves u buf (filled buf (textOf v ls)) → Writes v ls buf u new
+writes : (v : ℕ) (ls : List ℤ) (buf : List ℕ) {u : Outcome} {new : List ℕ} → Tells (writerRows v ls (length buf)) (answer (length (textOf v ls)) 0 0) u → new ≡ unlessRefused u buf (filled buf (textOf v ls)) → Writes v ls buf u new
 writes v ls buf = settled (writerRows v ls (length buf)) (answer (length (textOf v ls)) 0 0) buf (filled buf (textOf v ls))
 
 pub record VariablesRight (v : ℕ) : Type 0 where

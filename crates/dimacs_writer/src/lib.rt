@@ -8,7 +8,7 @@ ghost use Rattle.answers.specs.Lent.{Wrote};
 ghost use Rattle.dimacs.specs.Text.{decimal, lines, preamble, headerLine};
 ghost use Rattle.dimacs_writer.specs.Writer.{written, counted};
 ghost use Rattle.dimacs.specs.Calls.{writerAnswer, writerLeaves};
-ghost use Rattle.dimacs.specs.Answers.{toldWritten};
+ghost use Rattle.dimacs.specs.Answers.{writtenOutcome};
 use answers::Place;
 use dimacs::WriteRefusal;
 use dimacs::Written;
@@ -166,7 +166,7 @@ pub fn put_header(text: &mut [u8], variables: usize, clauses: usize) -> usize
 
 // Refusals 17, 16 and 6 in order, before anything is written.
 pub fn write(variables: usize, list: &[i32], text: &mut [u8]) -> Written
-    ensures { λ r. ⌜ toldWritten r ≡ writerAnswer variables (now (list .entry)) (now (text .entry)) ⌝ }
+    ensures { λ r. ⌜ writtenOutcome r ≡ writerAnswer variables (now (list .entry)) (now (text .entry)) ⌝ }
     ensures { λ r. ⌜ now (text .exit) ≡ writerLeaves variables (now (list .entry)) (now (text .entry)) ⌝ }
 {
     if cnf::too_many_variables(variables) {

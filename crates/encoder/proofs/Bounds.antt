@@ -20,7 +20,7 @@ use Rattle.rules.proofs.Boards.{Laws}
 use Rattle.cnf.specs.Literals.{closes, mostVariables, beyondAt, unclosed, orElse, wrongList}
 use Rattle.cnf.specs.Clauses.{clauseCount}
 use Rattle.encoder.specs.Lists.{upTo, each}
-use Rattle.encoder.specs.Variables.{Variable, directions, opens, openCount, ifOpen, ifThere, neighbours, out, outgoing, ways, clueCounts, counts, variables, variableCount, same, placeStep, place, number}
+use Rattle.encoder.specs.Variables.{Variable, directions, opens, openCount, ifOpen, ifThere, neighbours, out, outgoing, linkVariables, clueCounts, counts, variables, variableCount, same, placeStep, place, number}
 use Rattle.encoder.specs.Clauses.{Literal, plus, minus, Clause, clauses, signed, written, clauseList}
 use Rattle.encoder.specs.Small.{Small}
 use Rattle.encoder.proofs.Lists.{all-append, all-at, all-each, all-map, length-from, length-each-most, keep-most, map-most}
@@ -49,8 +49,8 @@ module _ {b : Board} (small : Small b) where
   pub open-few : openCount b ≤ 2025
   open-few = let c = small .cells in omega (arith, opens-most b)
 
-  ways-few : length (ways b) ≤ 8100
-  ways-few =
+  links-few : length (linkVariables b) ≤ 8100
+  links-few =
       let h = length-each-most (outgoing b) 4 (opens b) (λ x m. map-most (out x) (neighbours b x directions) 4 (neighbours-most b x directions)) in
       omega (arith, open-few)
 
@@ -65,7 +65,7 @@ module _ {b : Board} (small : Small b) where
   pub few-variables : variableCount b ≤ mostVariables
   few-variables =
       let q : openCount b * openCount b ≤ 2025 * 2025 = mul-le-mul open-few open-few in
-      omega (arith, total b, open-few, ways-few, counts-few)
+      omega (arith, total b, open-few, links-few, counts-few)
 
 -- 3. The list is right for V: each number is one of 1 to V, and 0 stands at the end
 

@@ -13,9 +13,9 @@ use Rattle.rules.specs.declared.Direction.the-variants.{East as east}
 use Rattle.rules.specs.Board.{Board}
 use Rattle.encoder.specs.Lists.{from, upTo, each, joined}
 use Rattle.encoder.specs.Variables.{Variable, Z, S, T, directions, opens, openCount, Neighbour, neighbours, out, outgoing, distancesAt, countsAt}
-use Rattle.encoder.specs.Clauses.{plus, minus, Clause, notBoth, pairs, orAny, eastSouth, touch, touchingAt, oneMore, past, cellClauses, lineClauses, never, clueParts, back, incoming, bothWhite, oneWay, linksAt, lower, blackBefore, eastward, startAt, someStart, noDistance, notAhead, nearer, fromOne, nearerEach, distanceAt, signed, written}
+use Rattle.encoder.specs.Clauses.{plus, minus, Clause, notBoth, pairs, orAny, eastSouth, touch, touchingAt, oneMore, countStep, cellClauses, lineClauses, noneBlack, clueParts, back, incoming, bothWhite, oneWay, linksAt, lower, blackBefore, eastward, startAt, someStart, noDistance, notAhead, nearer, fromOne, nearerEach, distanceAt, signed, written}
 use Rattle.encoder.proofs.Lists.{of-upTo, each-append, length-from}
-use Rattle.encoder.proofs.Emitting.{each-next}
+use Rattle.encoder.proofs.ClauseLists.{each-next}
 
 -- n clauses, e elements with their zeros
 pub record Sized (b : Board) (cs : List Clause) (n e : ℕ) : Type 0 where
@@ -93,22 +93,22 @@ module _ (b : Board) where
     pairs-sized : Sized b (pairs (countsAt a n (suc j))) (pairCount (suc n)) (pairCount (suc n) * 3)
     pairs-sized = let l : length (countsAt a n (suc j)) ≡ suc n = length-map (upTo (suc n)) _ ∙ length-from 0 (suc n) in sized-is (ap pairCount l) (ap (λ k. pairCount k * 3) l) (sized-pairs (countsAt a n (suc j)))
 
-    past-clue : Sized b (each (upTo (suc n)) (past false a n j c)) (suc n) (suc n * 3)
+    past-clue : Sized b (each (upTo (suc n)) (countStep false a n j c)) (suc n) (suc n * 3)
     past-clue =
         let l = length-from 0 (suc n) in
-        sized-is (omega arith) (omega arith) (sized-each (past false a n j c) {n = 1} {e = 3} (upTo (suc n)) (λ t m. sized-one _ refl))
+        sized-is (omega arith) (omega arith) (sized-each (countStep false a n j c) {n = 1} {e = 3} (upTo (suc n)) (λ t m. sized-one _ refl))
 
     -- [−T(j,t) Zc T(j+1,t)] has four elements; what follows it too, but for t = n
     two : (t : ℕ) (l : Bool) {k : ℕ} → length (oneMore l a j t c) ≡ k → Sized b ((minus (T a j t) ∷ plus (Z c) ∷ plus (T a (suc j) t) ∷ []) ∷ oneMore l a j t c ∷ []) 2 (4 + suc k)
     two t l e = sized-append (sized-one (minus (T a j t) ∷ plus (Z c) ∷ plus (T a (suc j) t) ∷ []) refl) (sized-one (oneMore l a j t c) e)
 
-    past-open : Sized b (each (upTo (suc n)) (past true a n j c)) (suc n * 2) (n * 8 + 7)
+    past-open : Sized b (each (upTo (suc n)) (countStep true a n j c)) (suc n * 2) (n * 8 + 7)
     past-open =
         let l = length-from 0 n in
-        let e : each (upTo n) (past true a n j c) ++ past true a n j c (0 + n) ≡ each (upTo (suc n)) (past true a n j c) = sym (each-next (past true a n j c) 0 n) ∙ ap (λ k. each (upTo k) (past true a n j c)) (add-one n) in
+        let e : each (upTo n) (countStep true a n j c) ++ countStep true a n j c (0 + n) ≡ each (upTo (suc n)) (countStep true a n j c) = sym (each-next (countStep true a n j c) 0 n) ∙ ap (λ k. each (upTo k) (countStep true a n j c)) (add-one n) in
         sized-is (omega arith) (omega arith)
         (subst (λ cs. Sized b cs (length (upTo n) * 2 + 2) (length (upTo n) * 8 + 7)) e
-        (sized-append (sized-each (past true a n j c) {n = 2} {e = 8} (upTo n) (λ t m. let h = of-upTo n m in rw (ne-eqb t n (omega arith)) (two t false refl))) (rw (eq-eqb (0 + n) n (omega arith)) (two (0 + n) true refl))))
+        (sized-append (sized-each (countStep true a n j c) {n = 2} {e = 8} (upTo n) (λ t m. let h = of-upTo n m in rw (ne-eqb t n (omega arith)) (two t false refl))) (rw (eq-eqb (0 + n) n (omega arith)) (two (0 + n) true refl))))
 
     pub cell-clue : (isOpen : ℕ → Bool) → isOpen c ≡ false → Sized b (cellClauses isOpen a n j c) (suc n + pairCount (suc n)) (suc n * 3 + pairCount (suc n) * 3)
     cell-clue isOpen h = rw h (sized-is (omega arith) (omega arith) (sized-append past-clue (sized-append pairs-sized sized-none)))
@@ -120,7 +120,7 @@ module _ (b : Board) where
   pub clue-sized : (a n : ℕ) (cs : List ℕ) (isOpen : ℕ → Bool) {m e : ℕ} → Sized b (lineClauses isOpen a n 0 cs) m e → Sized b (joined (clueParts isOpen a n cs)) (n + 2 + m) (n * 2 + 4 + e)
   clue-sized a n cs isOpen h =
       let l = length-from 1 n in
-      sized-is (omega arith) (omega arith) (sized-append (sized-one _ refl) (sized-append (sized-map (never a) 1 (λ t. refl) (from 1 n)) (sized-append h (sized-append (sized-one _ refl) sized-none))))
+      sized-is (omega arith) (omega arith) (sized-append (sized-one _ refl) (sized-append (sized-map (noneBlack a) 1 (λ t. refl) (from 1 n)) (sized-append h (sized-append (sized-one _ refl) sized-none))))
 
   module _ (x : ℕ) where
     abbrev ys : List Neighbour

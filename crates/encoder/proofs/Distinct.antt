@@ -10,9 +10,9 @@ use Rattle.rules.specs.declared.Direction.{Direction}
 use Rattle.rules.specs.Board.{Clue, Board}
 use Rattle.rules.proofs.Boards.{Laws}
 use Rattle.encoder.specs.Lists.{upTo, each}
-use Rattle.encoder.specs.Variables.{Variable, Z, S, E, Q, T, directions, opens, openCount, Neighbour, neighbours, out, outgoing, blacks, starts, ways, distances, countsAt, clueCounts, counts, variables}
+use Rattle.encoder.specs.Variables.{Variable, Z, S, E, Q, T, directions, opens, openCount, Neighbour, neighbours, out, outgoing, blacks, starts, linkVariables, distances, countsAt, clueCounts, counts, variables}
 use Rattle.encoder.proofs.Lists.{of-each, apart-append, apart-map, apart-each, apart-from}
-use Rattle.encoder.proofs.Neighbours.{apart-opens, ways-apart}
+use Rattle.encoder.proofs.Neighbours.{apart-opens, links-apart}
 
 abbrev letter : Variable → ℕ
 letter (Z x) = 0
@@ -93,9 +93,9 @@ module _ (b : Board) where
   part-s = record { is = mapped 1 (λ x. S x) (opens b) (λ x. refl); once = apart-map (λ x. S x) s-cell (opens b) (apart-opens b) }
 
   pub outgoing-apart : (x : ℕ) → Apart (outgoing b x)
-  outgoing-apart x = ways-apart b x (out x) (λ y z. e-way x x (y .way) (z .way))
+  outgoing-apart x = links-apart b x (out x) (λ y z. e-way x x (y .way) (z .way))
 
-  part-e : Just 2 (ways b)
+  part-e : Just 2 (linkVariables b)
   part-e = of-numbers 2 out (λ x. neighbours b x directions) (opens b) (λ x y. refl) e-cell (apart-opens b) outgoing-apart
 
   part-q : Just 3 (distances b)

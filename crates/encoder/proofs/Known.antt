@@ -11,7 +11,7 @@ use Rattle.answers.specs.Lists.{_∈_}
 use Rattle.rules.specs.Board.{Clue, Board}
 use Rattle.rules.proofs.Boards.{Laws}
 use Rattle.encoder.specs.Lists.{upTo}
-use Rattle.encoder.specs.Variables.{Variable, Z, S, E, Q, T, directions, opens, openCount, Neighbour, neighbours, out, outgoing, blacks, starts, ways, distancesAt, distances, countsAt, clueCounts, counts, letters, variables}
+use Rattle.encoder.specs.Variables.{Variable, Z, S, E, Q, T, directions, opens, openCount, Neighbour, neighbours, out, outgoing, blacks, starts, linkVariables, distancesAt, distances, countsAt, clueCounts, counts, letters, variables}
 use Rattle.encoder.proofs.Lists.{in-each, of-each, in-joined, in-upTo, of-upTo}
 use Rattle.encoder.proofs.Neighbours.{of-opens, in-opens, in-directions, Beside, of-neighbours, in-neighbours}
 
@@ -36,7 +36,7 @@ module _ (b : Board) where
   of-s : (v : Variable) → v ∈ starts b → Known b v
   of-s v m = let r = Memᴰ·of-map (λ x. S x) (opens b) m in subst (Known b) (r .2) (of-opens b (r .1))
 
-  of-e : (v : Variable) → v ∈ ways b → Known b v
+  of-e : (v : Variable) → v ∈ linkVariables b → Known b v
   of-e v m =
       let r = of-each (outgoing b) (opens b) m in
       let q = Memᴰ·of-map (out (r .0)) (neighbours b (r .0) directions) (r .2) in

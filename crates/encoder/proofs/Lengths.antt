@@ -12,7 +12,7 @@ use Rattle.rules.specs.declared.Direction.the-variants.{East as east}
 use Rattle.rules.specs.Board.{Clue, Board}
 use Rattle.encoder.specs.Lists.{from, upTo, each, joined}
 use Rattle.encoder.specs.Variables.{Variable, Z, S, Q, T, directions, opens, openCount, neighbours, out, outgoing, distancesAt, countsAt}
-use Rattle.encoder.specs.Clauses.{plus, minus, Clause, notBoth, pairs, orAny, eastSouth, touch, touchingAt, oneMore, past, cellParts, cellClauses, lineClauses, never, clueParts, clueClauses, back, incoming, bothWhite, oneWay, linkParts, linksAt, lower, blackBefore, eastward, startParts, startAt, someStart, noDistance, notAhead, nearer, fromOne, nearerEach, distanceParts, distanceAt, families, clauses, signed, written, clauseList}
+use Rattle.encoder.specs.Clauses.{plus, minus, Clause, notBoth, pairs, orAny, eastSouth, touch, touchingAt, oneMore, countStep, cellParts, cellClauses, lineClauses, noneBlack, clueParts, clueClauses, back, incoming, bothWhite, oneWay, linkParts, linksAt, lower, blackBefore, eastward, startParts, startAt, someStart, noDistance, notAhead, nearer, fromOne, nearerEach, distanceParts, distanceAt, families, clauses, signed, written, clauseList}
 use Rattle.encoder.specs.Small.{Small}
 use Rattle.encoder.proofs.Lists.{all-append, all-at, all-each, all-map, length-from, length-each-most, keep-most, map-most}
 use Rattle.encoder.proofs.Bounds.{neighbours-most, open-few}
@@ -88,7 +88,7 @@ module _ (b : Board) (small : Small b) where
     abbrev n : ℕ
     n = c .number
 
-    past-few : (o : Bool) (j x t : ℕ) → Few 2 (past o a n j x t)
+    past-few : (o : Bool) (j x t : ℕ) → Few 2 (countStep o a n j x t)
     past-few false j x t = few-more (omega arith) (few-one _ (omega arith))
     past-few true j x t = by (eqb t n)
       where
@@ -102,7 +102,7 @@ module _ (b : Board) (small : Small b) where
     cell-few : (j x : ℕ) → Few 2115 (cellClauses (b .isOpen) a n j x)
     cell-few j x =
         few-joined (90 ∷ 2025 ∷ []) (cellParts (b .isOpen) a n j x) (
-          few-each (past (b .isOpen x) a n j x) (upTo (suc n)) 45 2 (omega (arith, length-from 0 (suc n))) (λ t m. past-few (b .isOpen x) j x t),
+          few-each (countStep (b .isOpen x) a n j x) (upTo (suc n)) 45 2 (omega (arith, length-from 0 (suc n))) (λ t m. past-few (b .isOpen x) j x t),
           (few-pairs (countsAt a n (suc j)) 45 (row-most (suc j)), tt),
         )
 
@@ -114,7 +114,7 @@ module _ (b : Board) (small : Small b) where
     clue-few =
         few-joined (1 ∷ 44 ∷ 93060 ∷ 1 ∷ []) (clueParts (b .isOpen) a n (c .line)) (
           few-one _ (omega arith),
-          (few-map (never a) (from 1 n) 44 (omega (arith, length-from 1 n)) (λ t. omega arith), (few-more (omega arith) (line-few 0 (c .line)), (few-one _ (omega arith), tt))),
+          (few-map (noneBlack a) (from 1 n) 44 (omega (arith, length-from 1 n)) (λ t. omega arith), (few-more (omega arith) (line-few 0 (c .line)), (few-one _ (omega arith), tt))),
         )
 
   -- 3. Links

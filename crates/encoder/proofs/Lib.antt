@@ -12,5 +12,5 @@ pub mod Lines
 pub mod Bounds
 pub mod Sizes
 pub mod Lengths
-pub mod Emitting
+pub mod ClauseLists
 pub mod Counts

@@ -15,7 +15,7 @@ use Rattle.rules.specs.Board.{Clue, Board}
 use Rattle.rules.proofs.Boards.{Laws}
 use Rattle.encoder.specs.Lists.{from, upTo}
 use Rattle.encoder.specs.Variables.{Variable, Z, S, Q, T, directions, opens, openCount, Neighbour, neighbours, out, outgoing, distancesAt, countsAt, variables}
-use Rattle.encoder.specs.Clauses.{Literal, plus, minus, Clause, notBoth, pairs, eastSouth, touch, touchingAt, oneMore, past, cellParts, cellClauses, lineClauses, never, clueParts, clueClauses, back, incoming, bothWhite, oneWay, linkParts, linksAt, lower, blackBefore, startParts, startAt, noDistance, notAhead, nearer, fromOne, nearerEach, distanceParts, distanceAt, families, clauses}
+use Rattle.encoder.specs.Clauses.{Literal, plus, minus, Clause, notBoth, pairs, eastSouth, touch, touchingAt, oneMore, countStep, cellParts, cellClauses, lineClauses, noneBlack, clueParts, clueClauses, back, incoming, bothWhite, oneWay, linkParts, linksAt, lower, blackBefore, startParts, startAt, noDistance, notAhead, nearer, fromOne, nearerEach, distanceParts, distanceAt, families, clauses}
 use Rattle.encoder.proofs.Lists.{all-append, all-at, all-each, all-map, all-joined, of-from, of-upTo, of-keep}
 use Rattle.encoder.proofs.Neighbours.{of-opens, Beside, of-neighbours}
 use Rattle.encoder.proofs.Known.{in-variables, in-e, in-t}
@@ -55,7 +55,7 @@ module _ (b : Board) (law : Laws b) where
     counts-in : (j : ℕ) → j ≤ length (c .line) → All In (countsAt (c .cell) (c .number) j)
     counts-in j h = all-map In (λ t. T (c .cell) j t) (upTo (suc (c .number))) (λ t n. let l = of-upTo (suc (c .number)) n in in-t b law m j t h (omega arith))
 
-    past-fine : (j t x : ℕ) (o : Bool) → b .isOpen x ≡ o → j < length (c .line) → t ≤ c .number → Within (variables b) (past o (c .cell) (c .number) j x t)
+    past-fine : (j t x : ℕ) (o : Bool) → b .isOpen x ≡ o → j < length (c .line) → t ≤ c .number → Within (variables b) (countStep o (c .cell) (c .number) j x t)
     past-fine j t x false e h k = ((in-t b law m j t (omega arith) k, (in-t b law m (suc j) t h k, tt)), tt)
     past-fine j t x true e h k = ((now, (z, (in-t b law m (suc j) t h k, tt))), (by (eqb t (c .number)) refl, tt))
       where
@@ -74,7 +74,7 @@ module _ (b : Board) (law : Laws b) where
     line-fine j (x ∷ xs) e =
         all-append Fine (cellClauses (b .isOpen) (c .cell) (c .number) j x) (lineClauses (b .isOpen) (c .cell) (c .number) (suc j) xs)
         (all-joined Fine (cellParts (b .isOpen) (c .cell) (c .number) j x) (
-          all-each Fine (past (b .isOpen x) (c .cell) (c .number) j x) (upTo (suc (c .number))) (λ t n. let l = of-upTo (suc (c .number)) n in past-fine j t x (b .isOpen x) refl (omega arith) (omega arith)),
+          all-each Fine (countStep (b .isOpen x) (c .cell) (c .number) j x) (upTo (suc (c .number))) (λ t n. let l = of-upTo (suc (c .number)) n in past-fine j t x (b .isOpen x) refl (omega arith) (omega arith)),
           (pairs-within (variables b) (countsAt (c .cell) (c .number) (suc j)) (counts-in (suc j) (omega arith)), tt),
         ))
         (line-fine (suc j) xs (omega arith))
@@ -84,7 +84,7 @@ module _ (b : Board) (law : Laws b) where
         all-joined Fine (clueParts (b .isOpen) (c .cell) (c .number) (c .line)) (
           ((in-t b law m 0 0 (omega arith) (omega arith), tt), tt),
           (
-            all-map Fine (never (c .cell)) (from 1 (c .number)) (λ t n. let r = of-from 1 (c .number) n in (in-t b law m 0 t (omega arith) (omega arith), tt)),
+            all-map Fine (noneBlack (c .cell)) (from 1 (c .number)) (λ t n. let r = of-from 1 (c .number) n in (in-t b law m 0 t (omega arith) (omega arith), tt)),
             (line-fine 0 (c .line) (omega arith), (((in-t b law m (length (c .line)) (c .number) (omega arith) (omega arith), tt), tt), tt)),
           ),
         )

@@ -12,7 +12,7 @@ use Rattle.rules.specs.declared.Direction.the-variants.{North as north, East as
 use Rattle.rules.specs.Board.{Clue, Board}
 use Rattle.rules.proofs.Boards.{Laws}
 use Rattle.encoder.specs.Lists.{from, upTo, each, joined, keepStep, keep}
-use Rattle.encoder.specs.Variables.{Variable, Z, S, E, Q, T, directions, opens, openCount, ifThere, neighbours, out, outgoing, blacks, starts, ways, distancesAt, distances, countsAt, clueCounts, counts, letters, variables, variableCount, same, placeStep, place}
+use Rattle.encoder.specs.Variables.{Variable, Z, S, E, Q, T, directions, opens, openCount, ifThere, neighbours, out, outgoing, blacks, starts, linkVariables, distancesAt, distances, countsAt, clueCounts, counts, letters, variables, variableCount, same, placeStep, place}
 use Rattle.encoder.proofs.Lists.{each-append, keep-append, length-from, length-each}
 use Rattle.encoder.proofs.Distinct.{variables-apart}
 
@@ -77,8 +77,8 @@ abbrev pub rank : Board → ℕ → ℕ
 rank b x = length (below b x)
 
 -- the number of E variables of the cells before x
-abbrev pub waysBelow : Board → ℕ → ℕ
-waysBelow b x = length (each (below b x) (outgoing b))
+abbrev pub linksBelow : Board → ℕ → ℕ
+linksBelow b x = length (each (below b x) (outgoing b))
 
 -- the directions before d
 abbrev pub earlier : Direction → List Direction
@@ -123,14 +123,14 @@ module _ (b : Board) where
   after-s : (us : List Variable) → length (blacks b ++ (starts b ++ us)) ≡ openCount b + openCount b + length us
   after-s us = let p = length-append (starts b) us in after-z (starts b ++ us) ∙ omega (arith, starts-long)
 
-  after-e : (us : List Variable) → length (blacks b ++ (starts b ++ (ways b ++ us))) ≡ openCount b + openCount b + length (ways b) + length us
-  after-e us = let p = length-append (ways b) us in after-s (ways b ++ us) ∙ omega arith
+  after-e : (us : List Variable) → length (blacks b ++ (starts b ++ (linkVariables b ++ us))) ≡ openCount b + openCount b + length (linkVariables b) + length us
+  after-e us = let p = length-append (linkVariables b) us in after-s (linkVariables b ++ us) ∙ omega arith
 
-  after-q : (us : List Variable) → length (blacks b ++ (starts b ++ (ways b ++ (distances b ++ us)))) ≡ openCount b + openCount b + length (ways b) + openCount b * openCount b + length us
+  after-q : (us : List Variable) → length (blacks b ++ (starts b ++ (linkVariables b ++ (distances b ++ us)))) ≡ openCount b + openCount b + length (linkVariables b) + openCount b * openCount b + length us
   after-q us = let p = length-append (distances b) us in after-e (distances b ++ us) ∙ omega (arith, distances-long)
 
   -- V = 2F + A + F times F + the sum over clues
-  pub total : variableCount b ≡ openCount b + openCount b + length (ways b) + openCount b * openCount b + length (counts b)
+  pub total : variableCount b ≡ openCount b + openCount b + length (linkVariables b) + openCount b * openCount b + length (counts b)
   unfolding variables
   total = after-q (counts b ++ []) ∙ (let e : length (counts b ++ []) ≡ length (counts b) = ap length (append-nil (counts b)) in omega arith)
 
@@ -149,7 +149,7 @@ module _ (b : Board) where
         place-is (joined (letters b)) (S x) (blacks b ++ us) (variables-apart b law) (at-right (blacks b) (at-left _ (at-map (λ x. S x) (at-opens x h))))
         ∙ after-z us ∙ ap (λ n. openCount b + n) (length-map (below b x) (λ x. S x))
 
-    pub place-e : (x : ℕ) (d : Direction) (y : ℕ) → b .isOpen x ≡ true → b .next d x ≡ some y → b .isOpen y ≡ true → place (E x d) (variables b) ≡ openCount b + openCount b + (waysBelow b x + length (neighbours b x (earlier d)))
+    pub place-e : (x : ℕ) (d : Direction) (y : ℕ) → b .isOpen x ≡ true → b .next d x ≡ some y → b .isOpen y ≡ true → place (E x d) (variables b) ≡ openCount b + openCount b + (linksBelow b x + length (neighbours b x (earlier d)))
     unfolding variables
     place-e x d y h e o =
         let before = neighbours b x (earlier d) ++ [] in
@@ -157,29 +157,29 @@ module _ (b : Board) where
         place-is (joined (letters b)) (E x d) (blacks b ++ (starts b ++ us)) (variables-apart b law)
         (at-right (blacks b) (at-right (starts b) (at-left _ (at-each (outgoing b) (at-opens x h) (at-map (out x) (at-each (λ d. ifThere b d (b .next d x)) (at-direction d) one))))))
         ∙ after-s us
-        ∙ ap (λ n. openCount b + openCount b + n) (length-append (each (below b x) (outgoing b)) (map (out x) before) ∙ ap (λ n. waysBelow b x + n) (length-map before (out x) ∙ ap length (append-nil (neighbours b x (earlier d)))))
+        ∙ ap (λ n. openCount b + openCount b + n) (length-append (each (below b x) (outgoing b)) (map (out x) before) ∙ ap (λ n. linksBelow b x + n) (length-map before (out x) ∙ ap length (append-nil (neighbours b x (earlier d)))))
       where
         one : At (ifThere b d (b .next d x)) (record { way = d; cell = y }) []
         one = rw (e, o) (at-head (record { way = d; cell = y }) [])
 
-    pub place-q : (x k : ℕ) → b .isOpen x ≡ true → k < openCount b → place (Q x k) (variables b) ≡ openCount b + openCount b + length (ways b) + (rank b x * openCount b + k)
+    pub place-q : (x k : ℕ) → b .isOpen x ≡ true → k < openCount b → place (Q x k) (variables b) ≡ openCount b + openCount b + length (linkVariables b) + (rank b x * openCount b + k)
     unfolding variables
     place-q x k h l =
         let us = each (below b x) (distancesAt b) in
         let vs = map (λ k. Q x k) (upTo k) in
         let p : length us ≡ rank b x * openCount b = length-each (distancesAt b) (openCount b) (below b x) distances-at in
         let q : length vs ≡ k = length-map (upTo k) (λ k. Q x k) ∙ length-from 0 k in
-        place-is (joined (letters b)) (Q x k) (blacks b ++ (starts b ++ (ways b ++ (us ++ vs)))) (variables-apart b law)
-        (at-right (blacks b) (at-right (starts b) (at-right (ways b) (at-left _ (at-each (distancesAt b) (at-opens x h) (at-map (λ k. Q x k) (at-upTo (openCount b) k l)))))))
+        place-is (joined (letters b)) (Q x k) (blacks b ++ (starts b ++ (linkVariables b ++ (us ++ vs)))) (variables-apart b law)
+        (at-right (blacks b) (at-right (starts b) (at-right (linkVariables b) (at-left _ (at-each (distancesAt b) (at-opens x h) (at-map (λ k. Q x k) (at-upTo (openCount b) k l)))))))
         ∙ after-e (us ++ vs) ∙ (let r = length-append us vs in omega arith)
 
     -- cs the clues before c
-    pub place-t : (c : Clue) (cs : List Clue) (j t : ℕ) → At (b .clues) c cs → j ≤ length (c .line) → t ≤ c .number → place (T (c .cell) j t) (variables b) ≡ openCount b + openCount b + length (ways b) + openCount b * openCount b + (length (each cs clueCounts) + (j * suc (c .number) + t))
+    pub place-t : (c : Clue) (cs : List Clue) (j t : ℕ) → At (b .clues) c cs → j ≤ length (c .line) → t ≤ c .number → place (T (c .cell) j t) (variables b) ≡ openCount b + openCount b + length (linkVariables b) + openCount b * openCount b + (length (each cs clueCounts) + (j * suc (c .number) + t))
     unfolding variables
     place-t c cs j t m h k =
         let us = each (upTo j) (countsAt (c .cell) (c .number)) in
         let vs = map (λ t. T (c .cell) j t) (upTo t) in
         let q : length vs ≡ t = length-map (upTo t) (λ t. T (c .cell) j t) ∙ length-from 0 t in
-        place-is (joined (letters b)) (T (c .cell) j t) (blacks b ++ (starts b ++ (ways b ++ (distances b ++ (each cs clueCounts ++ (us ++ vs)))))) (variables-apart b law)
-        (at-right (blacks b) (at-right (starts b) (at-right (ways b) (at-right (distances b) (at-left [] (at-each clueCounts m (at-each (countsAt (c .cell) (c .number)) (at-upTo (suc (length (c .line))) j (omega arith)) (at-map (λ t. T (c .cell) j t) (at-upTo (suc (c .number)) t (omega arith))))))))))
+        place-is (joined (letters b)) (T (c .cell) j t) (blacks b ++ (starts b ++ (linkVariables b ++ (distances b ++ (each cs clueCounts ++ (us ++ vs)))))) (variables-apart b law)
+        (at-right (blacks b) (at-right (starts b) (at-right (linkVariables b) (at-right (distances b) (at-left [] (at-each clueCounts m (at-each (countsAt (c .cell) (c .number)) (at-upTo (suc (length (c .line))) j (omega arith)) (at-map (λ t. T (c .cell) j t) (at-upTo (suc (c .number)) t (omega arith))))))))))
         ∙ after-q (each cs clueCounts ++ (us ++ vs)) ∙ (let r = length-append (each cs clueCounts) (us ++ vs) in let s = length-append us vs in omega (arith, rows-long (c .cell) (c .number) j))

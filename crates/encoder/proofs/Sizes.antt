@@ -17,7 +17,7 @@ use Rattle.rules.specs.declared.CellByte.the-variants.{Is, NotAllowed}
 use Rattle.rules.specs.Record.{Puzzle, directionOf, isCell, cellOf, sides, size, puzzle, isSide, IsAccepted}
 use Rattle.rules.specs.Board.{Clue, cluesFrom, board, boardOf}
 use Rattle.rules.proofs.Boards.{Filled}
-use Rattle.rules.proofs.Records.{held-filled, accepted-clear, accepted-held}
+use Rattle.rules.proofs.Records.{held-filled, accepted-clear, accepted-fits}
 use Rattle.encoder.specs.Small.{Small}
 use Rattle.encoder.proofs.Lists.{all-map}
 use Rattle.encoder.proofs.Lines.{line-short}
@@ -60,4 +60,4 @@ pub accepted-small : (s : List ℕ) → IsAccepted s → Small (boardOf s)
 accepted-small s acc =
     let (c1, (c2, (c3, c))) = accepted-clear s acc in
     let w = or-neither (not (isSide (sides s .rows))) (not (isSide (sides s .columns))) (no-cause _ c3) in
-    small-board (puzzle (sides s) s) (side-small _ (not-false _ (w .0))) (side-small _ (not-false _ (w .1))) (held-filled (accepted-held s acc)) (all-map (λ c. numberOf c ≤ 44) cellOf (drop 6 s) (λ v m. cell-small v))
+    small-board (puzzle (sides s) s) (side-small _ (not-false _ (w .0))) (side-small _ (not-false _ (w .1))) (held-filled (accepted-fits s acc)) (all-map (λ c. numberOf c ≤ 44) cellOf (drop 6 s) (λ v m. cell-small v))

@@ -53,13 +53,13 @@ oneMore true a j t c = notBoth (T a j t) (Z c)
 oneMore false a j t c = minus (T a j t) ∷ minus (Z c) ∷ plus (T a (suc j) (suc t)) ∷ []
 
 -- if c is a clue [−T(j,t) T(j+1,t)], if open [−T(j,t) Zc T(j+1,t)] followed by one more
-abbrev pub past : Bool → ℕ → ℕ → ℕ → ℕ → ℕ → List Clause
-past false a n j c t = (minus (T a j t) ∷ plus (T a (suc j) t) ∷ []) ∷ []
-past true a n j c t = (minus (T a j t) ∷ plus (Z c) ∷ plus (T a (suc j) t) ∷ []) ∷ oneMore (eqb t n) a j t c ∷ []
+abbrev pub countStep : Bool → ℕ → ℕ → ℕ → ℕ → ℕ → List Clause
+countStep false a n j c t = (minus (T a j t) ∷ plus (T a (suc j) t) ∷ []) ∷ []
+countStep true a n j c t = (minus (T a j t) ∷ plus (Z c) ∷ plus (T a (suc j) t) ∷ []) ∷ oneMore (eqb t n) a j t c ∷ []
 
 -- past a cell: t = 0 to n, then each pair of the next T
 abbrev pub cellParts : (ℕ → Bool) → ℕ → ℕ → ℕ → ℕ → List (List Clause)
-cellParts isOpen a n j c = each (upTo (suc n)) (past (isOpen c) a n j c) ∷ pairs (countsAt a n (suc j)) ∷ []
+cellParts isOpen a n j c = each (upTo (suc n)) (countStep (isOpen c) a n j c) ∷ pairs (countsAt a n (suc j)) ∷ []
 
 abbrev pub cellClauses : (ℕ → Bool) → ℕ → ℕ → ℕ → ℕ → List Clause
 cellClauses isOpen a n j c = joined (cellParts isOpen a n j c)
@@ -70,14 +70,14 @@ lineClauses isOpen a n j [] = []
 lineClauses isOpen a n j (c ∷ cs) = cellClauses isOpen a n j c ++ lineClauses isOpen a n (suc j) cs
 
 -- [−T(0,t)]
-abbrev pub never : ℕ → ℕ → Clause
-never a t = minus (T a 0 t) ∷ []
+abbrev pub noneBlack : ℕ → ℕ → Clause
+noneBlack a t = minus (T a 0 t) ∷ []
 
 -- [T(0,0)]; [−T(0,t)] for t = 1 to n; the line; last [T(L,n)]
 abbrev pub clueParts : (ℕ → Bool) → ℕ → ℕ → List ℕ → List (List Clause)
 clueParts isOpen a n cs =
     ((plus (T a 0 0) ∷ []) ∷ []) ∷
-    map (never a) (from 1 n) ∷
+    map (noneBlack a) (from 1 n) ∷
     lineClauses isOpen a n 0 cs ∷
     ((plus (T a (length cs) n) ∷ []) ∷ []) ∷
     []

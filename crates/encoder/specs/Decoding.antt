@@ -6,10 +6,10 @@ use mathlib.Core.Path.{_≡_}
 use mathlib.Core.Bool.{Bool, true, false, not, _||_}
 use mathlib.Core.Option.{Option, none, some}
 use mathlib.Core.List.{List, _∷_, _++_, map}
-use Rattle.answers.specs.declared.Told.{Told}
+use Rattle.answers.specs.declared.Outcome.{Outcome}
 use Rattle.answers.specs.First.{firstWhere}
-use Rattle.answers.specs.Told.{Row, row, cause, turnedDown}
-use Rattle.answers.specs.Lent.{leaves}
+use Rattle.answers.specs.Outcome.{Row, row, cause, firstRefusal}
+use Rattle.answers.specs.Lent.{unlessRefused}
 use Rattle.rules.specs.declared.Direction.{Direction}
 use Rattle.rules.specs.Directions.{opposite, bit}
 use Rattle.rules.specs.Record.{recordRows}
@@ -63,12 +63,12 @@ decoderRows s values lent =
     row 9 (wrongValue values) ∷
     judgeRows (boardOf s) (decoded (boardOf s) values))
 
-abbrev pub decoderAnswer : List ℕ → List ℕ → List ℕ → Told
-decoderAnswer s values lent = turnedDown (decoderRows s values lent) saysYes
+abbrev pub decoderAnswer : List ℕ → List ℕ → List ℕ → Outcome
+decoderAnswer s values lent = firstRefusal (decoderRows s values lent) saysYes
 
 -- the drawing is handed out exactly if the judge says yes
 abbrev pub decoderLeaves : List ℕ → List ℕ → List ℕ → List ℕ
-decoderLeaves s values lent = leaves (decoderAnswer s values lent) lent (decoded (boardOf s) values)
+decoderLeaves s values lent = unlessRefused (decoderAnswer s values lent) lent (decoded (boardOf s) values)
 
 -- an assignment that satisfies the grid's clauses
 pub record Satisfying (s : List ℕ) (a : List Bool) : Type 0 where

@@ -3,9 +3,9 @@ use Prim.Native.Nat.{ℕ}
 use lib.ListN.{length}
 use lib.IntN.{ℤ}
 use mathlib.Core.List.{List, [], _∷_, _++_}
-use Rattle.answers.specs.declared.Told.{Told}
-use Rattle.answers.specs.Told.{answer, Row, row, turnedDown}
-use Rattle.answers.specs.Lent.{tooShort, filled, leaves}
+use Rattle.answers.specs.declared.Outcome.{Outcome}
+use Rattle.answers.specs.Outcome.{answer, Row, row, firstRefusal}
+use Rattle.answers.specs.Lent.{tooShort, filled, unlessRefused}
 use Rattle.rules.specs.Record.{recordRows}
 use Rattle.rules.specs.Board.{boardOf}
 use Rattle.encoder.specs.Variables.{variableCount}
@@ -16,8 +16,8 @@ abbrev pub encoderRows : List ℕ → List ℤ → List Row
 encoderRows s out = recordRows s ++ (row 6 (tooShort (length out) (length (clauseList (boardOf s)))) ∷ [])
 
 -- the count of elements written, V and the number of clauses
-abbrev pub encoderAnswer : List ℕ → List ℤ → Told
-encoderAnswer s out = turnedDown (encoderRows s out) (answer (length (clauseList (boardOf s))) (variableCount (boardOf s)) (length (clauses (boardOf s))))
+abbrev pub encoderAnswer : List ℕ → List ℤ → Outcome
+encoderAnswer s out = firstRefusal (encoderRows s out) (answer (length (clauseList (boardOf s))) (variableCount (boardOf s)) (length (clauses (boardOf s))))
 
 abbrev pub encoderLeaves : List ℕ → List ℤ → List ℤ
-encoderLeaves s out = leaves (encoderAnswer s out) out (filled out (clauseList (boardOf s)))
+encoderLeaves s out = unlessRefused (encoderAnswer s out) out (filled out (clauseList (boardOf s)))

@@ -66,8 +66,8 @@ starts b = map (λ x. S x) (opens b)
 abbrev pub outgoing : Board → ℕ → List Variable
 outgoing b x = map (out x) (neighbours b x directions)
 
-abbrev pub ways : Board → List Variable
-ways b = each (opens b) (outgoing b)
+abbrev pub linkVariables : Board → List Variable
+linkVariables b = each (opens b) (outgoing b)
 
 -- Q, per open cell, k = 0 to F − 1
 abbrev pub distancesAt : Board → ℕ → List Variable
@@ -87,7 +87,7 @@ abbrev pub counts : Board → List Variable
 counts b = each (b .clues) clueCounts
 
 abbrev pub letters : Board → List (List Variable)
-letters b = blacks b ∷ starts b ∷ ways b ∷ distances b ∷ counts b ∷ []
+letters b = blacks b ∷ starts b ∷ linkVariables b ∷ distances b ∷ counts b ∷ []
 
 -- all of them, in order
 unfoldable pub variables : Board → List Variable

@@ -16,21 +16,21 @@ use Rattle.encoder.specs.Lists.{upTo, each, joined}
 use Rattle.encoder.specs.Variables.{S, opens, openCount, number}
 use Rattle.encoder.specs.Clauses.{Clause, someStart, start, startAt, signed}
 use Rattle.encoder.proofs.Places.{below, rank, place-s}
-use Rattle.encoder.proofs.Emitting.{atCell, below-each, at-open, at-shut, listOf, list-each}
+use Rattle.encoder.proofs.ClauseLists.{atCell, below-each, at-open, at-shut, listOf, list-each}
 use Rattle.encoder_numbers.proofs.Numbers.{bit-off, bit-on}
-use Rattle.encoder_shapes.specs.Shapes.{literals, allOf}
-use Rattle.encoder_numbers.specs.declared.Around.{Around}
-use Rattle.encoder_numbers.specs.Numbered.{aroundOf}
+use Rattle.encoder_shapes.specs.Shapes.{literals, atLeastOne}
+use Rattle.encoder_numbers.specs.declared.CellNumbers.{CellNumbers}
+use Rattle.encoder_numbers.specs.Numbered.{cellNumbersOf}
 use Rattle.encoder_cells.proofs.Cells.{each-ranked, literals-each, touching-list, links-list, start-list, distance-list}
 use Rattle.encoder_numbers.specs.Tables.{Tables, OpenCell}
-use Rattle.encoder_numbers.proofs.Sides.{held-laws, some-open, rank-small, f-few, a-few, ahead-is}
+use Rattle.encoder_numbers.proofs.Neighbours.{held-laws, some-open, rank-small, f-few, a-few, ahead-is}
 use Rattle.encoder_lines.specs.Line.{firstCount}
 use Rattle.encoder_call.specs.declared.Family.{Family}
 use Rattle.encoder_call.specs.declared.Family.the-variants.{Touching, Links, Start, Distance}
 use Rattle.encoder_call.specs.Families.{familyAt, familyParts}
 
 -- an open cell, by numbers
-pub family-list : (w : Family) (b : Board) → Laws b → (x : ℕ) → b .isOpen x ≡ true → listOf b (familyAt w b x) ≡ joined (familyParts w (openCount b) (aroundOf b x))
+pub family-list : (w : Family) (b : Board) → Laws b → (x : ℕ) → b .isOpen x ≡ true → listOf b (familyAt w b x) ≡ joined (familyParts w (openCount b) (cellNumbersOf b x))
 family-list Touching b law x h = touching-list b x
 family-list Links b law x h = links-list b x
 family-list Start b law x h = start-list b law x h
@@ -41,13 +41,13 @@ module _ (b : Board) where
   cells-each F q = ap (listOf b) (below-each b F (b .size)) ∙ list-each b (atCell b F) (upTo (b .size)) ∙ ap (λ n. each (upTo n) (λ x. listOf b (atCell b F x))) (sym q)
 
   -- [all S]
-  pub start-parts : Laws b → {f : ℕ} → f ≡ openCount b → listOf b (start b) ≡ joined (allOf (f + 1) f ∷ listOf b (each (opens b) (startAt b)) ∷ [])
+  pub start-parts : Laws b → {f : ℕ} → f ≡ openCount b → listOf b (start b) ≡ joined (atLeastOne (f + 1) f ∷ listOf b (each (opens b) (startAt b)) ∷ [])
   start-parts law {f} q = (λ t. some t ++ sym (append-nil (listOf b (each (opens b) (startAt b)))) t)
     where
       one : (x : ℕ) → b .isOpen x ≡ true → pos (number b (S x)) ∷ [] ≡ pos (f + 1 + rank b x) ∷ []
       one x h = let e = place-s b law x h in let z : number b (S x) ≡ f + 1 + rank b x = omega arith in ap (λ n. pos n ∷ []) z
 
-      some : map (signed b) (someStart b) ++ (pos 0 ∷ []) ≡ allOf (f + 1) f
+      some : map (signed b) (someStart b) ++ (pos 0 ∷ []) ≡ atLeastOne (f + 1) f
       some = ap (λ l. l ++ (pos 0 ∷ [])) (literals-each b (λ x. S x) (opens b) ∙ each-ranked b (λ x. pos (number b (S x)) ∷ []) (λ k. pos (f + 1 + k) ∷ []) one (b .size) ∙ ap (λ n. literals (f + 1) n) (sym q))
 
 -- the number of the first T variable
@@ -68,13 +68,13 @@ module _ {g : Grid} {s ranks firsts : List ℕ} {f a : ℕ} (t : Tables g s f a 
   pub is-open : {k : ℕ} → x < size g → k ≡ bit (gridBoard g s .isOpen x) → (k ≡ 0 → ⊥) → OpenCell g s x
   is-open l e z = record { inside = l; opened = bit-on (gridBoard g s .isOpen x) (λ q. z (e ∙ q)) }
 
-  module _ (o : OpenCell g s x) {near : Around} (e : near ≡ aroundOf (gridBoard g s) x) where
+  module _ (o : OpenCell g s x) {near : CellNumbers} (e : near ≡ cellNumbersOf (gridBoard g s) x) where
     pub open-list : (w : Family) → listOf (gridBoard g s) (atCell (gridBoard g s) (familyAt w (gridBoard g s)) x) ≡ joined (familyParts w f near)
     open-list w =
-        ap (listOf (gridBoard g s)) (at-open (gridBoard g s) x (familyAt w (gridBoard g s)) (o .opened)) ∙ family-list w (gridBoard g s) (held-laws (t .ranked .held)) x (o .opened)
+        ap (listOf (gridBoard g s)) (at-open (gridBoard g s) x (familyAt w (gridBoard g s)) (o .opened)) ∙ family-list w (gridBoard g s) (held-laws (t .ranked .recordFits)) x (o .opened)
         ∙ (λ i. joined (familyParts w (sym (t .wayed .opens) i) (sym e i)))
 
-    pub open-few : (0 < f) × (near .ahead < 16777217)
+    pub open-few : (0 < f) × (near .distance < 16777217)
     open-few =
         let m : getD ranks x 0 * f ≤ 576 * 576 = mul-le-mul (rank-small (t .ranked) x (o .inside)) (f-few t) in
-        (omega (arith, some-open (t .ranked .held) o, t .wayed .opens), omega (arith, ap (λ (n : Around). n .ahead) e, ahead-is t o, f-few t, a-few t))
+        (omega (arith, some-open (t .ranked .recordFits) o, t .wayed .opens), omega (arith, ap (λ (n : CellNumbers). n .distance) e, ahead-is t o, f-few t, a-few t))

@@ -5,46 +5,46 @@ use lib.IntN.{ℤ}
 use lib.ListN.{length, replicate}
 use mathlib.Core.Path.{_≡_, refl, sym, _∙_, ap, subst}
 use mathlib.Core.List.{List}
-use Rattle.answers.specs.declared.Told.{Told}
-use Rattle.answers.specs.Told.{refusal, turnedDown}
-use Rattle.answers.specs.Lent.{Wrote, filled, leaves}
+use Rattle.answers.specs.declared.Outcome.{Outcome}
+use Rattle.answers.specs.Outcome.{refusal, firstRefusal}
+use Rattle.answers.specs.Lent.{Wrote, filled, unlessRefused}
 use Rattle.answers.proofs.Lent.{wrote-filled}
 use Rattle.answers.proofs.Rows.{Tells, answers, turns, passes}
 use Rattle.answers.proofs.Settled.{short-by, long-enough, untouched, settled}
 use Rattle.rules.specs.declared.Grid.{Grid}
 use Rattle.rules.specs.declared.Parsed.{Parsed}
 use Rattle.rules.specs.declared.Parsed.the-variants.{Accepted, Refused as NotRead}
-use Rattle.rules.specs.declared.Refusal.{Refusal}
-use Rattle.rules.specs.Record.{recordAnswer, size, mostCells, toldRefusal, toldParsed}
+use Rattle.rules.specs.declared.RecordRefusal.{RecordRefusal}
+use Rattle.rules.specs.Record.{recordAnswer, size, mostCells, recordRefusalOutcome, parsedOutcome}
 use Rattle.rules.specs.Board.{gridBoard, boardOf}
-use Rattle.rules.proofs.Records.{refusal-number, passes-up, read-sides, read-held, is-accepted, goes-on}
-use Rattle.encoder.specs.Variables.{openCount, ways, variableCount}
+use Rattle.rules.proofs.Records.{refusal-number, passes-up, read-sides, read-fits, is-accepted, goes-on}
+use Rattle.encoder.specs.Variables.{openCount, linkVariables, variableCount}
 use Rattle.encoder.specs.Clauses.{clauseList}
 use Rattle.encoder.specs.Encoding.{encoderAnswer, encoderLeaves}
 use Rattle.encoder.specs.Small.{Small}
 use Rattle.encoder.proofs.Lists.{all-in, all-at}
 use Rattle.encoder.proofs.Bounds.{Right, few-variables, list-within}
-use Rattle.encoder.proofs.Places.{rank, waysBelow}
+use Rattle.encoder.proofs.Places.{rank, linksBelow}
 use Rattle.encoder.proofs.Lengths.{short-list}
 use Rattle.encoder.proofs.Sizes.{accepted-small}
-use Rattle.encoder_numbers.specs.Tables.{rankTable, wayTable}
-use Rattle.encoder_numbers.proofs.Filling.{table-filled}
+use Rattle.encoder_numbers.specs.Tables.{rankTable, firstLinkTable}
+use Rattle.encoder_numbers.proofs.FilledTables.{table-filled}
 use Rattle.encoder_shapes.specs.Writable as emit
 use Rattle.encoder_numbers.specs.Tables.{Tables}
-use Rattle.encoder_numbers.proofs.Sides.{held-laws}
+use Rattle.encoder_numbers.proofs.Neighbours.{held-laws}
 use Rattle.encoder_size.specs.declared.Counts.{Counts}
 use Rattle.encoder_size.specs.Counts.{countsOf}
-use Rattle.encoder_call.specs.declared.Unlisted.{Unlisted}
-use Rattle.encoder_call.specs.declared.Unlisted.the-variants.{Record, TooShort}
+use Rattle.encoder_call.specs.declared.EncodeRefusal.{EncodeRefusal}
+use Rattle.encoder_call.specs.declared.EncodeRefusal.the-variants.{Record, TooShort}
 use Rattle.encoder_call.specs.declared.Encoded.{Encoded}
 use Rattle.encoder_call.specs.declared.Encoded.the-variants.{Refused}
-use Rattle.encoder_call.specs.Answer.{toldUnlisted, toldCounts, toldEncoded, roomRows, Writing}
+use Rattle.encoder_call.specs.Answer.{encodeRefusalOutcome, countsOutcome, encodedOutcome, roomRows, Writing}
 
 -- a refusal has a number
-pub refused-number : {e : Encoded} {u : Unlisted} {t : Told} → e ≡ Refused u → t ≡ toldEncoded e → t .number ≡ 0 → ⊥
-refused-number {u = u} q e z = by u (sym (ap (λ (t : Told). t .number) (e ∙ ap toldEncoded q)) ∙ z)
+pub refused-number : {e : Encoded} {u : EncodeRefusal} {t : Outcome} → e ≡ Refused u → t ≡ encodedOutcome e → t .number ≡ 0 → ⊥
+refused-number {u = u} q e z = by u (sym (ap (λ (t : Outcome). t .number) (e ∙ ap encodedOutcome q)) ∙ z)
   where
-    by : (u : Unlisted) → toldUnlisted u .number ≡ 0 → ⊥
+    by : (u : EncodeRefusal) → encodeRefusalOutcome u .number ≡ 0 → ⊥
     by (Record r) e = refusal-number r e
     by (TooShort n) e = omega arith
 
@@ -59,54 +59,54 @@ module _ {g : Grid} {s : List ℕ} (w : Writing g s) where
   pub writable : emit.Writable 0 list
   writable =
       let many = few-variables (w .small) in
-      record { room = omega (arith, few); right = all-in emit.Right list (λ l m. let h = all-at (Right (variableCount (gridBoard g s))) (list-within (gridBoard g s) (held-laws (w .held))) m in omega arith) }
+      record { room = omega (arith, few); right = all-in emit.Right list (λ l m. let h = all-at (Right (variableCount (gridBoard g s))) (list-within (gridBoard g s) (held-laws (w .recordFits))) m in omega arith) }
 
   -- the tables, once they are filled
-  pub tables-filled : {f a : ℕ} {ranks firsts : List ℕ} → f ≡ openCount (gridBoard g s) → ranks ≡ filled (replicate mostCells 0) (rankTable (gridBoard g s)) → a ≡ length (ways (gridBoard g s)) → firsts ≡ filled (replicate mostCells 0) (wayTable (gridBoard g s))
+  pub tables-filled : {f a : ℕ} {ranks firsts : List ℕ} → f ≡ openCount (gridBoard g s) → ranks ≡ filled (replicate mostCells 0) (rankTable (gridBoard g s)) → a ≡ length (linkVariables (gridBoard g s)) → firsts ≡ filled (replicate mostCells 0) (firstLinkTable (gridBoard g s))
       → Tables g s f a ranks firsts
   tables-filled F R A W =
-      let few = w .held .sides .few in
+      let few = w .recordFits .sides .few in
       record {
-        ranked = record { held = w .held; table = table-filled (rank (gridBoard g s)) (size g) (replicate mostCells 0) few R };
-        wayed = record { held = w .held; opens = F; table = table-filled (waysBelow (gridBoard g s)) (size g) (replicate mostCells 0) few W };
+        ranked = record { recordFits = w .recordFits; table = table-filled (rank (gridBoard g s)) (size g) (replicate mostCells 0) few R };
+        wayed = record { recordFits = w .recordFits; opens = F; table = table-filled (linksBelow (gridBoard g s)) (size g) (replicate mostCells 0) few W };
         links = A;
       }
 
   -- what the call tells after the reader's rows, and leaves
-  abbrev pub GridEnds : List ℤ → Told → List ℤ → Type 0
+  abbrev pub GridEnds : List ℤ → Outcome → List ℤ → Type 0
   GridEnds out u new =
-      (u ≡ turnedDown (roomRows (gridBoard g s) out) (toldCounts (countsOf (gridBoard g s))))
-      × (new ≡ leaves (turnedDown (roomRows (gridBoard g s) out) (toldCounts (countsOf (gridBoard g s)))) out (filled out list))
+      (u ≡ firstRefusal (roomRows (gridBoard g s) out) (countsOutcome (countsOf (gridBoard g s))))
+      × (new ≡ unlessRefused (firstRefusal (roomRows (gridBoard g s) out) (countsOutcome (countsOf (gridBoard g s)))) out (filled out list))
 
   module _ (out : List ℤ) {c : Counts} (e : c ≡ countsOf (gridBoard g s)) where
     elements : c .elements ≡ length list
     elements = ap (λ (c : Counts). c .elements) e
 
-    ends : {u : Told} {new : List ℤ} → Tells (roomRows (gridBoard g s) out) (toldCounts (countsOf (gridBoard g s))) u → new ≡ leaves u out (filled out list) → GridEnds out u new
-    ends = settled (roomRows (gridBoard g s) out) (toldCounts (countsOf (gridBoard g s))) out (filled out list)
+    ends : {u : Outcome} {new : List ℤ} → Tells (roomRows (gridBoard g s) out) (countsOutcome (countsOf (gridBoard g s))) u → new ≡ unlessRefused u out (filled out list) → GridEnds out u new
+    ends = settled (roomRows (gridBoard g s) out) (countsOutcome (countsOf (gridBoard g s))) out (filled out list)
 
     pub ends-short : length out < c .elements → GridEnds out (refusal 6 (c .elements)) out
     ends-short l = rw elements (ends (turns (short-by (length out) (omega (arith, elements)) few)) refl)
 
-    pub ends-listed : {new : List ℤ} {r : ℕ} → c .elements ≤ length out → Wrote out 0 list new r → GridEnds out (toldCounts c) new
+    pub ends-listed : {new : List ℤ} {r : ℕ} → c .elements ≤ length out → Wrote out 0 list new r → GridEnds out (countsOutcome c) new
     ends-listed l x = let h : length list ≤ length out = omega (arith, elements) in rw e (ends (passes (long-enough (length out) h) answers) (wrote-filled x h))
 
 -- the whole call
 module _ (s : List ℕ) (out : List ℤ) where
-  abbrev Ends : Told → List ℤ → Type 0
+  abbrev Ends : Outcome → List ℤ → Type 0
   Ends u new = (u ≡ encoderAnswer s out) × (new ≡ encoderLeaves s out)
 
-  pub ends-refused : {p : Parsed} {r : Refusal} → p ≡ NotRead r → toldParsed p ≡ recordAnswer s → Ends (toldRefusal r) out
+  pub ends-refused : {p : Parsed} {r : RecordRefusal} → p ≡ NotRead r → parsedOutcome p ≡ recordAnswer s → Ends (recordRefusalOutcome r) out
   ends-refused {r = r} q e =
-      let t : toldRefusal r ≡ encoderAnswer s out = passes-up s (roomRows (boardOf s) out) (toldCounts (countsOf (boardOf s))) q e in
-      (t, sym (untouched (encoderAnswer s out) out (filled out (clauseList (boardOf s))) (λ z. refusal-number r (ap (λ (u : Told). u .number) t ∙ z))))
+      let t : recordRefusalOutcome r ≡ encoderAnswer s out = passes-up s (roomRows (boardOf s) out) (countsOutcome (countsOf (boardOf s))) q e in
+      (t, sym (untouched (encoderAnswer s out) out (filled out (clauseList (boardOf s))) (λ z. refusal-number r (ap (λ (u : Outcome). u .number) t ∙ z))))
 
-  module _ {p : Parsed} {g : Grid} (q : p ≡ Accepted g) (e : toldParsed p ≡ recordAnswer s) where
+  module _ {p : Parsed} {g : Grid} (q : p ≡ Accepted g) (e : parsedOutcome p ≡ recordAnswer s) where
     pub read-writing : Writing g s
-    read-writing = record { held = read-held s q e; small = subst (λ g. Small (gridBoard g s)) (sym (read-sides s q e)) (accepted-small s (is-accepted s q e)) }
+    read-writing = record { recordFits = read-fits s q e; small = subst (λ g. Small (gridBoard g s)) (sym (read-sides s q e)) (accepted-small s (is-accepted s q e)) }
 
-    pub ends-read : {u : Told} {new : List ℤ} → GridEnds read-writing out u new → Ends u new
+    pub ends-read : {u : Outcome} {new : List ℤ} → GridEnds read-writing out u new → Ends u new
     ends-read (a, b) =
-        let t = goes-on s q e (λ g. roomRows (gridBoard g s) out) (toldCounts (countsOf (boardOf s))) in
-        let z : turnedDown (roomRows (gridBoard g s) out) (toldCounts (countsOf (gridBoard g s))) ≡ encoderAnswer s out = ap (λ g'. turnedDown (roomRows (gridBoard g s) out) (toldCounts (countsOf (gridBoard g' s)))) (read-sides s q e) ∙ t in
-        (a ∙ z, b ∙ (λ i. leaves (z i) out (filled out (clauseList (gridBoard (read-sides s q e i) s)))))
+        let t = goes-on s q e (λ g. roomRows (gridBoard g s) out) (countsOutcome (countsOf (boardOf s))) in
+        let z : firstRefusal (roomRows (gridBoard g s) out) (countsOutcome (countsOf (gridBoard g s))) ≡ encoderAnswer s out = ap (λ g'. firstRefusal (roomRows (gridBoard g s) out) (countsOutcome (countsOf (gridBoard g' s)))) (read-sides s q e) ∙ t in
+        (a ∙ z, b ∙ (λ i. unlessRefused (z i) out (filled out (clauseList (gridBoard (read-sides s q e i) s)))))

@@ -3,37 +3,37 @@ use Prim.Native.Nat.{ℕ}
 use lib.IntN.{ℤ}
 use lib.ListN.{length}
 use mathlib.Core.List.{List, [], _∷_}
-use Rattle.answers.specs.declared.Told.{Told}
-use Rattle.answers.specs.Told.{refusal, answer, Row, row}
+use Rattle.answers.specs.declared.Outcome.{Outcome}
+use Rattle.answers.specs.Outcome.{refusal, answer, Row, row}
 use Rattle.answers.specs.Lent.{tooShort}
 use Rattle.rules.specs.declared.Grid.{Grid}
 use Rattle.rules.specs.declared.Parsed.{Parsed}
 use Rattle.rules.specs.declared.Parsed.the-variants.{Accepted, Refused as NotRead}
-use Rattle.rules.specs.Record.{toldRefusal, Held}
+use Rattle.rules.specs.Record.{recordRefusalOutcome, RecordFits}
 use Rattle.rules.specs.Board.{Board, gridBoard}
 use Rattle.encoder.specs.Clauses.{clauseList}
 use Rattle.encoder.specs.Small.{Small}
 use Rattle.encoder_size.specs.declared.Counts.{Counts}
-use Rattle.encoder_call.specs.declared.Unlisted.{Unlisted}
-use Rattle.encoder_call.specs.declared.Unlisted.the-variants.{Record, TooShort}
+use Rattle.encoder_call.specs.declared.EncodeRefusal.{EncodeRefusal}
+use Rattle.encoder_call.specs.declared.EncodeRefusal.the-variants.{Record, TooShort}
 use Rattle.encoder_call.specs.declared.Encoded.{Encoded}
-use Rattle.encoder_call.specs.declared.Encoded.the-variants.{Listed, Refused}
+use Rattle.encoder_call.specs.declared.Encoded.the-variants.{Written, Refused}
 
-abbrev pub toldUnlisted : Unlisted → Told
-toldUnlisted (Record r) = toldRefusal r
-toldUnlisted (TooShort n) = refusal 6 n
+abbrev pub encodeRefusalOutcome : EncodeRefusal → Outcome
+encodeRefusalOutcome (Record r) = recordRefusalOutcome r
+encodeRefusalOutcome (TooShort n) = refusal 6 n
 
 -- the count of elements written, V and the number of clauses
-abbrev pub toldCounts : Counts → Told
-toldCounts c = answer (c .elements) (c .variables) (c .clauses)
+abbrev pub countsOutcome : Counts → Outcome
+countsOutcome c = answer (c .elements) (c .variables) (c .clauses)
 
-abbrev pub toldEncoded : Encoded → Told
-toldEncoded (Listed c) = toldCounts c
-toldEncoded (Refused u) = toldUnlisted u
+abbrev pub encodedOutcome : Encoded → Outcome
+encodedOutcome (Written c) = countsOutcome c
+encodedOutcome (Refused u) = encodeRefusalOutcome u
 
 -- a refusal of the record reader is passed up unchanged (an accepted record has none to pass up)
 abbrev pub passedUp : Parsed → Encoded
-passedUp (Accepted g) = Listed (record { elements = 0; variables = 0; clauses = 0 })
+passedUp (Accepted g) = Written (record { elements = 0; variables = 0; clauses = 0 })
 passedUp (NotRead r) = Refused (Record r)
 
 -- 6, over the grid that was read
@@ -42,5 +42,5 @@ roomRows b out = row 6 (tooShort (length out) (length (clauseList b))) ∷ []
 
 -- what the functions ask that write a grid's clauses: its record, and that nothing is too large
 pub record Writing (g : Grid) (s : List ℕ) : Type 0 where
-  pub held : Held g s
+  pub recordFits : RecordFits g s
   pub small : Small (gridBoard g s)

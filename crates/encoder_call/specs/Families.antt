@@ -4,7 +4,7 @@ use lib.IntN.{ℤ}
 use mathlib.Core.List.{List}
 use Rattle.rules.specs.Board.{Board}
 use Rattle.encoder.specs.Clauses.{Clause, touchingAt, linksAt, startAt, distanceAt}
-use Rattle.encoder_numbers.specs.declared.Around.{Around}
+use Rattle.encoder_numbers.specs.declared.CellNumbers.{CellNumbers}
 use Rattle.encoder_cells.specs.Cell.{touchingParts, linkParts, startParts, distanceParts}
 use Rattle.encoder_call.specs.declared.Family.{Family}
 use Rattle.encoder_call.specs.declared.Family.the-variants.{Touching, Links, Start, Distance}
@@ -16,7 +16,7 @@ familyAt Start = startAt
 familyAt Distance = distanceAt
 
 -- with F open cells
-abbrev pub familyParts : Family → ℕ → Around → List (List ℤ)
+abbrev pub familyParts : Family → ℕ → CellNumbers → List (List ℤ)
 familyParts Touching f x = touchingParts x
 familyParts Links f x = linkParts x
 familyParts Start f x = startParts x

@@ -6,7 +6,7 @@ ghost use Rattle.rules.specs.Board.{gridBoard};
 ghost use Rattle.encoder.specs.Lists.{each, joined};
 ghost use Rattle.encoder.specs.Variables.{opens};
 ghost use Rattle.encoder.specs.Clauses.{start, clauseList};
-ghost use Rattle.encoder.proofs.Emitting.{listOf, atCell};
+ghost use Rattle.encoder.proofs.ClauseLists.{listOf, atCell};
 ghost use Rattle.encoder_shapes.specs.Writable.{Writable};
 ghost use Rattle.encoder_numbers.specs.Tables.{Tables};
 ghost use Rattle.encoder_call.specs.Families.{familyAt, familyParts};
@@ -16,16 +16,16 @@ use encoder_cells::links_at;
 use encoder_cells::start_at;
 use encoder_cells::touching_at;
 use encoder_lines::clue_lines;
-use encoder_numbers::Around;
-use encoder_numbers::cells::around;
+use encoder_numbers::CellNumbers;
+use encoder_numbers::cells::cell_numbers;
 use encoder_numbers::tables::open_bit;
-use encoder_shapes::all_of;
+use encoder_shapes::at_least_one;
 use rules::Grid;
 
 // What a family says of an open cell.
-fn open_cell(family: Family, list: &mut [i32], at: usize, f: usize, x: Around) -> usize
+fn open_cell(family: Family, list: &mut [i32], at: usize, f: usize, x: CellNumbers) -> usize
     requires { ⌜ Writable at (joined (familyParts «family» f x)) ⌝ }
-    requires { ⌜ (0 < f) × (x .ahead < 16777217) ⌝ }
+    requires { ⌜ (0 < f) × (x .distance < 16777217) ⌝ }
     ensures { λ r. ⌜ Wrote (now (list .entry)) at (joined (familyParts «family» f x)) (now (list .exit)) r ⌝ }
 {
     match family {
@@ -58,7 +58,7 @@ fn cell(
     if open == 0 {
         return at;
     }
-    let near = around(g, record, f, a, ranks, firsts, x);
+    let near = cell_numbers(g, record, f, a, ranks, firsts, x);
     open_cell(family, list, at, f, near)
 }
 
@@ -103,7 +103,7 @@ fn start(
     requires { ⌜ Tables g (now «record») f a (now ranks) (now firsts) ⌝ }
     ensures { λ r. ⌜ Wrote (now (list .entry)) at (listOf (gridBoard g (now («record» .entry))) (start (gridBoard g (now («record» .entry))))) (now (list .exit)) r ⌝ }
 {
-    let i = all_of(list, at, f + 1, f);
+    let i = at_least_one(list, at, f + 1, f);
     cells(Family::Start, list, i, g, record, f, a, ranks, firsts)
 }
 

@@ -1,24 +1,24 @@
 // The encoder: document 01's clauses of a record's grid, in order, written into a lent list.
 ghost use mathlib.Core.Path.{_≡_};
-ghost use Rattle.answers.specs.Told.{turnedDown};
-ghost use Rattle.answers.specs.Lent.{Wrote, filled, leaves};
+ghost use Rattle.answers.specs.Outcome.{firstRefusal};
+ghost use Rattle.answers.specs.Lent.{Wrote, filled, unlessRefused};
 ghost use Rattle.rules.specs.Board.{gridBoard};
 ghost use Rattle.encoder.specs.Clauses.{clauseList};
 ghost use Rattle.encoder.specs.Encoding.{encoderAnswer, encoderLeaves};
 ghost use Rattle.encoder_size.specs.Counts.{countsOf};
-ghost use Rattle.encoder_call.specs.Answer.{toldUnlisted, toldCounts, toldEncoded, passedUp, roomRows, Writing};
-use answers::Told;
+ghost use Rattle.encoder_call.specs.Answer.{encodeRefusalOutcome, countsOutcome, encodedOutcome, passedUp, roomRows, Writing};
+use answers::Outcome;
 use answers::answered;
 use answers::refused;
+use encoder_numbers::tables::fill_first_links;
 use encoder_numbers::tables::fill_ranks;
-use encoder_numbers::tables::fill_ways;
 use encoder_size::Counts;
 use encoder_size::count;
 use families::all_families;
 use rules::Grid;
 use rules::MOST_CELLS;
 use rules::Parsed;
-use rules::Refusal;
+use rules::RecordRefusal;
 use rules::record::read;
 
 mod families; // the families of clauses, in order
@@ -32,35 +32,39 @@ pub enum Family {
 }
 
 // Why a record is turned down: the reader's refusal, else 6 with the elements needed.
-pub enum Unlisted {
-    Record(Refusal),
+pub enum EncodeRefusal {
+    Record(RecordRefusal),
     TooShort(usize),
 }
 
 pub enum Encoded {
-    Listed(Counts),
-    Refused(Unlisted),
+    Written(Counts),
+    Refused(EncodeRefusal),
 }
 
-impl Unlisted {
+impl EncodeRefusal {
     // Document 01's number, and the value beside it.
-    pub fn told(self) -> Told
-        ensures { λ r. ⌜ r ≡ toldUnlisted self ⌝ }
+    pub fn outcome(self) -> Outcome
+        ensures { λ r. ⌜ r ≡ encodeRefusalOutcome self ⌝ }
     {
         match self {
-            Unlisted::Record(r) => r.told(),
-            Unlisted::TooShort(n) => refused(6, n as u64),
+            EncodeRefusal::Record(r) => r.outcome(),
+            EncodeRefusal::TooShort(n) => refused(6, n as u64),
         }
     }
 }
 
 impl Encoded {
-    pub fn told(self) -> Told
-        ensures { λ r. ⌜ r ≡ toldEncoded self ⌝ }
+    pub fn outcome(self) -> Outcome
+        ensures { λ r. ⌜ r ≡ encodedOutcome self ⌝ }
     {
         match self {
-            Encoded::Listed(c) => answered(c.elements as u64, c.variables as u64, c.clauses as u64),
-            Encoded::Refused(u) => u.told(),
+            Encoded::Written(c) => answered(
+                c.elements as u64,
+                c.variables as u64,
+                c.clauses as u64,
+            ),
+            Encoded::Refused(u) => u.outcome(),
         }
     }
 }
@@ -73,23 +77,23 @@ fn write_list(g: Grid, record: &[u8], list: &mut [i32]) -> usize
     let mut ranks = [0usize; MOST_CELLS];
     let mut firsts = [0usize; MOST_CELLS];
     let open = fill_ranks(g, record, &mut ranks);
-    let links = fill_ways(g, record, &mut firsts);
+    let links = fill_first_links(g, record, &mut firsts);
     all_families(list, 0, g, record, open, links, &ranks, &firsts)
 }
 
 // 6, and the list.
 fn encode_grid(g: Grid, record: &[u8], list: &mut [i32]) -> Encoded
     requires { ⌜ Writing g (now «record») ⌝ }
-    ensures { λ r. ⌜ toldEncoded r ≡ turnedDown (roomRows (gridBoard g (now («record» .entry))) (now (list .entry))) (toldCounts (countsOf (gridBoard g (now («record» .entry))))) ⌝ }
-    ensures { λ r. ⌜ now (list .exit) ≡ leaves (turnedDown (roomRows (gridBoard g (now («record» .entry))) (now (list .entry))) (toldCounts (countsOf (gridBoard g (now («record» .entry)))))) (now (list .entry)) (filled (now (list .entry)) (clauseList (gridBoard g (now («record» .entry))))) ⌝ }
+    ensures { λ r. ⌜ encodedOutcome r ≡ firstRefusal (roomRows (gridBoard g (now («record» .entry))) (now (list .entry))) (countsOutcome (countsOf (gridBoard g (now («record» .entry))))) ⌝ }
+    ensures { λ r. ⌜ now (list .exit) ≡ unlessRefused (firstRefusal (roomRows (gridBoard g (now («record» .entry))) (now (list .entry))) (countsOutcome (countsOf (gridBoard g (now («record» .entry)))))) (now (list .entry)) (filled (now (list .entry)) (clauseList (gridBoard g (now («record» .entry))))) ⌝ }
 {
     let counts = count(g, record);
     let needed = counts.elements;
     if list.len() < needed {
-        return Encoded::Refused(Unlisted::TooShort(needed));
+        return Encoded::Refused(EncodeRefusal::TooShort(needed));
     }
     write_list(g, record, list);
-    Encoded::Listed(counts)
+    Encoded::Written(counts)
 }
 
 // A refusal of the record reader, passed up unchanged.
@@ -97,18 +101,18 @@ fn passed_up(p: Parsed) -> Encoded
     ensures { λ r. ⌜ r ≡ passedUp p ⌝ }
 {
     let Parsed::Refused(r) = p else {
-        return Encoded::Listed(Counts {
+        return Encoded::Written(Counts {
             elements: 0,
             variables: 0,
             clauses: 0,
         });
     };
-    Encoded::Refused(Unlisted::Record(r))
+    Encoded::Refused(EncodeRefusal::Record(r))
 }
 
 // Writes the clauses of a record's grid, or names the first cause against it.
 pub fn encode(record: &[u8], list: &mut [i32]) -> Encoded
-    ensures { λ r. ⌜ toldEncoded r ≡ encoderAnswer (now («record» .entry)) (now (list .entry)) ⌝ }
+    ensures { λ r. ⌜ encodedOutcome r ≡ encoderAnswer (now («record» .entry)) (now (list .entry)) ⌝ }
     ensures { λ r. ⌜ now (list .exit) ≡ encoderLeaves (now («record» .entry)) (now (list .entry)) ⌝ }
 {
     let p = read(record);

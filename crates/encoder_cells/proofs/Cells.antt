@@ -17,12 +17,12 @@ use Rattle.encoder.specs.Clauses.{plus, notBoth, pairs, orAny, eastSouth, touch
 use Rattle.encoder.proofs.Lists.{each-append}
 use Rattle.encoder.proofs.Neighbours.{Beside}
 use Rattle.encoder.proofs.Places.{below, rank, place-z}
-use Rattle.encoder.proofs.Emitting.{each-next, each-shift, atCell, each-cell, at-open, at-shut, rank-open, rank-shut, lower-is, listOf, list-append, list-joined, list-each, list-map, number-q}
-use Rattle.encoder_shapes.specs.Shapes.{notBoth as notPair, implies, orNot, bothImply, eachImplies, anyOf, eachNotBoth}
-use Rattle.encoder_numbers.specs.declared.Side.{Side}
+use Rattle.encoder.proofs.ClauseLists.{each-next, each-shift, atCell, each-cell, at-open, at-shut, rank-open, rank-shut, lower-is, listOf, list-append, list-joined, list-each, list-map, number-q}
+use Rattle.encoder_shapes.specs.Shapes.{notBoth as notPair, implies, orNot, bothImply, eachImplies, orAtLeastOne, eachNotBoth}
+use Rattle.encoder_numbers.specs.declared.NeighbourNumbers.{NeighbourNumbers}
 use Rattle.encoder_cells.specs.Cell as cell
 use Rattle.encoder_cells.specs.Cell.{literalIf, notBothIf, anyParts, pairParts}
-use Rattle.encoder_numbers.specs.Numbered.{noSide, sideTo, sideIf, sideOf, aroundOf}
+use Rattle.encoder_numbers.specs.Numbered.{noNeighbour, neighbourNumbersTo, neighbourNumbersIf, neighbourNumbersOf, cellNumbersOf}
 
 -- 1. What is made of the open neighbours, and of the open cells before one
 
@@ -49,26 +49,26 @@ module _ (b : Board) (G F : ℕ → List ℤ) (same : (y : ℕ) → b .isOpen y 
 
 module _ (b : Board) (x : ℕ) where
   -- in one direction
-  side-one : (F : Neighbour → List ℤ) (G : Side → List ℤ) → G noSide ≡ [] → ((y : Neighbour) → Beside b x y → G (sideTo b x y) ≡ F y) → (d : Direction) → each (ifThere b d (b .next d x)) F ≡ G (sideOf b x d)
+  side-one : (F : Neighbour → List ℤ) (G : NeighbourNumbers → List ℤ) → G noNeighbour ≡ [] → ((y : Neighbour) → Beside b x y → G (neighbourNumbersTo b x y) ≡ F y) → (d : Direction) → each (ifThere b d (b .next d x)) F ≡ G (neighbourNumbersOf b x d)
   side-one F G n h d = by (b .next d x) refl
     where
-      by : (o : Option ℕ) → b .next d x ≡ o → each (ifThere b d o) F ≡ G (sideIf b x (ifThere b d o))
+      by : (o : Option ℕ) → b .next d x ≡ o → each (ifThere b d o) F ≡ G (neighbourNumbersIf b x (ifThere b d o))
       by none e = sym n
       by (some y) e = opened (b .isOpen y) refl
         where
-          opened : (t : Bool) → b .isOpen y ≡ t → each (ifOpen t d y) F ≡ G (sideIf b x (ifOpen t d y))
+          opened : (t : Bool) → b .isOpen y ≡ t → each (ifOpen t d y) F ≡ G (neighbourNumbersIf b x (ifOpen t d y))
           opened true o = append-nil (F (record { way = d; cell = y })) ∙ sym (h (record { way = d; cell = y }) (record { leads = e; opened = o }))
           opened false o = sym n
 
   -- in each
-  side-each : (F : Neighbour → List ℤ) (G : Side → List ℤ) → G noSide ≡ [] → ((y : Neighbour) → Beside b x y → G (sideTo b x y) ≡ F y) → (ds : List Direction) → each (neighbours b x ds) F ≡ each ds (λ d. G (sideOf b x d))
+  side-each : (F : Neighbour → List ℤ) (G : NeighbourNumbers → List ℤ) → G noNeighbour ≡ [] → ((y : Neighbour) → Beside b x y → G (neighbourNumbersTo b x y) ≡ F y) → (ds : List Direction) → each (neighbours b x ds) F ≡ each ds (λ d. G (neighbourNumbersOf b x d))
   side-each F G n h [] = refl
   side-each F G n h (d ∷ ds) = each-append F (ifThere b d (b .next d x)) (neighbours b x ds) ∙ (λ t. side-one F G n h d t ++ side-each F G n h ds t)
 
   -- variables that tell of a neighbour, with their numbers at a side
-  module _ (f : Neighbour → Variable) (g : Side → ℕ) (off : g noSide ≡ 0) (on : (y : Neighbour) → g (sideTo b x y) ≡ number b (f y)) where
+  module _ (f : Neighbour → Variable) (g : NeighbourNumbers → ℕ) (off : g noNeighbour ≡ 0) (on : (y : Neighbour) → g (neighbourNumbersTo b x y) ≡ number b (f y)) where
     -- [z, all of them]
-    any-list : (v : Variable) (n e s w : Direction) → listOf b (orAny v (map f (neighbours b x (n ∷ e ∷ s ∷ w ∷ []))) ∷ []) ≡ joined (anyParts (number b v) (g (sideOf b x n)) (g (sideOf b x e)) (g (sideOf b x s)) (g (sideOf b x w)))
+    any-list : (v : Variable) (n e s w : Direction) → listOf b (orAny v (map f (neighbours b x (n ∷ e ∷ s ∷ w ∷ []))) ∷ []) ≡ joined (anyParts (number b v) (g (neighbourNumbersOf b x n)) (g (neighbourNumbersOf b x e)) (g (neighbourNumbersOf b x s)) (g (neighbourNumbersOf b x w)))
     any-list v n e s w =
         append-nil _
         ∙ ap (λ l. pos (number b v) ∷ (l ++ (pos 0 ∷ [])))
@@ -79,7 +79,7 @@ module _ (b : Board) (x : ℕ) where
     -- each pair of them
     abbrev pairsOf : List Direction → List ℤ
     pairsOf [] = []
-    pairsOf (d ∷ ds) = each ds (λ e. notBothIf (g (sideOf b x d)) (g (sideOf b x e))) ++ pairsOf ds
+    pairsOf (d ∷ ds) = each ds (λ e. notBothIf (g (neighbourNumbersOf b x d)) (g (neighbourNumbersOf b x e))) ++ pairsOf ds
 
     pairs-from : (ds : List Direction) → listOf b (pairs (map f (neighbours b x ds))) ≡ pairsOf ds
     pairs-from [] = refl
@@ -89,45 +89,45 @@ module _ (b : Board) (x : ℕ) where
         ns = neighbours b x ds
 
         -- without a first one, and with it
-        nothing : (es : List Direction) → [] ≡ each es (λ e. notBothIf (g noSide) (g (sideOf b x e)))
+        nothing : (es : List Direction) → [] ≡ each es (λ e. notBothIf (g noNeighbour) (g (neighbourNumbersOf b x e)))
         nothing [] = refl
-        nothing (e ∷ es) = nothing es ∙ ap (λ k. notBothIf k (g (sideOf b x e)) ++ each es (λ e. notBothIf (g noSide) (g (sideOf b x e)))) (sym off)
+        nothing (e ∷ es) = nothing es ∙ ap (λ k. notBothIf k (g (neighbourNumbersOf b x e)) ++ each es (λ e. notBothIf (g noNeighbour) (g (neighbourNumbersOf b x e)))) (sym off)
 
-        with : (y : Neighbour) → listOf b (map (notBoth (f y)) (map f ns)) ≡ each ds (λ e. notBothIf (g (sideTo b x y)) (g (sideOf b x e)))
+        with : (y : Neighbour) → listOf b (map (notBoth (f y)) (map f ns)) ≡ each ds (λ e. notBothIf (g (neighbourNumbersTo b x y)) (g (neighbourNumbersOf b x e)))
         with y =
             list-map b (notBoth (f y)) (map f ns) ∙ each-map f (λ v. written b (notBoth (f y) v)) ns
             ∙ side-each (λ z. written b (notBoth (f y) (f z))) (λ s. notBothIf (number b (f y)) (g s)) (ap (notBothIf (number b (f y))) off) (λ z k. ap (notBothIf (number b (f y))) (on z)) ds
-            ∙ ap (λ k. each ds (λ e. notBothIf k (g (sideOf b x e)))) (sym (on y))
+            ∙ ap (λ k. each ds (λ e. notBothIf k (g (neighbourNumbersOf b x e)))) (sym (on y))
 
         by : (o : Option ℕ) → listOf b (pairs (map f ns)) ≡ pairsOf ds
-            → listOf b (pairs (map f (ifThere b d o ++ ns))) ≡ each ds (λ e. notBothIf (g (sideIf b x (ifThere b d o))) (g (sideOf b x e))) ++ pairsOf ds
+            → listOf b (pairs (map f (ifThere b d o ++ ns))) ≡ each ds (λ e. notBothIf (g (neighbourNumbersIf b x (ifThere b d o))) (g (neighbourNumbersOf b x e))) ++ pairsOf ds
         by none go = (λ t. nothing ds t ++ go t)
         by (some y) go = opened (b .isOpen y)
           where
-            opened : (t : Bool) → listOf b (pairs (map f (ifOpen t d y ++ ns))) ≡ each ds (λ e. notBothIf (g (sideIf b x (ifOpen t d y))) (g (sideOf b x e))) ++ pairsOf ds
+            opened : (t : Bool) → listOf b (pairs (map f (ifOpen t d y ++ ns))) ≡ each ds (λ e. notBothIf (g (neighbourNumbersIf b x (ifOpen t d y))) (g (neighbourNumbersOf b x e))) ++ pairsOf ds
             opened true = let z : Neighbour = record { way = d; cell = y } in list-append b (map (notBoth (f z)) (map f ns)) (pairs (map f ns)) ∙ (λ t. with z t ++ go t)
             opened false = (λ t. nothing ds t ++ go t)
 
-    pairs-list : (n e s w : Direction) → listOf b (pairs (map f (neighbours b x (n ∷ e ∷ s ∷ w ∷ [])))) ≡ joined (pairParts (g (sideOf b x n)) (g (sideOf b x e)) (g (sideOf b x s)) (g (sideOf b x w)))
+    pairs-list : (n e s w : Direction) → listOf b (pairs (map f (neighbours b x (n ∷ e ∷ s ∷ w ∷ [])))) ≡ joined (pairParts (g (neighbourNumbersOf b x n)) (g (neighbourNumbersOf b x e)) (g (neighbourNumbersOf b x s)) (g (neighbourNumbersOf b x w)))
     pairs-list n e s w = pairs-from (n ∷ e ∷ s ∷ w ∷ []) ∙ simp (append-assoc, append-nil)
 
   -- 1. Touching
-  pub touching-list : listOf b (touchingAt b x) ≡ joined (cell.touchingParts (aroundOf b x))
+  pub touching-list : listOf b (touchingAt b x) ≡ joined (cell.touchingParts (cellNumbersOf b x))
   touching-list = list-map b (touch x) (neighbours b x eastSouth) ∙ side-each (λ y. written b (touch x y)) (λ s. notBothIf (number b (Z x)) (s .black)) refl (λ y k. refl) eastSouth
 
   -- 3. Links
-  pub links-list : listOf b (linksAt b x) ≡ joined (cell.linkParts (aroundOf b x))
-  links-list = list-joined b (linkParts b x) ∙ (λ t. joined (ends t ∷ any-list (out x) (λ s. s .out) refl (λ y. refl) (Z x) north east south west t ∷ pairs-list (out x) (λ s. s .out) refl (λ y. refl) north east south west t ∷ any-list back (λ s. s .back) refl (λ y. refl) (Z x) north east south west t ∷ pairs-list back (λ s. s .back) refl (λ y. refl) north east south west t ∷ ways t ∷ []))
+  pub links-list : listOf b (linksAt b x) ≡ joined (cell.linkParts (cellNumbersOf b x))
+  links-list = list-joined b (linkParts b x) ∙ (λ t. joined (ends t ∷ any-list (out x) (λ s. s .out) refl (λ y. refl) (Z x) north east south west t ∷ pairs-list (out x) (λ s. s .out) refl (λ y. refl) north east south west t ∷ any-list back (λ s. s .back) refl (λ y. refl) (Z x) north east south west t ∷ pairs-list back (λ s. s .back) refl (λ y. refl) north east south west t ∷ linkVariables t ∷ []))
     where
-      ends : listOf b (each (neighbours b x directions) (bothWhite x)) ≡ joined (cell.whiteParts (aroundOf b x))
+      ends : listOf b (each (neighbours b x directions) (bothWhite x)) ≡ joined (cell.whiteParts (cellNumbersOf b x))
       ends = list-each b (bothWhite x) (neighbours b x directions) ∙ side-each (λ y. listOf b (bothWhite x y)) (cell.whiteEnds (number b (Z x))) refl (λ y k. refl) directions
 
-      ways : listOf b (map (oneWay x) (neighbours b x eastSouth)) ≡ joined (cell.oneWayParts (aroundOf b x))
-      ways = list-map b (oneWay x) (neighbours b x eastSouth) ∙ side-each (λ y. written b (oneWay x y)) (λ s. notBothIf (s .out) (s .back)) refl (λ y k. refl) eastSouth
+      linkVariables : listOf b (map (oneWay x) (neighbours b x eastSouth)) ≡ joined (cell.oneWayParts (cellNumbersOf b x))
+      linkVariables = list-map b (oneWay x) (neighbours b x eastSouth) ∙ side-each (λ y. written b (oneWay x y)) (λ s. notBothIf (s .out) (s .back)) refl (λ y k. refl) eastSouth
 
 module _ (b : Board) (law : Laws b) (x : ℕ) (h : b .isOpen x ≡ true) where
   -- 4. Start
-  pub start-list : listOf b (startAt b x) ≡ joined (cell.startParts (aroundOf b x))
+  pub start-list : listOf b (startAt b x) ≡ joined (cell.startParts (cellNumbersOf b x))
   start-list = list-joined b (startParts b x) ∙ (λ t. joined (notPair (number b (S x)) (number b (Z x)) ∷ lowers t ∷ eastwards t ∷ []))
     where
       lowers : listOf b (map (blackBefore x) (lower b x)) ≡ eachImplies (number b (S x)) 1 (rank b x)
@@ -136,18 +136,18 @@ module _ (b : Board) (law : Laws b) (x : ℕ) (h : b .isOpen x ≡ true) where
           list-map b (blackBefore x) (lower b x) ∙ ap (λ l. each l (λ y. written b (blackBefore x y))) (lower-is b x l)
           ∙ each-ranked b (λ y. written b (blackBefore x y)) (λ k. implies (number b (S x)) (1 + k)) (λ y o. ap (implies (number b (S x))) (let e = place-z b law y o in omega arith)) x
 
-      eastwards : listOf b (eastward b x ∷ []) ≡ joined (cell.eastwardParts (number b (S x)) (sideOf b x east .out))
+      eastwards : listOf b (eastward b x ∷ []) ≡ joined (cell.eastwardParts (number b (S x)) (neighbourNumbersOf b x east .out))
       eastwards =
           append-nil _ ∙ ap (λ l. negℤ (pos (number b (S x))) ∷ (l ++ (pos 0 ∷ []))) (literals-each b (out x) (neighbours b x (east ∷ [])) ∙ side-each b x (λ y. pos (number b (out x y)) ∷ []) (λ s. literalIf (s .out)) refl (λ y k. refl) (east ∷ []))
           ∙ simp (append-assoc)
 
   -- 5. Distance: the numbers of Q go on by one
-  pub distance-list : listOf b (distanceAt b x) ≡ joined (cell.distanceParts (openCount b) (aroundOf b x))
+  pub distance-list : listOf b (distanceAt b x) ≡ joined (cell.distanceParts (openCount b) (cellNumbersOf b x))
   distance-list =
       list-joined b (distanceParts b x)
       ∙ (λ t. joined (some t ∷ none-black t ∷ implies (number b (S x)) (number b (Q x 0)) ∷ orNot (number b (S x)) (number b (Q x 0)) ∷ not-ahead t ∷ nearer-all t ∷ []))
     where
-      some : listOf b (orAny (Z x) (distancesAt b x) ∷ []) ≡ anyOf (number b (Z x)) (number b (Q x 0)) (openCount b)
+      some : listOf b (orAny (Z x) (distancesAt b x) ∷ []) ≡ orAtLeastOne (number b (Z x)) (number b (Q x 0)) (openCount b)
       some =
           append-nil _ ∙ ap (λ l. pos (number b (Z x)) ∷ (l ++ (pos 0 ∷ [])))
           (literals-each b (λ k. Q x k) (upTo (openCount b)) ∙ each-shift (λ k. pos (number b (Q x k)) ∷ []) (λ k. pos (number b (Q x 0) + k) ∷ []) 0 0 (openCount b) (λ k l. ap (λ n. pos n ∷ []) (number-q b law x (0 + k) h (omega arith))))
@@ -161,7 +161,7 @@ module _ (b : Board) (law : Laws b) (x : ℕ) (h : b .isOpen x ≡ true) where
       not-ahead : listOf b (map (notAhead x) (fromOne b)) ≡ eachNotBoth (number b (S x)) (number b (Q x 0) + 1) (openCount b - 1)
       not-ahead = list-map b (notAhead x) (fromOne b) ∙ each-shift (λ k. written b (notAhead x k)) (λ k. notPair (number b (S x)) (number b (Q x 0) + 1 + k)) 1 0 (openCount b - 1) (λ k l. ap (notPair (number b (S x))) (from-one k l))
 
-      nearer-one : (y : Neighbour) → Beside b x y → cell.nearer (number b (Q x 0)) (openCount b) (sideTo b x y) ≡ listOf b (nearerEach b x y)
+      nearer-one : (y : Neighbour) → Beside b x y → cell.nearer (number b (Q x 0)) (openCount b) (neighbourNumbersTo b x y) ≡ listOf b (nearerEach b x y)
       nearer-one y k =
           sym (list-map b (nearer x y) (fromOne b)
           ∙ each-shift (λ k. written b (nearer x y k)) (λ k. bothImply (number b (out x y)) (number b (Q x 0) + 1 + k) (number b (Q (y .cell) 0) + k)) 1 0 (openCount b - 1)
@@ -170,5 +170,5 @@ module _ (b : Board) (law : Laws b) (x : ℕ) (h : b .isOpen x ≡ true) where
           before : (j : ℕ) → j < openCount b - 1 → number b (Q (y .cell) (1 + j - 1)) ≡ number b (Q (y .cell) 0) + (0 + j)
           before j l = let e : 1 + j - 1 ≡ 0 + j = omega arith in ap (λ k. number b (Q (y .cell) k)) e ∙ number-q b law (y .cell) (0 + j) (k .opened) (omega arith)
 
-      nearer-all : listOf b (each (neighbours b x directions) (nearerEach b x)) ≡ joined (cell.nearerParts (openCount b) (aroundOf b x))
+      nearer-all : listOf b (each (neighbours b x directions) (nearerEach b x)) ≡ joined (cell.nearerParts (openCount b) (cellNumbersOf b x))
       nearer-all = list-each b (nearerEach b x) (neighbours b x directions) ∙ side-each b x (λ y. listOf b (nearerEach b x y)) (cell.nearer (number b (Q x 0)) (openCount b)) refl nearer-one directions

@@ -3,9 +3,9 @@ use Prim.Native.Nat.{ℕ, zero, suc, _+_, _-_}
 use lib.IntN.{ℤ, pos}
 use mathlib.Core.List.{List, [], _∷_, _++_}
 use Rattle.encoder.specs.Lists.{joined}
-use Rattle.encoder_shapes.specs.Shapes.{no, notBoth, implies, orNot, anyOf, eachNotBoth, eachImplies, eachBothImply}
-use Rattle.encoder_numbers.specs.declared.Side.{Side}
-use Rattle.encoder_numbers.specs.declared.Around.{Around}
+use Rattle.encoder_shapes.specs.Shapes.{no, notBoth, implies, orNot, orAtLeastOne, eachNotBoth, eachImplies, eachBothImply}
+use Rattle.encoder_numbers.specs.declared.NeighbourNumbers.{NeighbourNumbers}
+use Rattle.encoder_numbers.specs.declared.CellNumbers.{CellNumbers}
 
 -- nothing for a variable that is not there
 abbrev pub optional : ℕ → List ℤ → List ℤ
@@ -27,21 +27,21 @@ abbrev pub pairParts : ℕ → ℕ → ℕ → ℕ → List (List ℤ)
 pairParts n e s w = notBothIf n e ∷ notBothIf n s ∷ notBothIf n w ∷ notBothIf e s ∷ notBothIf e w ∷ notBothIf s w ∷ []
 
 -- 1. Touching: [−Zx −Zy], east then south
-abbrev pub touchingParts : Around → List (List ℤ)
+abbrev pub touchingParts : CellNumbers → List (List ℤ)
 touchingParts x = notBothIf (x .black) (x .east .black) ∷ notBothIf (x .black) (x .south .black) ∷ []
 
 -- 3. Links: [−e −Zx] [−e −Zy]
-abbrev pub whiteEnds : ℕ → Side → List ℤ
+abbrev pub whiteEnds : ℕ → NeighbourNumbers → List ℤ
 whiteEnds z y = optional (y .out) (notBoth (y .out) z ++ notBoth (y .out) (y .black))
 
-abbrev pub whiteParts : Around → List (List ℤ)
+abbrev pub whiteParts : CellNumbers → List (List ℤ)
 whiteParts x = whiteEnds (x .black) (x .north) ∷ whiteEnds (x .black) (x .east) ∷ whiteEnds (x .black) (x .south) ∷ whiteEnds (x .black) (x .west) ∷ []
 
 -- [−(x→y) −(y→x)], east then south
-abbrev pub oneWayParts : Around → List (List ℤ)
+abbrev pub oneWayParts : CellNumbers → List (List ℤ)
 oneWayParts x = notBothIf (x .east .out) (x .east .back) ∷ notBothIf (x .south .out) (x .south .back) ∷ []
 
-abbrev pub linkParts : Around → List (List ℤ)
+abbrev pub linkParts : CellNumbers → List (List ℤ)
 linkParts x =
     joined (whiteParts x) ∷
     joined (anyParts (x .black) (x .north .out) (x .east .out) (x .south .out) (x .west .out)) ∷
@@ -56,22 +56,22 @@ abbrev pub eastwardParts : ℕ → ℕ → List (List ℤ)
 eastwardParts s e = (no s ∷ []) ∷ literalIf e ∷ (pos 0 ∷ []) ∷ []
 
 -- [−Sx −Zx]; [−Sx Zy] for those of lower rank, whose numbers are 1 to the rank of x
-abbrev pub startParts : Around → List (List ℤ)
+abbrev pub startParts : CellNumbers → List (List ℤ)
 startParts x = notBoth (x .start) (x .black) ∷ eachImplies (x .start) 1 (x .rank) ∷ joined (eastwardParts (x .start) (x .east .out)) ∷ []
 
 -- 5. Distance, with F open cells: [−(x→y) −Q(x,k) Q(y,k−1)] for k = 1 to F − 1
-abbrev pub nearer : ℕ → ℕ → Side → List ℤ
-nearer q f y = optional (y .out) (eachBothImply (y .out) (q + 1) (y .ahead) (f - 1))
+abbrev pub nearer : ℕ → ℕ → NeighbourNumbers → List ℤ
+nearer q f y = optional (y .out) (eachBothImply (y .out) (q + 1) (y .distance) (f - 1))
 
-abbrev pub nearerParts : ℕ → Around → List (List ℤ)
-nearerParts f x = nearer (x .ahead) f (x .north) ∷ nearer (x .ahead) f (x .east) ∷ nearer (x .ahead) f (x .south) ∷ nearer (x .ahead) f (x .west) ∷ []
+abbrev pub nearerParts : ℕ → CellNumbers → List (List ℤ)
+nearerParts f x = nearer (x .distance) f (x .north) ∷ nearer (x .distance) f (x .east) ∷ nearer (x .distance) f (x .south) ∷ nearer (x .distance) f (x .west) ∷ []
 
-abbrev pub distanceParts : ℕ → Around → List (List ℤ)
+abbrev pub distanceParts : ℕ → CellNumbers → List (List ℤ)
 distanceParts f x =
-    anyOf (x .black) (x .ahead) f ∷
-    eachNotBoth (x .black) (x .ahead) f ∷
-    implies (x .start) (x .ahead) ∷
-    orNot (x .start) (x .ahead) ∷
-    eachNotBoth (x .start) (x .ahead + 1) (f - 1) ∷
+    orAtLeastOne (x .black) (x .distance) f ∷
+    eachNotBoth (x .black) (x .distance) f ∷
+    implies (x .start) (x .distance) ∷
+    orNot (x .start) (x .distance) ∷
+    eachNotBoth (x .start) (x .distance + 1) (f - 1) ∷
     joined (nearerParts f x) ∷
     []

@@ -6,14 +6,14 @@ ghost use Rattle.encoder_shapes.specs.Writable.{Writable};
 ghost use Rattle.encoder_cells.specs.Cell.{literalIf, notBothIf, anyParts, pairParts, touchingParts, whiteEnds, whiteParts, oneWayParts, linkParts, eastwardParts, startParts, nearer, nearerParts, distanceParts};
 use cnf::put;
 use cnf::put_not;
-use encoder_numbers::Around;
-use encoder_numbers::Side;
-use encoder_shapes::any_of;
+use encoder_numbers::CellNumbers;
+use encoder_numbers::NeighbourNumbers;
 use encoder_shapes::each_both_imply;
 use encoder_shapes::each_implies;
 use encoder_shapes::each_not_both;
 use encoder_shapes::implies;
 use encoder_shapes::not_both;
+use encoder_shapes::or_at_least_one;
 use encoder_shapes::or_not;
 
 fn literal_if(list: &mut [i32], at: usize, a: usize) -> usize
@@ -41,7 +41,7 @@ fn not_both_if(list: &mut [i32], at: usize, a: usize, b: usize) -> usize
 }
 
 // 1. Touching.
-pub fn touching_at(list: &mut [i32], at: usize, x: Around) -> usize
+pub fn touching_at(list: &mut [i32], at: usize, x: CellNumbers) -> usize
     requires { ⌜ Writable at (joined (touchingParts x)) ⌝ }
     ensures { λ r. ⌜ Wrote (now (list .entry)) at (joined (touchingParts x)) (now (list .exit)) r ⌝ }
 {
@@ -76,7 +76,7 @@ fn pairs_four(list: &mut [i32], at: usize, n: usize, e: usize, s: usize, w: usiz
 }
 
 // [−(x→y) −Zx] [−(x→y) −Zy]
-fn white_ends(list: &mut [i32], at: usize, z: usize, y: Side) -> usize
+fn white_ends(list: &mut [i32], at: usize, z: usize, y: NeighbourNumbers) -> usize
     requires { ⌜ Writable at (whiteEnds z y) ⌝ }
     ensures { λ r. ⌜ Wrote (now (list .entry)) at (whiteEnds z y) (now (list .exit)) r ⌝ }
 {
@@ -87,7 +87,7 @@ fn white_ends(list: &mut [i32], at: usize, z: usize, y: Side) -> usize
     not_both(list, i, y.out, y.black)
 }
 
-fn all_white_ends(list: &mut [i32], at: usize, x: Around) -> usize
+fn all_white_ends(list: &mut [i32], at: usize, x: CellNumbers) -> usize
     requires { ⌜ Writable at (joined (whiteParts x)) ⌝ }
     ensures { λ r. ⌜ Wrote (now (list .entry)) at (joined (whiteParts x)) (now (list .exit)) r ⌝ }
 {
@@ -98,7 +98,7 @@ fn all_white_ends(list: &mut [i32], at: usize, x: Around) -> usize
 }
 
 // [−(x→y) −(y→x)], east then south.
-fn one_ways(list: &mut [i32], at: usize, x: Around) -> usize
+fn one_ways(list: &mut [i32], at: usize, x: CellNumbers) -> usize
     requires { ⌜ Writable at (joined (oneWayParts x)) ⌝ }
     ensures { λ r. ⌜ Wrote (now (list .entry)) at (joined (oneWayParts x)) (now (list .exit)) r ⌝ }
 {
@@ -107,7 +107,7 @@ fn one_ways(list: &mut [i32], at: usize, x: Around) -> usize
 }
 
 // 3. Links.
-pub fn links_at(list: &mut [i32], at: usize, x: Around) -> usize
+pub fn links_at(list: &mut [i32], at: usize, x: CellNumbers) -> usize
     requires { ⌜ Writable at (joined (linkParts x)) ⌝ }
     ensures { λ r. ⌜ Wrote (now (list .entry)) at (joined (linkParts x)) (now (list .exit)) r ⌝ }
 {
@@ -153,7 +153,7 @@ fn eastward(list: &mut [i32], at: usize, s: usize, e: usize) -> usize
 }
 
 // 4. Start.
-pub fn start_at(list: &mut [i32], at: usize, x: Around) -> usize
+pub fn start_at(list: &mut [i32], at: usize, x: CellNumbers) -> usize
     requires { ⌜ Writable at (joined (startParts x)) ⌝ }
     ensures { λ r. ⌜ Wrote (now (list .entry)) at (joined (startParts x)) (now (list .exit)) r ⌝ }
 {
@@ -163,7 +163,7 @@ pub fn start_at(list: &mut [i32], at: usize, x: Around) -> usize
 }
 
 // [−(x→y) −Q(x,k) Q(y,k−1)], k = 1 to F − 1.
-fn nearer(list: &mut [i32], at: usize, q: usize, f: usize, y: Side) -> usize
+fn nearer(list: &mut [i32], at: usize, q: usize, f: usize, y: NeighbourNumbers) -> usize
     requires { ⌜ Writable at (nearer q f y) ⌝ }
     requires { ⌜ (0 < f) × (q < 16777217) ⌝ }
     ensures { λ r. ⌜ Wrote (now (list .entry)) at (nearer q f y) (now (list .exit)) r ⌝ }
@@ -171,30 +171,30 @@ fn nearer(list: &mut [i32], at: usize, q: usize, f: usize, y: Side) -> usize
     if y.out == 0 {
         return at;
     }
-    each_both_imply(list, at, y.out, q + 1, y.ahead, f - 1)
+    each_both_imply(list, at, y.out, q + 1, y.distance, f - 1)
 }
 
-fn all_nearer(list: &mut [i32], at: usize, f: usize, x: Around) -> usize
+fn all_nearer(list: &mut [i32], at: usize, f: usize, x: CellNumbers) -> usize
     requires { ⌜ Writable at (joined (nearerParts f x)) ⌝ }
-    requires { ⌜ (0 < f) × (x .ahead < 16777217) ⌝ }
+    requires { ⌜ (0 < f) × (x .distance < 16777217) ⌝ }
     ensures { λ r. ⌜ Wrote (now (list .entry)) at (joined (nearerParts f x)) (now (list .exit)) r ⌝ }
 {
-    let i = nearer(list, at, x.ahead, f, x.north);
-    let i = nearer(list, i, x.ahead, f, x.east);
-    let i = nearer(list, i, x.ahead, f, x.south);
-    nearer(list, i, x.ahead, f, x.west)
+    let i = nearer(list, at, x.distance, f, x.north);
+    let i = nearer(list, i, x.distance, f, x.east);
+    let i = nearer(list, i, x.distance, f, x.south);
+    nearer(list, i, x.distance, f, x.west)
 }
 
 // 5. Distance.
-pub fn distance_at(list: &mut [i32], at: usize, f: usize, x: Around) -> usize
+pub fn distance_at(list: &mut [i32], at: usize, f: usize, x: CellNumbers) -> usize
     requires { ⌜ Writable at (joined (distanceParts f x)) ⌝ }
-    requires { ⌜ (0 < f) × (x .ahead < 16777217) ⌝ }
+    requires { ⌜ (0 < f) × (x .distance < 16777217) ⌝ }
     ensures { λ r. ⌜ Wrote (now (list .entry)) at (joined (distanceParts f x)) (now (list .exit)) r ⌝ }
 {
-    let i = any_of(list, at, x.black, x.ahead, f);
-    let i = each_not_both(list, i, x.black, x.ahead, f);
-    let i = implies(list, i, x.start, x.ahead);
-    let i = or_not(list, i, x.start, x.ahead);
-    let i = each_not_both(list, i, x.start, x.ahead + 1, f - 1);
+    let i = or_at_least_one(list, at, x.black, x.distance, f);
+    let i = each_not_both(list, i, x.black, x.distance, f);
+    let i = implies(list, i, x.start, x.distance);
+    let i = or_not(list, i, x.start, x.distance);
+    let i = each_not_both(list, i, x.start, x.distance + 1, f - 1);
     all_nearer(list, i, f, x)
 }

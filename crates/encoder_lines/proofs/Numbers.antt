@@ -12,12 +12,12 @@ use Rattle.rules.specs.Board.{Clue, Board}
 use Rattle.rules.proofs.Boards.{Laws}
 use Rattle.encoder.specs.Lists.{from, upTo, each, joined}
 use Rattle.encoder.specs.Variables.{Z, T, countsAt, number}
-use Rattle.encoder.specs.Clauses.{notBoth, pairs, past, cellParts, cellClauses, lineClauses, never, clueParts, clueClauses, written}
+use Rattle.encoder.specs.Clauses.{notBoth, pairs, countStep, cellParts, cellClauses, lineClauses, noneBlack, clueParts, clueClauses, written}
 use Rattle.encoder.proofs.Places.{At}
-use Rattle.encoder.proofs.Emitting.{each-next, each-shift, pairs-each, listOf, list-append, list-joined, list-each, list-map, number-t}
-use Rattle.encoder_shapes.specs.Shapes.{only, never as never#, notBoth as notPair, implies, impliesEither, bothImply, eachNever, eachNotBoth, pairsWith, eachPair}
+use Rattle.encoder.proofs.ClauseLists.{each-next, each-shift, pairs-each, listOf, list-append, list-joined, list-each, list-map, number-t}
+use Rattle.encoder_shapes.specs.Shapes.{unit, unitNot as unitNot#, notBoth as notPair, implies, impliesEither, bothImply, eachUnitNot, eachNotBoth, pairsWith, atMostOne}
 use Rattle.encoder_numbers.specs.Numbered.{blackOf}
-use Rattle.encoder_lines.specs.Line.{pastClue, pastBoth, pastBelow, pastOpen, pastRow, pastParts, pastEach, clueNumbers}
+use Rattle.encoder_lines.specs.Line.{countStepClue, countStepBoth, countStepBelow, countStepOpen, countStepRow, countStepParts, countStepEach, clueNumbers}
 
 -- a clue c of a board, cs the clues before it
 module _ (b : Board) (law : Laws b) (c : Clue) (cs : List Clue) (m : At (b .clues) c cs) where
@@ -54,43 +54,43 @@ module _ (b : Board) (law : Laws b) (c : Clue) (cs : List Clue) (m : At (b .clue
     there : (t : ℕ) → t ≤ n → t# (suc j) t ≡ next + t
     there t k = row-on (suc j) t h k ∙ ap (λ r. r + t) (row-next j h)
 
-    past-clue : listOf b (each (upTo (suc n)) (past false a n j x)) ≡ pastClue row next (n + 1)
-    past-clue =
-        list-each b (past false a n j x) (upTo (suc n))
-        ∙ each-shift (λ t. listOf b (past false a n j x t)) (λ t. implies (row + t) (next + t)) 0 0 (suc n) (λ t k. (λ i. implies (here (0 + t) (omega arith) i) (there (0 + t) (omega arith) i)))
+    count-step-clue : listOf b (each (upTo (suc n)) (countStep false a n j x)) ≡ countStepClue row next (n + 1)
+    count-step-clue =
+        list-each b (countStep false a n j x) (upTo (suc n))
+        ∙ each-shift (λ t. listOf b (countStep false a n j x t)) (λ t. implies (row + t) (next + t)) 0 0 (suc n) (λ t k. (λ i. implies (here (0 + t) (omega arith) i) (there (0 + t) (omega arith) i)))
         ∙ ap (λ k. each (upTo k) (λ t. implies (row + t) (next + t))) (sym (add-one n))
 
-    past-open : listOf b (each (upTo (suc n)) (past true a n j x)) ≡ joined (pastOpen row next (number b (Z x)) n)
-    past-open =
-        list-each b (past true a n j x) (upTo (suc n))
-        ∙ ap (λ k. each (upTo k) (λ t. listOf b (past true a n j x t))) (sym (add-one n))
-        ∙ each-next (λ t. listOf b (past true a n j x t)) 0 n
+    count-step-open : listOf b (each (upTo (suc n)) (countStep true a n j x)) ≡ joined (countStepOpen row next (number b (Z x)) n)
+    count-step-open =
+        list-each b (countStep true a n j x) (upTo (suc n))
+        ∙ ap (λ k. each (upTo k) (λ t. listOf b (countStep true a n j x t))) (sym (add-one n))
+        ∙ each-next (λ t. listOf b (countStep true a n j x t)) 0 n
         ∙ (λ i. below i ++ last i)
       where
-        below : each (upTo n) (λ t. listOf b (past true a n j x t)) ≡ pastBelow row next (number b (Z x)) n
-        below = each-shift (λ t. listOf b (past true a n j x t)) (λ t. joined (pastBoth (row + t) (number b (Z x)) (next + t))) 0 0 n one
+        below : each (upTo n) (λ t. listOf b (countStep true a n j x t)) ≡ countStepBelow row next (number b (Z x)) n
+        below = each-shift (λ t. listOf b (countStep true a n j x t)) (λ t. joined (countStepBoth (row + t) (number b (Z x)) (next + t))) 0 0 n one
           where
-            one : (t : ℕ) → t < n → listOf b (past true a n j x (0 + t)) ≡ joined (pastBoth (row + (0 + t)) (number b (Z x)) (next + (0 + t)))
+            one : (t : ℕ) → t < n → listOf b (countStep true a n j x (0 + t)) ≡ joined (countStepBoth (row + (0 + t)) (number b (Z x)) (next + (0 + t)))
             one t k =
                 rw (ne-eqb (0 + t) n (omega arith)) (λ i. impliesEither (here (0 + t) (omega arith) i) (number b (Z x)) (there (0 + t) (omega arith) i) ++ bothImply (here (0 + t) (omega arith) i) (number b (Z x)) (up i))
               where
                 up : t# (suc j) (suc (0 + t)) ≡ next + (0 + t) + 1
                 up = there (suc (0 + t)) (omega arith) ∙ omega arith
 
-        last : listOf b (past true a n j x (0 + n)) ≡ joined (impliesEither (row + n) (number b (Z x)) (next + n) ∷ notPair (row + n) (number b (Z x)) ∷ [])
+        last : listOf b (countStep true a n j x (0 + n)) ≡ joined (impliesEither (row + n) (number b (Z x)) (next + n) ∷ notPair (row + n) (number b (Z x)) ∷ [])
         last =
             let e : 0 + n ≡ n = omega arith in
             rw (e, eq-eqb n n refl) (λ i. impliesEither (here n (omega arith) i) (number b (Z x)) (there n (omega arith) i) ++ notPair (here n (omega arith) i) (number b (Z x)))
 
-    past-row : listOf b (each (upTo (suc n)) (past (b .isOpen x) a n j x)) ≡ pastRow (blackOf b x) row next n
-    past-row = by (b .isOpen x)
+    count-step-row : listOf b (each (upTo (suc n)) (countStep (b .isOpen x) a n j x)) ≡ countStepRow (blackOf b x) row next n
+    count-step-row = by (b .isOpen x)
       where
-        by : (o : Bool) → listOf b (each (upTo (suc n)) (past o a n j x)) ≡ pastRow (cond o (number b (Z x)) 0) row next n
-        by true = past-open
-        by false = past-clue
+        by : (o : Bool) → listOf b (each (upTo (suc n)) (countStep o a n j x)) ≡ countStepRow (cond o (number b (Z x)) 0) row next n
+        by true = count-step-open
+        by false = count-step-clue
 
     -- each pair of the next row
-    next-pairs : listOf b (pairs (countsAt a n (suc j))) ≡ eachPair next (n + 1)
+    next-pairs : listOf b (pairs (countsAt a n (suc j))) ≡ atMostOne next (n + 1)
     next-pairs =
         ap (listOf b) (pairs-each (λ t. T a (suc j) t) 0 (suc n))
         ∙ list-each b (λ t. map (λ u. notBoth (T a (suc j) t) (T a (suc j) u)) (from (suc t) (0 + suc n - suc t))) (upTo (suc n))
@@ -110,22 +110,22 @@ module _ (b : Board) (law : Laws b) (c : Clue) (cs : List Clue) (m : At (b .clue
                 second : t# (suc j) (suc (0 + t) + u) ≡ next + (0 + t) + 1 + (0 + u)
                 second = there (suc (0 + t) + u) (omega arith) ∙ omega arith
 
-    past-cell : listOf b (cellClauses (b .isOpen) a n j x) ≡ joined (pastParts row (blackOf b x) n)
-    past-cell = list-joined b (cellParts (b .isOpen) a n j x) ∙ (λ i. joined (past-row i ∷ next-pairs i ∷ []))
+    count-step-cell : listOf b (cellClauses (b .isOpen) a n j x) ≡ joined (countStepParts row (blackOf b x) n)
+    count-step-cell = list-joined b (cellParts (b .isOpen) a n j x) ∙ (λ i. joined (count-step-row i ∷ next-pairs i ∷ []))
 
   -- the cells of the line from the j-th on
-  past-line : (j : ℕ) (xs : List ℕ) → j + length xs ≤ length (c .line) → listOf b (lineClauses (b .isOpen) a n j xs) ≡ pastEach (t# j 0) n (map (blackOf b) xs)
+  past-line : (j : ℕ) (xs : List ℕ) → j + length xs ≤ length (c .line) → listOf b (lineClauses (b .isOpen) a n j xs) ≡ countStepEach (t# j 0) n (map (blackOf b) xs)
   past-line j [] h = refl
   past-line j (x ∷ xs) h =
       let l : suc j ≤ length (c .line) = omega arith in
       list-append b (cellClauses (b .isOpen) a n j x) (lineClauses (b .isOpen) a n (suc j) xs)
-      ∙ (λ i. past-cell j x l i ++ (past-line (suc j) xs (omega arith) ∙ ap (λ r. pastEach r n (map (blackOf b) xs)) (row-next j l)) i)
+      ∙ (λ i. count-step-cell j x l i ++ (past-line (suc j) xs (omega arith) ∙ ap (λ r. countStepEach r n (map (blackOf b) xs)) (row-next j l)) i)
 
   pub clue-list : listOf b (clueClauses (b .isOpen) c) ≡ joined (clueNumbers (t# 0 0) n (map (blackOf b) (c .line)))
-  clue-list = list-joined b (clueParts (b .isOpen) a n (c .line)) ∙ (λ i. joined (only (t# 0 0) ∷ nevers i ∷ past-line 0 (c .line) (omega arith) i ∷ only (last i) ∷ []))
+  clue-list = list-joined b (clueParts (b .isOpen) a n (c .line)) ∙ (λ i. joined (unit (t# 0 0) ∷ nevers i ∷ past-line 0 (c .line) (omega arith) i ∷ unit (last i) ∷ []))
     where
-      nevers : listOf b (map (never a) (from 1 n)) ≡ eachNever (t# 0 0 + 1) n
-      nevers = list-map b (never a) (from 1 n) ∙ each-shift (λ t. written b (never a t)) (λ k. never# (t# 0 0 + 1 + k)) 1 0 n (λ t k. let e : t# 0 0 + (1 + t) ≡ t# 0 0 + 1 + (0 + t) = omega arith in ap never# (row-on 0 (1 + t) (omega arith) (omega arith) ∙ e))
+      nevers : listOf b (map (noneBlack a) (from 1 n)) ≡ eachUnitNot (t# 0 0 + 1) n
+      nevers = list-map b (noneBlack a) (from 1 n) ∙ each-shift (λ t. written b (noneBlack a t)) (λ k. unitNot# (t# 0 0 + 1 + k)) 1 0 n (λ t k. let e : t# 0 0 + (1 + t) ≡ t# 0 0 + 1 + (0 + t) = omega arith in ap unitNot# (row-on 0 (1 + t) (omega arith) (omega arith) ∙ e))
 
       last : t# (length (c .line)) n ≡ t# 0 0 + length (map (blackOf b) (c .line)) * (n + 1) + n
       last =

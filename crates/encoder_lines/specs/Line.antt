@@ -8,42 +8,42 @@ use Rattle.rules.specs.declared.Grid.{Grid}
 use Rattle.rules.specs.Record.{Puzzle, puzzle}
 use Rattle.rules.specs.Board.{openAt, clueOf, gridBoard}
 use Rattle.encoder.specs.Lists.{upTo, each, joined}
-use Rattle.encoder.specs.Variables.{openCount, ways}
+use Rattle.encoder.specs.Variables.{openCount, linkVariables}
 use Rattle.encoder.specs.Clauses.{Clause, clueClauses}
 use Rattle.encoder_numbers.proofs.Numbers.{countsBelow}
-use Rattle.encoder_shapes.specs.Shapes.{only, notBoth, implies, impliesEither, bothImply, eachNever, eachPair}
+use Rattle.encoder_shapes.specs.Shapes.{unit, notBoth, implies, impliesEither, bothImply, eachUnitNot, atMostOne}
 
 -- past a clue: [−T(j,t) T(j+1,t)], m of them
-abbrev pub pastClue : ℕ → ℕ → ℕ → List ℤ
-pastClue row next m = each (upTo m) (λ t. implies (row + t) (next + t))
+abbrev pub countStepClue : ℕ → ℕ → ℕ → List ℤ
+countStepClue row next m = each (upTo m) (λ t. implies (row + t) (next + t))
 
 -- past an open cell: [−T(j,t) Zc T(j+1,t)] [−T(j,t) −Zc T(j+1,t+1)] for t below n, at last [−T(j,n) Zc T(j+1,n)] [−T(j,n) −Zc]
-abbrev pub pastBoth : ℕ → ℕ → ℕ → List (List ℤ)
-pastBoth a z b = impliesEither a z b ∷ bothImply a z (b + 1) ∷ []
+abbrev pub countStepBoth : ℕ → ℕ → ℕ → List (List ℤ)
+countStepBoth a z b = impliesEither a z b ∷ bothImply a z (b + 1) ∷ []
 
-abbrev pub pastBelow : ℕ → ℕ → ℕ → ℕ → List ℤ
-pastBelow row next z n = each (upTo n) (λ t. joined (pastBoth (row + t) z (next + t)))
+abbrev pub countStepBelow : ℕ → ℕ → ℕ → ℕ → List ℤ
+countStepBelow row next z n = each (upTo n) (λ t. joined (countStepBoth (row + t) z (next + t)))
 
-abbrev pub pastOpen : ℕ → ℕ → ℕ → ℕ → List (List ℤ)
-pastOpen row next z n = pastBelow row next z n ∷ impliesEither (row + n) z (next + n) ∷ notBoth (row + n) z ∷ []
+abbrev pub countStepOpen : ℕ → ℕ → ℕ → ℕ → List (List ℤ)
+countStepOpen row next z n = countStepBelow row next z n ∷ impliesEither (row + n) z (next + n) ∷ notBoth (row + n) z ∷ []
 
 -- past a cell: z is the number of its Z, 0 for a clue
-abbrev pub pastRow : ℕ → ℕ → ℕ → ℕ → List ℤ
-pastRow zero row next n = pastClue row next (n + 1)
-pastRow (suc z) row next n = joined (pastOpen row next (suc z) n)
+abbrev pub countStepRow : ℕ → ℕ → ℕ → ℕ → List ℤ
+countStepRow zero row next n = countStepClue row next (n + 1)
+countStepRow (suc z) row next n = joined (countStepOpen row next (suc z) n)
 
 -- then each pair of the next row
-abbrev pub pastParts : ℕ → ℕ → ℕ → List (List ℤ)
-pastParts row z n = pastRow z row (row + (n + 1)) n ∷ eachPair (row + (n + 1)) (n + 1) ∷ []
+abbrev pub countStepParts : ℕ → ℕ → ℕ → List (List ℤ)
+countStepParts row z n = countStepRow z row (row + (n + 1)) n ∷ atMostOne (row + (n + 1)) (n + 1) ∷ []
 
 -- the cells of a line
-abbrev pub pastEach : ℕ → ℕ → List ℕ → List ℤ
-pastEach row n [] = []
-pastEach row n (z ∷ zs) = joined (pastParts row z n) ++ pastEach (row + (n + 1)) n zs
+abbrev pub countStepEach : ℕ → ℕ → List ℕ → List ℤ
+countStepEach row n [] = []
+countStepEach row n (z ∷ zs) = joined (countStepParts row z n) ++ countStepEach (row + (n + 1)) n zs
 
 -- [T(0,0)]; [−T(0,t)] for t = 1 to n; the line; last [T(L,n)]
 abbrev pub clueNumbers : ℕ → ℕ → List ℕ → List (List ℤ)
-clueNumbers first n zs = only first ∷ eachNever (first + 1) n ∷ pastEach first n zs ∷ only (first + length zs * (n + 1) + n) ∷ []
+clueNumbers first n zs = unit first ∷ eachUnitNot (first + 1) n ∷ countStepEach first n zs ∷ unit (first + length zs * (n + 1) + n) ∷ []
 
 -- the clauses of the clue in cell x, if it is one
 abbrev pub clueAt : Puzzle → ℕ → List Clause
@@ -52,5 +52,5 @@ clueAt p x = each (clueOf p x (getD (p .cells) x Open)) (clueClauses (openAt (p 
 -- the number of the first T variable of the clues from cell x on
 abbrev pub firstCount : Grid → List ℕ → ℕ → ℕ
 firstCount g s x =
-    openCount (gridBoard g s) + openCount (gridBoard g s) + length (ways (gridBoard g s)) + openCount (gridBoard g s) * openCount (gridBoard g s)
+    openCount (gridBoard g s) + openCount (gridBoard g s) + length (linkVariables (gridBoard g s)) + openCount (gridBoard g s) * openCount (gridBoard g s)
     + countsBelow (puzzle g s) x + 1

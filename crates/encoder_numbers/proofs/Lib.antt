@@ -1,4 +1,4 @@
 -- Laws that the proofs of this crate and of those above share.
-pub mod Filling
+pub mod FilledTables
 pub mod Numbers
-pub mod Sides
+pub mod Neighbours

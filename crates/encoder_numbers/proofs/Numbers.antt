@@ -17,17 +17,17 @@ use Rattle.rules.specs.declared.Cell.the-variants.{Open, Clue as Clued}
 use Rattle.rules.specs.declared.CellByte.the-variants.{Is, NotAllowed}
 use Rattle.rules.specs.declared.Grid.{Grid}
 use Rattle.rules.specs.Directions.{bit}
-use Rattle.rules.specs.Record.{Puzzle, directionOf, isCell, cellOf, cellByte, size, puzzle, mostCells, Held}
+use Rattle.rules.specs.Record.{Puzzle, directionOf, isCell, cellOf, cellByte, size, puzzle, mostCells, RecordFits}
 use Rattle.rules.specs.Board.{Clue, Board, line, clueOf, cluesFrom, gridBoard}
 use Rattle.rules.proofs.Records.{cell-at, held-filled}
 use Rattle.encoder.specs.Lists.{upTo, each}
 use Rattle.encoder.specs.Variables.{directions, openCount, ifOpen, ifThere, neighbours, out, outgoing, clueCounts, counts, variableCount}
 use Rattle.encoder.proofs.Lists.{each-append, length-from, length-each-most, keep-most, map-most}
-use Rattle.encoder.proofs.Places.{below, rank, waysBelow, earlier, clue-long, total}
+use Rattle.encoder.proofs.Places.{below, rank, linksBelow, earlier, clue-long, total}
 use Rattle.encoder.proofs.Clues.{clues-next}
 use Rattle.encoder.proofs.Lines.{line-short}
 use Rattle.encoder.proofs.Bounds.{neighbours-most}
-use Rattle.encoder.proofs.Emitting.{atCell, each-cell, at-open, at-shut, rank-open, rank-shut}
+use Rattle.encoder.proofs.ClauseLists.{atCell, each-cell, at-open, at-shut, rank-open, rank-shut}
 
 -- 1. Open cells and links
 
@@ -78,14 +78,14 @@ module _ (b : Board) (x : ℕ) where
       by true h = rank-open b x h
       by false h = rank-shut b x h ∙ omega arith
 
-  pub ways-on : waysBelow b (x + 1) ≡ waysBelow b x + length (atCell b (outgoing b) x)
+  pub ways-on : linksBelow b (x + 1) ≡ linksBelow b x + length (atCell b (outgoing b) x)
   ways-on = ap length (each-cell b x (outgoing b)) ∙ length-append (each (below b x) (outgoing b)) (atCell b (outgoing b) x)
 
   pub rank-few : rank b x ≤ x
   rank-few = omega (arith, keep-most (b .isOpen) (upTo x), length-from 0 x)
 
-  pub ways-few : waysBelow b x ≤ x * 4
-  ways-few =
+  pub links-few : linksBelow b x ≤ x * 4
+  links-few =
       let h = length-each-most (outgoing b) 4 (below b x) (λ y m. map-most (out y) (neighbours b y directions) 4 (neighbours-most b y directions)) in
       omega (arith, rank-few)
 
@@ -122,7 +122,7 @@ number-few v {d} {n} e = by (eqb v 0) (leb 0x10 v && leb v 0x4F) e
     by false false e = let z : _≡_ {A = ℕ} 0 1 = cc in absurd (omega arith)
 
 -- no line is longer than there are cells
-pub line-few : {g : Grid} {s : List ℕ} {x : ℕ} → Held g s → x < size g → (d : Direction) → length (line (puzzle g s) d x) ≤ mostCells
+pub line-few : {g : Grid} {s : List ℕ} {x : ℕ} → RecordFits g s → x < size g → (d : Direction) → length (line (puzzle g s) d x) ≤ mostCells
 line-few {g} {s} {x} h l d =
     let w = h .sides in
     let m : g .rows * 1 ≤ g .rows * g .columns = mul-le-mul {n₂ = g .rows} (omega arith) (w .wide) in
@@ -130,7 +130,7 @@ line-few {g} {s} {x} h l d =
     omega arith
 
 -- the T variables of a cell
-pub counts-few : {g : Grid} {s : List ℕ} {x : ℕ} → Held g s → x < size g → countsOf (puzzle g s) x ≤ 2 ^ 20
+pub counts-few : {g : Grid} {s : List ℕ} {x : ℕ} → RecordFits g s → x < size g → countsOf (puzzle g s) x ≤ 2 ^ 20
 counts-few {g} {s} {x} h l = by (getD (puzzle g s .cells) x Open) refl
   where
     by : (c : Cell) → getD (puzzle g s .cells) x Open ≡ c → countsOf (puzzle g s) x ≤ 2 ^ 20
@@ -142,7 +142,7 @@ counts-few {g} {s} {x} h l = by (getD (puzzle g s .cells) x Open) refl
         omega arith
 
 -- and of all: whatever the grid, nothing that is counted overflows
-pub below-few : {g : Grid} {s : List ℕ} → Held g s → (x : ℕ) → x ≤ size g → countsBelow (puzzle g s) x ≤ x * 2 ^ 20
+pub below-few : {g : Grid} {s : List ℕ} → RecordFits g s → (x : ℕ) → x ≤ size g → countsBelow (puzzle g s) x ≤ x * 2 ^ 20
 below-few h zero l = omega arith
 below-few {g} {s} h (suc x) l =
     let f = held-filled h in
@@ -150,7 +150,7 @@ below-few {g} {s} h (suc x) l =
     let e : countsBelow (puzzle g s) (suc x) ≡ countsBelow (puzzle g s) x + countsOf (puzzle g s) x = ap (countsBelow (puzzle g s)) (sym (add-one x)) ∙ counts-on (puzzle g s) x (omega arith) in
     omega (arith, counts-few {x = x} h l)
 
-pub counts-are : {g : Grid} {s : List ℕ} → Held g s → countsBelow (puzzle g s) (size g) ≡ length (counts (gridBoard g s))
+pub counts-are : {g : Grid} {s : List ℕ} → RecordFits g s → countsBelow (puzzle g s) (size g) ≡ length (counts (gridBoard g s))
 counts-are {g} {s} h = let f = held-filled h in ap (λ cs. length (each (cluesFrom (puzzle g s) 0 cs) clueCounts)) (take-all (size g) (puzzle g s .cells) (omega arith))
 
 -- at the head of the loop that adds them up
@@ -161,7 +161,7 @@ pub record Totalling (p : Puzzle) (total x : ℕ) : Type 0 where
 pub total-start : {p : Puzzle} → Totalling p 0 0
 total-start = record { within = omega arith; is = refl }
 
-module _ {g : Grid} {s : List ℕ} {total x : ℕ} (h : Held g s) (p : Totalling (puzzle g s) total x) where
+module _ {g : Grid} {s : List ℕ} {total x : ℕ} (h : RecordFits g s) (p : Totalling (puzzle g s) total x) where
   pub total-on : {n : ℕ} → x < size g → n ≡ countsOf (puzzle g s) x → Totalling (puzzle g s) (total + n) (x + 1)
   total-on l e = let f = held-filled h in record { within = omega arith; is = (λ i. p .is i + e i) ∙ sym (counts-on (puzzle g s) x (omega arith)) }
 
@@ -170,10 +170,10 @@ module _ {g : Grid} {s : List ℕ} {total x : ℕ} (h : Held g s) (p : Totalling
 
 -- 3. V
 
-pub V-few : {g : Grid} {s : List ℕ} → Held g s → variableCount (gridBoard g s) < 2 ^ 60
+pub V-few : {g : Grid} {s : List ℕ} → RecordFits g s → variableCount (gridBoard g s) < 2 ^ 60
 V-few {g} {s} h =
     let b = gridBoard g s in
     let w = h .sides .few in
     let f : openCount b ≤ mostCells = omega (arith, rank-few b (size g)) in
     let q : openCount b * openCount b ≤ mostCells * mostCells = mul-le-mul f f in
-    omega (arith, total b, ways-few b (size g), below-few h (size g) (omega arith), counts-are h)
+    omega (arith, total b, links-few b (size g), below-few h (size g) (omega arith), counts-are h)

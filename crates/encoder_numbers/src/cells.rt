@@ -3,12 +3,12 @@ ghost use mathlib.Core.Path.{_≡_};
 ghost use Prim.Native.Nat.{_+_, _*_, _<_, _≤_};
 ghost use Rattle.rules.specs.Record.{size};
 ghost use Rattle.rules.specs.Board.{gridBoard};
-ghost use Rattle.encoder_numbers.specs.Numbered.{noSide, blackOf, sideOf, aroundOf};
-ghost use Rattle.encoder_numbers.specs.Tables.{RanksHeld, Tables, OpenCell};
-use super::Around;
-use super::Side;
+ghost use Rattle.encoder_numbers.specs.Numbered.{noNeighbour, blackOf, neighbourNumbersOf, cellNumbersOf};
+ghost use Rattle.encoder_numbers.specs.Tables.{RankTableFits, Tables, OpenCell};
+use super::CellNumbers;
+use super::NeighbourNumbers;
+use super::tables::link_place;
 use super::tables::open_bit;
-use super::tables::way_place;
 use answers::Place;
 use rules::Direction;
 use rules::Grid;
@@ -17,7 +17,7 @@ use rules::board::opposite;
 
 // The number of a cell's Z; 0 for a clue.
 pub fn black_number(g: Grid, record: &[u8], ranks: &[usize], x: usize) -> usize
-    requires { ⌜ RanksHeld g (now «record») (now ranks) ⌝ }
+    requires { ⌜ RankTableFits g (now «record») (now ranks) ⌝ }
     requires { ⌜ x < size g ⌝ }
     ensures { λ r. ⌜ r ≡ blackOf (gridBoard g (now («record» .entry))) x ⌝ }
 {
@@ -29,26 +29,26 @@ pub fn black_number(g: Grid, record: &[u8], ranks: &[usize], x: usize) -> usize
 }
 
 // The number of Q(x,0), with F, A and the rank of x: after Z, S and E come F for each cell of lower rank.
-fn ahead_number(f: usize, a: usize, rank: usize) -> usize
+fn distance_number(f: usize, a: usize, rank: usize) -> usize
     requires { ⌜ (f ≤ 576) × (a ≤ 2304) × (rank ≤ 576) ⌝ }
     ensures { λ r. ⌜ r ≡ f + f + a + rank * f + 1 ⌝ }
 {
     f + f + a + rank * f + 1
 }
 
-fn no_side() -> Side
-    ensures { λ r. ⌜ r ≡ noSide ⌝ }
+fn no_neighbour() -> NeighbourNumbers
+    ensures { λ r. ⌜ r ≡ noNeighbour ⌝ }
 {
-    Side {
+    NeighbourNumbers {
         out: 0,
         back: 0,
         black: 0,
-        ahead: 0,
+        distance: 0,
     }
 }
 
 // The neighbour of an open cell in a direction.
-fn side(
+fn neighbour_numbers(
     g: Grid,
     record: &[u8],
     f: usize,
@@ -57,33 +57,33 @@ fn side(
     firsts: &[usize],
     x: usize,
     d: Direction,
-) -> Side
+) -> NeighbourNumbers
     requires { ⌜ Tables g (now «record») f a (now ranks) (now firsts) ⌝ }
     requires { ⌜ OpenCell g (now «record») x ⌝ }
-    ensures { λ r. ⌜ r ≡ sideOf (gridBoard g (now («record» .entry))) x d ⌝ }
+    ensures { λ r. ⌜ r ≡ neighbourNumbersOf (gridBoard g (now («record» .entry))) x d ⌝ }
 {
     let p = neighbour(g, x, d);
     let Place::At(y) = p else {
-        return no_side();
+        return no_neighbour();
     };
     let black = black_number(g, record, ranks, y);
     if black == 0 {
-        return no_side();
+        return no_neighbour();
     }
-    let out = way_place(g, record, f, firsts, x, d);
+    let out = link_place(g, record, f, firsts, x, d);
     let opposed = opposite(d);
-    let back = way_place(g, record, f, firsts, y, opposed);
-    let ahead = ahead_number(f, a, ranks[y]);
-    Side {
+    let back = link_place(g, record, f, firsts, y, opposed);
+    let distance = distance_number(f, a, ranks[y]);
+    NeighbourNumbers {
         out: out + 1,
         back: back + 1,
         black,
-        ahead,
+        distance,
     }
 }
 
 // An open cell and its four sides.
-pub fn around(
+pub fn cell_numbers(
     g: Grid,
     record: &[u8],
     f: usize,
@@ -91,22 +91,22 @@ pub fn around(
     ranks: &[usize],
     firsts: &[usize],
     x: usize,
-) -> Around
+) -> CellNumbers
     requires { ⌜ Tables g (now «record») f a (now ranks) (now firsts) ⌝ }
     requires { ⌜ OpenCell g (now «record») x ⌝ }
-    ensures { λ r. ⌜ r ≡ aroundOf (gridBoard g (now («record» .entry))) x ⌝ }
+    ensures { λ r. ⌜ r ≡ cellNumbersOf (gridBoard g (now («record» .entry))) x ⌝ }
 {
     let rank = ranks[x];
-    let ahead = ahead_number(f, a, rank);
-    let north = side(g, record, f, a, ranks, firsts, x, Direction::North);
-    let east = side(g, record, f, a, ranks, firsts, x, Direction::East);
-    let south = side(g, record, f, a, ranks, firsts, x, Direction::South);
-    let west = side(g, record, f, a, ranks, firsts, x, Direction::West);
-    Around {
+    let distance = distance_number(f, a, rank);
+    let north = neighbour_numbers(g, record, f, a, ranks, firsts, x, Direction::North);
+    let east = neighbour_numbers(g, record, f, a, ranks, firsts, x, Direction::East);
+    let south = neighbour_numbers(g, record, f, a, ranks, firsts, x, Direction::South);
+    let west = neighbour_numbers(g, record, f, a, ranks, firsts, x, Direction::West);
+    CellNumbers {
         rank,
         black: rank + 1,
         start: f + rank + 1,
-        ahead,
+        distance,
         north,
         east,
         south,

@@ -1,24 +1,24 @@
 // The numbers of the variables: document 01's "Variables".
 // What the clauses of x say of its neighbour y in a direction; zeros where there is no open one.
-pub struct Side {
+pub struct NeighbourNumbers {
     // x→y, y→x, Zy and Q(y,0).
     pub out: usize,
     pub back: usize,
     pub black: usize,
-    pub ahead: usize,
+    pub distance: usize,
 }
 
 // An open cell x and its sides.
-pub struct Around {
+pub struct CellNumbers {
     // The rank of x, Zx, Sx and Q(x,0).
     pub rank: usize,
     pub black: usize,
     pub start: usize,
-    pub ahead: usize,
-    pub north: Side,
-    pub east: Side,
-    pub south: Side,
-    pub west: Side,
+    pub distance: usize,
+    pub north: NeighbourNumbers,
+    pub east: NeighbourNumbers,
+    pub south: NeighbourNumbers,
+    pub west: NeighbourNumbers,
 }
 
 pub mod tables; // how many variables a grid has, and the tables of ranks and first E variables

@@ -7,13 +7,13 @@ ghost use lib.ListN.{length, getD};
 ghost use Rattle.answers.specs.Lent.{filled};
 ghost use Rattle.rules.specs.declared.Cell.the-variants.{Open};
 ghost use Rattle.rules.specs.Directions.{bit};
-ghost use Rattle.rules.specs.Record.{size, puzzle, Held};
+ghost use Rattle.rules.specs.Record.{size, puzzle, RecordFits};
 ghost use Rattle.rules.specs.Board.{clueOf, gridBoard};
 ghost use Rattle.encoder.specs.Lists.{each};
-ghost use Rattle.encoder.specs.Variables.{openCount, neighbours, outgoing, ways, clueCounts, counts, variableCount};
+ghost use Rattle.encoder.specs.Variables.{openCount, neighbours, outgoing, linkVariables, clueCounts, counts, variableCount};
 ghost use Rattle.encoder.proofs.Places.{earlier};
-ghost use Rattle.encoder.proofs.Emitting.{atCell};
-ghost use Rattle.encoder_numbers.specs.Tables.{rankTable, wayTable, wayPlace, WaysHeld};
+ghost use Rattle.encoder.proofs.ClauseLists.{atCell};
+ghost use Rattle.encoder_numbers.specs.Tables.{rankTable, firstLinkTable, linkPlace, LinkTableFits};
 use answers::Place;
 use rules::Cell;
 use rules::Direction;
@@ -23,7 +23,7 @@ use rules::board::neighbour;
 
 // 1 for an open cell, 0 for a clue.
 pub fn open_bit(g: Grid, record: &[u8], x: usize) -> usize
-    requires { ⌜ Held g (now «record») ⌝ }
+    requires { ⌜ RecordFits g (now «record») ⌝ }
     requires { ⌜ x < size g ⌝ }
     ensures { λ r. ⌜ r ≡ bit (gridBoard g (now («record» .entry)) .isOpen x) ⌝ }
 {
@@ -36,7 +36,7 @@ pub fn open_bit(g: Grid, record: &[u8], x: usize) -> usize
 
 // 1 where the neighbour in that direction exists and is open, else 0.
 pub fn open_there(g: Grid, record: &[u8], x: usize, d: Direction) -> usize
-    requires { ⌜ Held g (now «record») ⌝ }
+    requires { ⌜ RecordFits g (now «record») ⌝ }
     requires { ⌜ x < size g ⌝ }
     ensures { λ r. ⌜ r ≡ length (neighbours (gridBoard g (now («record» .entry))) x (d ∷ [])) ⌝ }
 {
@@ -49,7 +49,7 @@ pub fn open_there(g: Grid, record: &[u8], x: usize, d: Direction) -> usize
 
 // The open neighbours in the directions before d.
 pub fn links_before(g: Grid, record: &[u8], x: usize, d: Direction) -> usize
-    requires { ⌜ Held g (now «record») ⌝ }
+    requires { ⌜ RecordFits g (now «record») ⌝ }
     requires { ⌜ x < size g ⌝ }
     ensures { λ r. ⌜ r ≡ length (neighbours (gridBoard g (now («record» .entry))) x (earlier d)) ⌝ }
 {
@@ -72,7 +72,7 @@ pub fn links_before(g: Grid, record: &[u8], x: usize, d: Direction) -> usize
 
 // The E variables of a cell: as many as an open one has open neighbours.
 pub fn links_at(g: Grid, record: &[u8], x: usize) -> usize
-    requires { ⌜ Held g (now «record») ⌝ }
+    requires { ⌜ RecordFits g (now «record») ⌝ }
     requires { ⌜ x < size g ⌝ }
     ensures { λ r. ⌜ r ≡ length (atCell (gridBoard g (now («record» .entry))) (outgoing (gridBoard g (now («record» .entry)))) x) ⌝ }
 {
@@ -87,7 +87,7 @@ pub fn links_at(g: Grid, record: &[u8], x: usize) -> usize
 
 // The T variables of a cell: (L + 1) times (n + 1) for a clue.
 pub fn counts_at(g: Grid, record: &[u8], x: usize) -> usize
-    requires { ⌜ Held g (now «record») ⌝ }
+    requires { ⌜ RecordFits g (now «record») ⌝ }
     requires { ⌜ x < size g ⌝ }
     ensures { λ r. ⌜ r ≡ length (each (clueOf (puzzle g (now («record» .entry))) x (getD (puzzle g (now («record» .entry)) .cells) x Open)) clueCounts) ⌝ }
 {
@@ -102,7 +102,7 @@ pub fn counts_at(g: Grid, record: &[u8], x: usize) -> usize
 
 // Writes for each cell the number of open cells before it, the rank of an open one; returns F.
 pub fn fill_ranks(g: Grid, record: &[u8], ranks: &mut [usize]) -> usize
-    requires { ⌜ Held g (now «record») ⌝ }
+    requires { ⌜ RecordFits g (now «record») ⌝ }
     requires { ⌜ size g ≤ length (now ranks) ⌝ }
     ensures { λ r. ⌜ r ≡ openCount (gridBoard g (now («record» .entry))) ⌝ }
     ensures { λ r. ⌜ now (ranks .exit) ≡ filled (now (ranks .entry)) (rankTable (gridBoard g (now («record» .entry)))) ⌝ }
@@ -120,11 +120,11 @@ pub fn fill_ranks(g: Grid, record: &[u8], ranks: &mut [usize]) -> usize
 }
 
 // Writes for each cell the number of E variables of the cells before it; returns A.
-pub fn fill_ways(g: Grid, record: &[u8], firsts: &mut [usize]) -> usize
-    requires { ⌜ Held g (now «record») ⌝ }
+pub fn fill_first_links(g: Grid, record: &[u8], firsts: &mut [usize]) -> usize
+    requires { ⌜ RecordFits g (now «record») ⌝ }
     requires { ⌜ size g ≤ length (now firsts) ⌝ }
-    ensures { λ r. ⌜ r ≡ length (ways (gridBoard g (now («record» .entry)))) ⌝ }
-    ensures { λ r. ⌜ now (firsts .exit) ≡ filled (now (firsts .entry)) (wayTable (gridBoard g (now («record» .entry)))) ⌝ }
+    ensures { λ r. ⌜ r ≡ length (linkVariables (gridBoard g (now («record» .entry)))) ⌝ }
+    ensures { λ r. ⌜ now (firsts .exit) ≡ filled (now (firsts .entry)) (firstLinkTable (gridBoard g (now («record» .entry)))) ⌝ }
 {
     let n = g.size();
     let mut links = 0;
@@ -140,7 +140,7 @@ pub fn fill_ways(g: Grid, record: &[u8], firsts: &mut [usize]) -> usize
 
 // The number of T variables.
 pub fn count_total(g: Grid, record: &[u8]) -> usize
-    requires { ⌜ Held g (now «record») ⌝ }
+    requires { ⌜ RecordFits g (now «record») ⌝ }
     ensures { λ r. ⌜ r ≡ length (counts (gridBoard g (now («record» .entry)))) ⌝ }
 {
     let n = g.size();
@@ -156,9 +156,9 @@ pub fn count_total(g: Grid, record: &[u8]) -> usize
 
 // V, from F and A: 2F + A + F times F + the T variables.
 pub fn variable_count(g: Grid, record: &[u8], open: usize, links: usize) -> usize
-    requires { ⌜ Held g (now «record») ⌝ }
+    requires { ⌜ RecordFits g (now «record») ⌝ }
     requires { ⌜ «open» ≡ openCount (gridBoard g (now «record»)) ⌝ }
-    requires { ⌜ links ≡ length (ways (gridBoard g (now «record»))) ⌝ }
+    requires { ⌜ links ≡ length (linkVariables (gridBoard g (now «record»))) ⌝ }
     ensures { λ r. ⌜ r ≡ variableCount (gridBoard g (now («record» .entry))) ⌝ }
 {
     let counts = count_total(g, record);
@@ -166,7 +166,7 @@ pub fn variable_count(g: Grid, record: &[u8], open: usize, links: usize) -> usiz
 }
 
 // The place of E(x,d) among the variables, where there is one.
-pub fn way_place(
+pub fn link_place(
     g: Grid,
     record: &[u8],
     open: usize,
@@ -174,9 +174,9 @@ pub fn way_place(
     x: usize,
     d: Direction,
 ) -> usize
-    requires { ⌜ WaysHeld g (now «record») «open» (now firsts) ⌝ }
+    requires { ⌜ LinkTableFits g (now «record») «open» (now firsts) ⌝ }
     requires { ⌜ x < size g ⌝ }
-    ensures { λ r. ⌜ r ≡ wayPlace (gridBoard g (now («record» .entry))) x d ⌝ }
+    ensures { λ r. ⌜ r ≡ linkPlace (gridBoard g (now («record» .entry))) x d ⌝ }
 {
     let before = links_before(g, record, x, d);
     open + open + firsts[x] + before

@@ -1,2 +1,2 @@
 -- Laws of writing clauses, part by part and turn by turn.
-pub mod Writing
+pub mod Written

@@ -13,11 +13,11 @@ abbrev pub closed : List ℤ → List ℤ
 closed ls = ls ++ (pos 0 ∷ [])
 
 -- [a], [−a], [−a −b], [−a b], [a −b], [−a b c], [−a −b c]
-abbrev pub only : ℕ → List ℤ
-only a = closed (pos a ∷ [])
+abbrev pub unit : ℕ → List ℤ
+unit a = closed (pos a ∷ [])
 
-abbrev pub never : ℕ → List ℤ
-never a = closed (no a ∷ [])
+abbrev pub unitNot : ℕ → List ℤ
+unitNot a = closed (no a ∷ [])
 
 abbrev pub notBoth : ℕ → ℕ → List ℤ
 notBoth a b = closed (no a ∷ no b ∷ [])
@@ -39,15 +39,15 @@ abbrev pub literals : ℕ → ℕ → List ℤ
 literals first n = each (upTo n) (λ k. pos (first + k) ∷ [])
 
 -- [those], [a, those]
-abbrev pub allOf : ℕ → ℕ → List ℤ
-allOf first n = closed (literals first n)
+abbrev pub atLeastOne : ℕ → ℕ → List ℤ
+atLeastOne first n = closed (literals first n)
 
-abbrev pub anyOf : ℕ → ℕ → ℕ → List ℤ
-anyOf a first n = pos a ∷ allOf first n
+abbrev pub orAtLeastOne : ℕ → ℕ → ℕ → List ℤ
+orAtLeastOne a first n = pos a ∷ atLeastOne first n
 
 -- a run of n clauses: [−b], [−a −b], [−a b], with b from the first on
-abbrev pub eachNever : ℕ → ℕ → List ℤ
-eachNever first n = each (upTo n) (λ k. never (first + k))
+abbrev pub eachUnitNot : ℕ → ℕ → List ℤ
+eachUnitNot first n = each (upTo n) (λ k. unitNot (first + k))
 
 abbrev pub eachNotBoth : ℕ → ℕ → ℕ → List ℤ
 eachNotBoth a first n = each (upTo n) (λ k. notBoth a (first + k))
@@ -63,5 +63,5 @@ eachBothImply a b c n = each (upTo n) (λ k. bothImply a (b + k) (c + k))
 abbrev pub pairsWith : ℕ → ℕ → ℕ → List ℤ
 pairsWith first n k = eachNotBoth (first + k) (first + k + 1) (n - (k + 1))
 
-abbrev pub eachPair : ℕ → ℕ → List ℤ
-eachPair first n = each (upTo n) (pairsWith first n)
+abbrev pub atMostOne : ℕ → ℕ → List ℤ
+atMostOne first n = each (upTo n) (pairsWith first n)

@@ -3,23 +3,23 @@
 ghost use Prim.Native.Nat.{_+_, _<_, _^_};
 ghost use Rattle.answers.specs.Lent.{Wrote};
 ghost use Rattle.encoder_shapes.specs.Writable.{Writable};
-ghost use Rattle.encoder_shapes.specs.Shapes.{only, never, notBoth, implies, orNot, impliesEither, bothImply, literals, allOf, anyOf, eachNever, eachNotBoth, eachImplies, eachBothImply, eachPair};
+ghost use Rattle.encoder_shapes.specs.Shapes.{unit, unitNot, notBoth, implies, orNot, impliesEither, bothImply, literals, atLeastOne, orAtLeastOne, eachUnitNot, eachNotBoth, eachImplies, eachBothImply, atMostOne};
 use cnf::put;
 use cnf::put_not;
 
 // [a]
-pub fn only(list: &mut [i32], at: usize, a: usize) -> usize
-    requires { ⌜ Writable at (only a) ⌝ }
-    ensures { λ r. ⌜ Wrote (now (list .entry)) at (only a) (now (list .exit)) r ⌝ }
+pub fn unit(list: &mut [i32], at: usize, a: usize) -> usize
+    requires { ⌜ Writable at (unit a) ⌝ }
+    ensures { λ r. ⌜ Wrote (now (list .entry)) at (unit a) (now (list .exit)) r ⌝ }
 {
     let i = put(list, at, a);
     put(list, i, 0)
 }
 
 // [−a]
-pub fn never(list: &mut [i32], at: usize, a: usize) -> usize
-    requires { ⌜ Writable at (never a) ⌝ }
-    ensures { λ r. ⌜ Wrote (now (list .entry)) at (never a) (now (list .exit)) r ⌝ }
+pub fn unit_not(list: &mut [i32], at: usize, a: usize) -> usize
+    requires { ⌜ Writable at (unitNot a) ⌝ }
+    ensures { λ r. ⌜ Wrote (now (list .entry)) at (unitNot a) (now (list .exit)) r ⌝ }
 {
     let i = put_not(list, at, a);
     put(list, i, 0)
@@ -92,32 +92,32 @@ fn literals(list: &mut [i32], at: usize, first: usize, n: usize) -> usize
 }
 
 // [the n numbers from the first on]
-pub fn all_of(list: &mut [i32], at: usize, first: usize, n: usize) -> usize
-    requires { ⌜ Writable at (allOf first n) ⌝ }
-    ensures { λ r. ⌜ Wrote (now (list .entry)) at (allOf first n) (now (list .exit)) r ⌝ }
+pub fn at_least_one(list: &mut [i32], at: usize, first: usize, n: usize) -> usize
+    requires { ⌜ Writable at (atLeastOne first n) ⌝ }
+    ensures { λ r. ⌜ Wrote (now (list .entry)) at (atLeastOne first n) (now (list .exit)) r ⌝ }
 {
     let i = literals(list, at, first, n);
     put(list, i, 0)
 }
 
 // [a, the n numbers from the first on]
-pub fn any_of(list: &mut [i32], at: usize, a: usize, first: usize, n: usize) -> usize
-    requires { ⌜ Writable at (anyOf a first n) ⌝ }
-    ensures { λ r. ⌜ Wrote (now (list .entry)) at (anyOf a first n) (now (list .exit)) r ⌝ }
+pub fn or_at_least_one(list: &mut [i32], at: usize, a: usize, first: usize, n: usize) -> usize
+    requires { ⌜ Writable at (orAtLeastOne a first n) ⌝ }
+    ensures { λ r. ⌜ Wrote (now (list .entry)) at (orAtLeastOne a first n) (now (list .exit)) r ⌝ }
 {
     let i = put(list, at, a);
-    all_of(list, i, first, n)
+    at_least_one(list, i, first, n)
 }
 
 // [−b], for the n numbers b from the first on.
-pub fn each_never(list: &mut [i32], at: usize, first: usize, n: usize) -> usize
-    requires { ⌜ Writable at (eachNever first n) ⌝ }
-    ensures { λ r. ⌜ Wrote (now (list .entry)) at (eachNever first n) (now (list .exit)) r ⌝ }
+pub fn each_unit_not(list: &mut [i32], at: usize, first: usize, n: usize) -> usize
+    requires { ⌜ Writable at (eachUnitNot first n) ⌝ }
+    ensures { λ r. ⌜ Wrote (now (list .entry)) at (eachUnitNot first n) (now (list .exit)) r ⌝ }
 {
     let mut i = at;
     let mut k = 0;
     while k < n {
-        i = never(list, i, first + k);
+        i = unit_not(list, i, first + k);
         k += 1;
     }
     i
@@ -166,10 +166,10 @@ pub fn each_both_imply(list: &mut [i32], at: usize, a: usize, b: usize, c: usize
 }
 
 // [−a −b], for each pair of the n numbers from the first on.
-pub fn each_pair(list: &mut [i32], at: usize, first: usize, n: usize) -> usize
-    requires { ⌜ Writable at (eachPair first n) ⌝ }
+pub fn at_most_one(list: &mut [i32], at: usize, first: usize, n: usize) -> usize
+    requires { ⌜ Writable at (atMostOne first n) ⌝ }
     requires { ⌜ first + n < 2 ^ 64 ⌝ }
-    ensures { λ r. ⌜ Wrote (now (list .entry)) at (eachPair first n) (now (list .exit)) r ⌝ }
+    ensures { λ r. ⌜ Wrote (now (list .entry)) at (atMostOne first n) (now (list .exit)) r ⌝ }
 {
     let mut i = at;
     let mut k = 0;

@@ -5,13 +5,13 @@ use lib.ListN.{length, length-append}
 use mathlib.Core.Path.{_≡_, refl, sym, _∙_, ap, subst}
 use mathlib.Core.List.{List, [], _∷_, _++_}
 use Rattle.rules.specs.declared.Grid.{Grid}
-use Rattle.rules.specs.Record.{size, puzzle, Held}
+use Rattle.rules.specs.Record.{size, puzzle, RecordFits}
 use Rattle.rules.specs.Board.{Board, gridBoard}
 use Rattle.encoder.specs.Lists.{upTo, each, keep}
 use Rattle.encoder.specs.Variables.{openCount, variableCount}
 use Rattle.encoder.specs.Clauses.{Clause, touchingAt, linksAt, startAt, distanceAt, someStart, start, touching, clueLines, links, distance, clauses, written, clauseList}
 use Rattle.encoder.proofs.Lists.{each-append}
-use Rattle.encoder.proofs.Emitting.{each-next, atCell, below-each}
+use Rattle.encoder.proofs.ClauseLists.{each-next, atCell, below-each}
 use Rattle.encoder.proofs.Counts.{Sized, sized-none, sized-append, some-start-sized}
 use Rattle.encoder_lines.specs.Line.{clueAt}
 use Rattle.encoder_lines.proofs.Family.{lines-cells}
@@ -27,7 +27,7 @@ module _ (many : List Clause → ℕ) (none : many [] ≡ 0) (adds : (cs ds : Li
       let i = both F G xs in
       omega (arith, adds (F x ++ G x) (each xs (λ x. F x ++ G x)), adds (F x) (G x), adds (F x) (each xs F), adds (G x) (each xs G))
 
-  regrouped : {g : Grid} {s : List ℕ} → Held g s → many (clauses (gridBoard g s)) ≡ many (each (upTo (size g)) (cellFamilies g s)) + many (someStart (gridBoard g s) ∷ [])
+  regrouped : {g : Grid} {s : List ℕ} → RecordFits g s → many (clauses (gridBoard g s)) ≡ many (each (upTo (size g)) (cellFamilies g s)) + many (someStart (gridBoard g s) ∷ [])
   unfolding clauses
   regrouped {g} {s} h =
       let b = gridBoard g s in
@@ -75,7 +75,7 @@ pub record Adding (g : Grid) (s : List ℕ) (n e x : ℕ) : Type 0 where
 pub adding-start : {g : Grid} {s : List ℕ} {f : ℕ} → f ≡ openCount (gridBoard g s) → Adding g s 1 (f + 1) 0
 adding-start {g} {s} q = record { within = omega arith; clauses = 0; elements = 0; sized = sized-none (gridBoard g s); few = omega arith; short = omega arith; all = refl; long = omega arith }
 
-module _ {g : Grid} {s : List ℕ} {n e x : ℕ} (h : Held g s) (p : Adding g s n e x) where
+module _ {g : Grid} {s : List ℕ} {n e x : ℕ} (h : RecordFits g s) (p : Adding g s n e x) where
   pub adding-few : (n ≤ x * 2 ^ 40 + 1) × (e ≤ x * 2 ^ 40 + (openCount (gridBoard g s) + 1))
   adding-few = let i = p .few in let j = p .short in let k = p .all in let l = p .long in (omega arith, omega arith)
 

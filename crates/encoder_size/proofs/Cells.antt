@@ -14,24 +14,24 @@ use Rattle.rules.specs.declared.Direction.the-variants.{East as east, South as 
 use Rattle.rules.specs.declared.Cell.{Cell}
 use Rattle.rules.specs.declared.Cell.the-variants.{Open, Clue as Clued}
 use Rattle.rules.specs.declared.Grid.{Grid}
-use Rattle.rules.specs.Record.{size, puzzle, mostCells, Held}
+use Rattle.rules.specs.Record.{size, puzzle, mostCells, RecordFits}
 use Rattle.rules.specs.Board.{Board, Clue, openCell, line, clueOf, gridBoard}
 use Rattle.encoder.specs.Lists.{each, joined}
 use Rattle.encoder.specs.Variables.{directions, openCount, neighbours}
 use Rattle.encoder.specs.Clauses.{Clause, eastSouth, fromOne, touchingAt, clueParts, clueClauses, linksAt, lower, startAt, distanceAt}
 use Rattle.encoder.proofs.Places.{rank, earlier}
 use Rattle.encoder.proofs.Bounds.{neighbours-most}
-use Rattle.encoder.proofs.Emitting.{atCell, at-open, at-shut, lower-is}
+use Rattle.encoder.proofs.ClauseLists.{atCell, at-open, at-shut, lower-is}
 use Rattle.encoder.proofs.Counts.{pairCount, Sized, sized-none, sized-append, sized-is, around, after, touching-sized, clue-sized, links-sized, start-sized, distance-sized, from-one}
 use Rattle.judge_cells.proofs.Checks.{is-opened}
 use Rattle.encoder_numbers.proofs.Numbers.{line-few, rank-few, links-sum}
-use Rattle.encoder_numbers.proofs.Sides.{some-open}
+use Rattle.encoder_numbers.proofs.Neighbours.{some-open}
 use Rattle.encoder_lines.specs.Line.{clueAt}
 use Rattle.encoder_size.specs.declared.Amount.{Amount}
 use Rattle.encoder_size.specs.Counts.{openAmount, clueAmount, cellFamilies, Amounts}
 use Rattle.encoder_size.proofs.Lines.{pairs-most, line-sized}
 
-module _ {g : Grid} {s : List ℕ} {x : ℕ} (h : Held g s) (inside : x < size g) where
+module _ {g : Grid} {s : List ℕ} {x : ℕ} (h : RecordFits g s) (inside : x < size g) where
   abbrev b : Board
   b = gridBoard g s
 

@@ -7,7 +7,7 @@ use Rattle.rules.specs.Record.{puzzle}
 use Rattle.rules.specs.Board.{Board, gridBoard}
 use Rattle.encoder.specs.Variables.{variableCount}
 use Rattle.encoder.specs.Clauses.{Clause, touchingAt, linksAt, startAt, distanceAt, clauses, clauseList}
-use Rattle.encoder.proofs.Emitting.{atCell}
+use Rattle.encoder.proofs.ClauseLists.{atCell}
 use Rattle.encoder.proofs.Counts.{pairCount, Sized}
 use Rattle.encoder_lines.specs.Line.{clueAt}
 use Rattle.encoder_size.specs.declared.Amount.{Amount}

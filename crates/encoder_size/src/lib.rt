@@ -4,16 +4,16 @@ ghost use Prim.Native.Nat.{_*_, _≤_, _<_, _^_};
 ghost use lib.ListN.{length, getD};
 ghost use Rattle.answers.specs.Lists.{howMany};
 ghost use Rattle.rules.specs.declared.Cell.the-variants.{Open, Clue};
-ghost use Rattle.rules.specs.Record.{size, puzzle, Held};
+ghost use Rattle.rules.specs.Record.{size, puzzle, RecordFits};
 ghost use Rattle.rules.specs.Board.{line, gridBoard};
 ghost use Rattle.encoder.specs.Variables.{openCount};
 ghost use Rattle.encoder.specs.Clauses.{clauses};
 ghost use Rattle.encoder.proofs.Counts.{pairCount, Sized};
 ghost use Rattle.encoder.proofs.Places.{rank};
-ghost use Rattle.encoder_numbers.specs.Tables.{RanksHeld};
+ghost use Rattle.encoder_numbers.specs.Tables.{RankTableFits};
 ghost use Rattle.encoder_size.specs.Counts.{countsOf, amountOf, openAmount, clueAmount, cellFamilies, Amounts};
+use encoder_numbers::tables::fill_first_links;
 use encoder_numbers::tables::fill_ranks;
-use encoder_numbers::tables::fill_ways;
 use encoder_numbers::tables::links_before;
 use encoder_numbers::tables::open_bit;
 use encoder_numbers::tables::open_there;
@@ -71,14 +71,14 @@ fn of_lengths(ones: usize, twos: usize, threes: usize, more: usize) -> Amount
 }
 
 // An open cell, with F, its rank, its open neighbours, those to the east and south, and that to the east.
-fn open_amount(f: usize, lower: usize, around: usize, after: usize, east: usize) -> Amount
+fn open_amount(f: usize, lower: usize, neighbours: usize, after: usize, east: usize) -> Amount
     requires { ⌜ (0 < f) × (f ≤ 576) × (lower ≤ 576) ⌝ }
-    requires { ⌜ (around ≤ 4) × (after ≤ 2) × (east ≤ 1) ⌝ }
-    ensures { λ r. ⌜ r ≡ openAmount f lower around after east ⌝ }
+    requires { ⌜ (neighbours ≤ 4) × (after ≤ 2) × (east ≤ 1) ⌝ }
+    ensures { λ r. ⌜ r ≡ openAmount f lower neighbours after east ⌝ }
 {
-    let pairs = pair_count(around);
-    let twos = (after + around + pairs + f + 1) * 2 + lower;
-    of_lengths(4, twos, times(around, f - 1), around * 2 + east + f)
+    let pairs = pair_count(neighbours);
+    let twos = (after + neighbours + pairs + f + 1) * 2 + lower;
+    of_lengths(4, twos, times(neighbours, f - 1), neighbours * 2 + east + f)
 }
 
 // A clue with number n, with the open cells and the clues on its line.
@@ -93,7 +93,7 @@ fn clue_amount(n: usize, opens: usize, clues: usize) -> Amount
 
 // The open cells on the line that leaves x in direction d.
 fn open_on_line(g: Grid, record: &[u8], x: usize, d: Direction) -> usize
-    requires { ⌜ Held g (now «record») ⌝ }
+    requires { ⌜ RecordFits g (now «record») ⌝ }
     requires { ⌜ x < size g ⌝ }
     ensures { λ r. ⌜ r ≡ howMany (gridBoard g (now («record» .entry)) .isOpen) (line (puzzle g (now («record» .entry))) d x) ⌝ }
 {
@@ -114,7 +114,7 @@ fn open_on_line(g: Grid, record: &[u8], x: usize, d: Direction) -> usize
 
 // The clauses of an open cell.
 fn at_open(g: Grid, record: &[u8], f: usize, lower: usize, x: usize) -> Amount
-    requires { ⌜ Held g (now «record») ⌝ }
+    requires { ⌜ RecordFits g (now «record») ⌝ }
     requires { ⌜ (x < size g) × (getD (puzzle g (now «record») .cells) x Open ≡ Open) ⌝ }
     requires { ⌜ (f ≡ openCount (gridBoard g (now «record»))) × (lower ≡ rank (gridBoard g (now «record»)) x) ⌝ }
     ensures { λ r. ⌜ Amounts (gridBoard g (now («record» .entry))) (cellFamilies g (now («record» .entry)) x) r ⌝ }
@@ -128,7 +128,7 @@ fn at_open(g: Grid, record: &[u8], f: usize, lower: usize, x: usize) -> Amount
 
 // The clauses of a clue.
 fn at_clue(g: Grid, record: &[u8], x: usize, d: Direction, n: usize) -> Amount
-    requires { ⌜ Held g (now «record») ⌝ }
+    requires { ⌜ RecordFits g (now «record») ⌝ }
     requires { ⌜ (x < size g) × (n < 256) × (getD (puzzle g (now «record») .cells) x Open ≡ Clue d n) ⌝ }
     ensures { λ r. ⌜ Amounts (gridBoard g (now («record» .entry))) (cellFamilies g (now («record» .entry)) x) r ⌝ }
 {
@@ -140,7 +140,7 @@ fn at_clue(g: Grid, record: &[u8], x: usize, d: Direction, n: usize) -> Amount
 
 // The clauses of a cell.
 fn at_cell(g: Grid, record: &[u8], f: usize, lower: usize, x: usize) -> Amount
-    requires { ⌜ Held g (now «record») ⌝ }
+    requires { ⌜ RecordFits g (now «record») ⌝ }
     requires { ⌜ x < size g ⌝ }
     requires { ⌜ (f ≡ openCount (gridBoard g (now «record»))) × (lower ≡ rank (gridBoard g (now «record»)) x) ⌝ }
     ensures { λ r. ⌜ Amounts (gridBoard g (now («record» .entry))) (cellFamilies g (now («record» .entry)) x) r ⌝ }
@@ -154,7 +154,7 @@ fn at_cell(g: Grid, record: &[u8], f: usize, lower: usize, x: usize) -> Amount
 
 // All clauses: those of the cells, and [all S].
 fn all_clauses(g: Grid, record: &[u8], f: usize, ranks: &[usize]) -> Amount
-    requires { ⌜ RanksHeld g (now «record») (now ranks) ⌝ }
+    requires { ⌜ RankTableFits g (now «record») (now ranks) ⌝ }
     requires { ⌜ f ≡ openCount (gridBoard g (now «record»)) ⌝ }
     ensures { λ r. ⌜ Sized (gridBoard g (now («record» .entry))) (clauses (gridBoard g (now («record» .entry)))) (r .clauses) (r .elements) ⌝ }
 {
@@ -173,13 +173,13 @@ fn all_clauses(g: Grid, record: &[u8], f: usize, ranks: &[usize]) -> Amount
 
 // The elements of a grid's clause list, V, and the number of its clauses.
 pub fn count(g: Grid, record: &[u8]) -> Counts
-    requires { ⌜ Held g (now «record») ⌝ }
+    requires { ⌜ RecordFits g (now «record») ⌝ }
     ensures { λ r. ⌜ r ≡ countsOf (gridBoard g (now («record» .entry))) ⌝ }
 {
     let mut ranks = [0usize; MOST_CELLS];
     let mut firsts = [0usize; MOST_CELLS];
     let open = fill_ranks(g, record, &mut ranks);
-    let links = fill_ways(g, record, &mut firsts);
+    let links = fill_first_links(g, record, &mut firsts);
     let variables = variable_count(g, record, open, links);
     let all = all_clauses(g, record, open, &ranks);
     let elements = all.elements;

@@ -15,7 +15,7 @@ use Rattle.answers.proofs.Lists.{many-all}
 use Rattle.rules.specs.Drawing.{blacksNearest}
 use Rattle.encoder.specs.Lists.{from, upTo, joined}
 use Rattle.encoder.specs.Variables.{Variable, Z, T, countsAt}
-use Rattle.encoder.specs.Clauses.{plus, minus, pairs, oneMore, past, cellParts, cellClauses, lineClauses, never, clueParts}
+use Rattle.encoder.specs.Clauses.{plus, minus, pairs, oneMore, countStep, cellParts, cellClauses, lineClauses, noneBlack, clueParts}
 use Rattle.encoder.proofs.Lists.{all-append, all-left, all-right, all-each, each-at, all-map, map-at, all-joined, joined-all, in-from, of-from, in-upTo, of-upTo}
 use Rattle.encoder.proofs.Distinct.{t-count, counts-apart}
 use Rattle.encoder_theory.specs.Valuations.{Sat, Holds}
@@ -54,7 +54,7 @@ module _ (w : Variable → Bool) (isOpen : ℕ → Bool) (a n : ℕ) where
   -- 1. From the clauses to the rows
 
   -- past one cell
-  past-to : (j k c : ℕ) (o : Bool) → Row j k → Holds w (past o a n j c k) → (tally (o && w (Z c)) k ≤ n) × (w (T a (suc j) (tally (o && w (Z c)) k)) ≡ true)
+  past-to : (j k c : ℕ) (o : Bool) → Row j k → Holds w (countStep o a n j c k) → (tally (o && w (Z c)) k ≤ n) × (w (T a (suc j) (tally (o && w (Z c)) k)) ≡ true)
   past-to j k c false r h = (r .bound, implies w (T a j k) (T a (suc j) k) (h .0) (holds-at r))
   past-to j k c true r h = by (w (Z c)) refl
     where
@@ -73,7 +73,7 @@ module _ (w : Variable → Bool) (isOpen : ℕ → Bool) (a n : ℕ) where
   step j k c r h =
       let (ts, (us, e)) = joined-all (Sat w) (cellParts isOpen a n j c) h in
       let l : k ≤ n = r .bound in
-      let s = past-to j k c (isOpen c) r (each-at (Sat w) (past (isOpen c) a n j c) ts (in-upTo (suc n) k (omega arith))) in
+      let s = past-to j k c (isOpen c) r (each-at (Sat w) (countStep (isOpen c) a n j c) ts (in-upTo (suc n) k (omega arith))) in
       row-of (suc j) (tally (black c) k) (s .0) (s .1) us
 
   -- after i cells more
@@ -84,12 +84,12 @@ module _ (w : Variable → Bool) (isOpen : ℕ → Bool) (a n : ℕ) where
       moved (omega arith) (tally-add (black c) k (blacksNearest black cs i))
       (rows (suc j) (tally (black c) k) cs (step j k c r (all-left (Sat w) (cellClauses isOpen a n j c) (lineClauses isOpen a n (suc j) cs) h)) (all-right (Sat w) (cellClauses isOpen a n j c) (lineClauses isOpen a n (suc j) cs) h) i (omega arith))
 
-  first-row : w (T a 0 0) ≡ true → Holds w (map (never a) (from 1 n)) → Row 0 0
+  first-row : w (T a 0 0) ≡ true → Holds w (map (noneBlack a) (from 1 n)) → Row 0 0
   first-row p h = record { bound = omega arith; only = by }
     where
       by : (t : ℕ) → t ≤ n → w (T a 0 t) ≡ eqb 0 t
       by zero l = p
-      by (suc t) l = unit-minus w (T a 0 (suc t)) (map-at (Sat w) (never a) h (in-from 1 n (suc t) (omega arith) (omega arith))) ∙ sym (ne-eqb 0 (suc t) (omega arith))
+      by (suc t) l = unit-minus w (T a 0 (suc t)) (map-at (Sat w) (noneBlack a) h (in-from 1 n (suc t) (omega arith) (omega arith))) ∙ sym (ne-eqb 0 (suc t) (omega arith))
 
   -- what T means: of the j cells of the line nearest the edge, t are black
   abbrev pub Counts : List ℕ → Type 0
@@ -112,7 +112,7 @@ module _ (w : Variable → Bool) (isOpen : ℕ → Bool) (a n : ℕ) where
 
   -- 2. From the rows to the clauses
 
-  past-of : (j k c t : ℕ) (o : Bool) → t ≤ n → Row j k → Row (suc j) (tally (o && w (Z c)) k) → Holds w (past o a n j c t)
+  past-of : (j k c t : ℕ) (o : Bool) → t ≤ n → Row j k → Row (suc j) (tally (o && w (Z c)) k) → Holds w (countStep o a n j c t)
   past-of j k c t false l r s = (by-minus w (T a j t) (plus (T a (suc j) t) ∷ []) (λ p. inl (s .only t l ∙ sym (r .only t l) ∙ p)), tt)
   past-of j k c t true l r s = (by-minus w (T a j t) (plus (Z c) ∷ plus (T a (suc j) t) ∷ []) (λ p. by-plus w (Z c) (plus (T a (suc j) t) ∷ []) (λ z. inl (white p z))), (full (eqb t n) refl, tt))
     where
@@ -145,7 +145,7 @@ module _ (w : Variable → Bool) (isOpen : ℕ → Bool) (a n : ℕ) where
   line-of j k (c ∷ cs) f =
       all-append (Sat w) (cellClauses isOpen a n j c) (lineClauses isOpen a n (suc j) cs)
       (all-joined (Sat w) (cellParts isOpen a n j c) (
-        all-each (Sat w) (past (isOpen c) a n j c) (upTo (suc n)) (λ t m. let l = of-upTo (suc n) m in past-of j k c t (isOpen c) (omega arith) this next),
+        all-each (Sat w) (countStep (isOpen c) a n j c) (upTo (suc n)) (λ t m. let l = of-upTo (suc n) m in past-of j k c t (isOpen c) (omega arith) this next),
         (pairs-of (suc j) (tally (black c) k) next, tt),
       ))
       (line-of (suc j) (tally (black c) k) cs (λ i l. moved (omega arith) (sym (tally-add (black c) k (blacksNearest black cs i))) (f (suc i) (omega arith))))
@@ -172,7 +172,7 @@ module _ (w : Variable → Bool) (isOpen : ℕ → Bool) (a n : ℕ) where
       all-joined (Sat w) (clueParts isOpen a n cs) (
         (inl (h 0 0 (omega arith) (omega arith)), tt),
         (
-          all-map (Sat w) (never a) (from 1 n) (λ t m. let r = of-from 1 n m in inl (h 0 t (omega arith) (omega arith) ∙ ne-eqb 0 t (omega arith))),
+          all-map (Sat w) (noneBlack a) (from 1 n) (λ t m. let r = of-from 1 n m in inl (h 0 t (omega arith) (omega arith) ∙ ne-eqb 0 t (omega arith))),
           (
             line-of 0 0 cs (λ i l. moved {i = i} {k = blacksNearest black cs i} (omega arith) (omega arith) (record { bound = (let p = part-of cs i in omega arith); only = λ t k. h i t l k })),
             ((inl (h (length cs) n (omega arith) (omega arith) ∙ eq-eqb _ _ (many-all black cs refl ∙ e)), tt), tt),

@@ -21,7 +21,7 @@ use Rattle.encoder.specs.Lists.{upTo}
 use Rattle.encoder.specs.Variables.{Variable, Z, S, E, Q, directions, opens, openCount, Neighbour, neighbours, out, outgoing, distancesAt}
 use Rattle.encoder.specs.Clauses.{plus, minus, eastSouth, touch, touchingAt, clueClauses, back, incoming, bothWhite, oneWay, linkParts, linksAt, lower, blackBefore, startParts, startAt, noDistance, notAhead, nearer, fromOne, nearerEach, distanceParts, distanceAt, families, clauses}
 use Rattle.encoder.proofs.Lists.{all-each, all-map, all-at, all-joined, in-upTo, of-from, of-keep}
-use Rattle.encoder.proofs.Neighbours.{of-opens, in-opens, in-directions, Beside, of-neighbours, in-neighbours, ways-apart}
+use Rattle.encoder.proofs.Neighbours.{of-opens, in-opens, in-directions, Beside, of-neighbours, in-neighbours, links-apart}
 use Rattle.encoder.proofs.Distinct.{e-way, outgoing-apart}
 use Rattle.encoder_theory.specs.Valuations.{Sat, Holds}
 use Rattle.encoder_theory.proofs.Views.{by-minus, by-plus, both-not, plus-some, one-at-most}
@@ -29,7 +29,7 @@ use Rattle.encoder_theory.proofs.Oriented.{Sent}
 use Rattle.encoder_theory.proofs.ClueLine.{black, clue-of}
 use Rattle.encoder_theory.proofs.Read.{white-of, of-white}
 use Rattle.encoder_theory.proofs.Sound.{open-black}
-use Rattle.encoder_theory.proofs.Told.{line-is, first, leads, told, told-sent, told-white}
+use Rattle.encoder_theory.proofs.DrawnValues.{line-is, first, leads, told, told-sent, told-white}
 
 module _ (b : Board) (law : Laws b) (D : Drawing) (sol : Solution b D) where
   abbrev w : Variable → Bool
@@ -97,7 +97,7 @@ module _ (b : Board) (law : Laws b) (D : Drawing) (sol : Solution b D) where
               (
                 (by-plus w (Z x) (map plus (incoming b x)) way-in, tt),
                 (
-                  one-at-most w (incoming b x) (ways-apart b x back (λ y z e. opposite-injective (y .way) (z .way) (e-way (y .cell) (z .cell) (opposite (y .way)) (opposite (z .way)) e))) in-one,
+                  one-at-most w (incoming b x) (links-apart b x back (λ y z e. opposite-injective (y .way) (z .way) (e-way (y .cell) (z .cell) (opposite (y .way)) (opposite (z .way)) e))) in-one,
                   (all-map (Sat w) (oneWay x) (neighbours b x eastSouth) (λ y n. both-not w (out x y) (back y) (flow .oriented .one-way x (y .way) (y .cell) (beside eastSouth y n .leads))), tt),
                 ),
               ),
@@ -171,7 +171,7 @@ module _ (b : Board) (law : Laws b) (D : Drawing) (sol : Solution b D) where
                 (by-plus w (S x) (minus (Q x 0) ∷ []) (λ p. by-minus w (Q x 0) [] (λ q. clash (eq-eqb x s (flow .counted .ends x q)) p)), tt),
               ),
               (
-                all-map (Sat w) (notAhead x) (fromOne b) (λ k n. both-not w (S x) (Q x k) (never k (of-from 1 (openCount b - 1) n .0))),
+                all-map (Sat w) (notAhead x) (fromOne b) (λ k n. both-not w (S x) (Q x k) (noneBlack k (of-from 1 (openCount b - 1) n .0))),
                 (
                   all-each (Sat w) (nearerEach b x) (neighbours b x directions) (λ y i. all-map (Sat w) (nearer x y) (fromOne b) (λ k n.
                       by-minus w (out x y) (minus (Q x k) ∷ plus (Q (y .cell) (k - 1)) ∷ []) (λ p. by-minus w (Q x k) (plus (Q (y .cell) (k - 1)) ∷ []) (λ q. inl (falls y i k (of-from 1 (openCount b - 1) n .0) p q))))),
@@ -185,9 +185,9 @@ module _ (b : Board) (law : Laws b) (D : Drawing) (sol : Solution b D) where
         has : w (Z x) ≡ false → Sat w (map plus (distancesAt b x))
         has z = let (k, l, q) = flow .counted .has x inside (lit z) in plus-some w (Q x k) (Memᴰ·map (λ k. Q x k) (in-upTo (openCount b) k l)) q
 
-        never : (k : ℕ) → 1 ≤ k → w (S x) ≡ true → w (Q x k) ≡ true → ⊥
-        never zero l p q = omega arith
-        never (suc k) l p q = flow .counted .never k (ap (λ z. w (Q z (suc k))) (sym (here p)) ∙ q)
+        noneBlack : (k : ℕ) → 1 ≤ k → w (S x) ≡ true → w (Q x k) ≡ true → ⊥
+        noneBlack zero l p q = omega arith
+        noneBlack (suc k) l p q = flow .counted .noneBlack k (ap (λ z. w (Q z (suc k))) (sym (here p)) ∙ q)
 
         falls : (y : Neighbour) → y ∈ neighbours b x directions → (k : ℕ) → 1 ≤ k → w (out x y) ≡ true → w (Q x k) ≡ true → w (Q (y .cell) (k - 1)) ≡ true
         falls y i zero h p q = absurd (omega arith)

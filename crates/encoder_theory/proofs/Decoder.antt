@@ -7,11 +7,11 @@ use mathlib.Core.Path.{_≡_, sym, _∙_, ap, fun-ext}
 use mathlib.Core.Bool.{Bool, false, not}
 use mathlib.Core.Option.{none}
 use mathlib.Core.List.{List, [], _∷_, _++_}
-use Rattle.answers.specs.declared.Told.{Told}
-use Rattle.answers.specs.Told.{Row, row, cause, turnedDown}
-use Rattle.answers.specs.Lent.{leaves}
+use Rattle.answers.specs.declared.Outcome.{Outcome}
+use Rattle.answers.specs.Outcome.{Row, row, cause, firstRefusal}
+use Rattle.answers.specs.Lent.{unlessRefused}
 use Rattle.answers.proofs.First.{none-first}
-use Rattle.answers.proofs.Rows.{turned-append, clear-answered}
+use Rattle.answers.proofs.Rows.{refusals-append, clear-answered}
 use Rattle.rules.specs.Directions.{bit}
 use Rattle.rules.specs.Record.{recordRows, IsAccepted}
 use Rattle.rules.specs.Board.{Board, boardOf}
@@ -47,10 +47,10 @@ module _ (s : List ℕ) (acc : IsAccepted s) (a : List Bool) (e : Assignment (va
     room-right = ap (λ t. cause (not t)) (eq-eqb _ _ long)
 
     -- none of its rows but the judge's
-    judges : decoderAnswer s (bytesOf a) lent ≡ turnedDown (judgeRows b (decoded b (bytesOf a))) saysYes
+    judges : decoderAnswer s (bytesOf a) lent ≡ firstRefusal (judgeRows b (decoded b (bytesOf a))) saysYes
     judges =
-        turned-append (recordRows s) (own ++ rest) saysYes ∙ clear-answered (recordRows s) _ (accepted-clear s acc)
-        ∙ turned-append own rest saysYes ∙ clear-answered own _ (values-right, (room-right, (value-right, tt)))
+        refusals-append (recordRows s) (own ++ rest) saysYes ∙ clear-answered (recordRows s) _ (accepted-clear s acc)
+        ∙ refusals-append own rest saysYes ∙ clear-answered own _ (values-right, (room-right, (value-right, tt)))
       where
         own : List Row
         own = row 8 (wrongValues b (bytesOf a)) ∷ row 7 (wrongDrawing b lent) ∷ row 9 (wrongValue (bytesOf a)) ∷ []
@@ -58,19 +58,19 @@ module _ (s : List ℕ) (acc : IsAccepted s) (a : List Bool) (e : Assignment (va
         rest : List Row
         rest = judgeRows b (decoded b (bytesOf a))
 
-    yes-leaves : decoderAnswer s (bytesOf a) lent ≡ saysYes → decoderLeaves s (bytesOf a) lent ≡ drawn b (valuation b a)
-    yes-leaves y = ap (λ (t : Told). leaves t lent (decoded b (bytesOf a))) y ∙ decoded-is b a
+    yes-unless : decoderAnswer s (bytesOf a) lent ≡ saysYes → decoderLeaves s (bytesOf a) lent ≡ drawn b (valuation b a)
+    yes-unless y = ap (λ (t : Outcome). unlessRefused t lent (decoded b (bytesOf a))) y ∙ decoded-is b a
 
   -- the judge says yes of a solution, and the decoder hands it out
   pub decodes : SolutionBytes (boardOf s) (drawn (boardOf s) (valuation (boardOf s) a)) → DecodesTo s a (drawn (boardOf s) (valuation (boardOf s) a))
-  decodes S = record { says = says; hands = λ lent long. yes-leaves lent long (says lent long) }
+  decodes S = record { says = says; hands = λ lent long. yes-unless lent long (says lent long) }
     where
       says : (lent : List ℕ) → length lent ≡ b .size → decoderAnswer s (bytesOf a) lent ≡ saysYes
-      says lent long = judges lent long ∙ ap (λ ds. turnedDown (judgeRows b ds) saysYes) (decoded-is b a) ∙ judge-right-on (accepted-laws s acc) (drawn b (valuation b a)) .1 S
+      says lent long = judges lent long ∙ ap (λ ds. firstRefusal (judgeRows b ds) saysYes) (decoded-is b a) ∙ judge-right-on (accepted-laws s acc) (drawn b (valuation b a)) .1 S
 
   -- what it hands out is what the assignment draws: lend it N zeros
   pub handed : {ds : List ℕ} → DecodesTo s a ds → drawn (boardOf s) (valuation (boardOf s) a) ≡ ds
-  handed h = sym (yes-leaves zeros long (h .says zeros long)) ∙ h .hands zeros long
+  handed h = sym (yes-unless zeros long (h .says zeros long)) ∙ h .hands zeros long
     where
       zeros : List ℕ
       zeros = replicate (b .size) 0

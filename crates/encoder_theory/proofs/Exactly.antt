@@ -22,7 +22,7 @@ use Rattle.encoder_theory.proofs.Valuations.{satisfies, valuation-of, s
 use Rattle.encoder_theory.proofs.Oriented.{linkOf}
 use Rattle.encoder_theory.proofs.Read.{of-white}
 use Rattle.encoder_theory.proofs.Sound.{drawingOf, counted, sound}
-use Rattle.encoder_theory.proofs.Told.{told, told-sent, told-drawn, settled}
+use Rattle.encoder_theory.proofs.DrawnValues.{told, told-sent, told-drawn, settled}
 use Rattle.encoder_theory.proofs.Complete.{complete}
 use Rattle.encoder_theory.proofs.Bytes.{bytesFor, drawing-shown, solution-bytes, bytes-back}
 

@@ -22,7 +22,7 @@ pub record Flow (go : Direction → ℕ → ℕ) (link : ℕ → Direction → B
 -- Q x k: the start s is k steps ahead of x
 pub record Distance (go : Direction → ℕ → ℕ) (goes : ℕ → Direction → Bool) (s : ℕ) (Q : ℕ → ℕ → Type 0) : Type 0 where
   pub ends : (x : ℕ) → Q x 0 → x ≡ s
-  pub never : (k : ℕ) → Q s (suc k) → ⊥
+  pub noneBlack : (k : ℕ) → Q s (suc k) → ⊥
   pub falls : (x : ℕ) (d : Direction) (k : ℕ) → goes x d ≡ true → Q x (suc k) → Q (go d x) k
 
 module _ {size : ℕ} {go : Direction → ℕ → ℕ} {link : ℕ → Direction → Bool} {other : ℕ → Direction → Direction} (R : Ring size go link other)
@@ -30,11 +30,11 @@ module _ {size : ℕ} {go : Direction → ℕ → ℕ} {link : ℕ → Direction
   abbrev at : ℕ → State
   at k = walk go other u k
 
-  module _ {goes : ℕ → Direction → Bool} (G : Flow go link goes) (leaves : goes (u .cell) (u .way) ≡ true) where
+  module _ {goes : ℕ → Direction → Bool} (G : Flow go link goes) (unlessRefused : goes (u .cell) (u .way) ≡ true) where
     -- the flow goes with the walk
     pub flow-walks : (k : ℕ) → goes (walk go other u k .cell) (walk go other u k .way) ≡ true
     unfolding walk
-    flow-walks zero = leaves
+    flow-walks zero = unlessRefused
     flow-walks (suc k) = by (flow-walks k) (G .either _ _ (walk-good R u good (suc k)))
       where
         j : ℕ
@@ -66,5 +66,5 @@ module _ {size : ℕ} {go : Direction → ℕ → ℕ} {link : ℕ → Direction
       distance-is (suc k) a h q = by (distance-is k (suc a)) (ℕ-discrete (suc a) m)
         where
           by : (suc a < m → Q (at (suc (suc a)) .cell) k → k + suc (suc a) ≡ m) → Dec (suc a ≡ m) → suc k + suc a ≡ m
-          by go-on (yes e) = absurd (D .never k (rw (ap (λ (z : State). z .cell) (ap at e ∙ W .closed)) at q))
+          by go-on (yes e) = absurd (D .noneBlack k (rw (ap (λ (z : State). z .cell) (ap at e ∙ W .closed)) at q))
           by go-on (no e) = let i : k + suc (suc a) ≡ m = go-on (omega arith) (D .falls _ _ k (flow-walks (suc a)) q) in omega arith

@@ -8,7 +8,7 @@ pub mod ClueLine
 pub mod Valuations
 pub mod Read
 pub mod Sound
-pub mod Told
+pub mod DrawnValues
 pub mod Complete
 pub mod Bytes
 pub mod Exactly

@@ -31,7 +31,7 @@ pub record Counted (size : ℕ) (next : Direction → ℕ → Option ℕ) (white
   pub has : (x : ℕ) → x < size → white x ≡ true → (k : ℕ) × (k < bound) × Q x k
   pub begins : Q s 0
   pub ends : (x : ℕ) → Q x 0 → x ≡ s
-  pub never : (k : ℕ) → Q s (suc k) → ⊥
+  pub noneBlack : (k : ℕ) → Q s (suc k) → ⊥
   pub falls : (x : ℕ) (d : Direction) (y k : ℕ) → goes x d ≡ true → next d x ≡ some y → Q x (suc k) → Q y k
 
 -- the loop leaves s eastward
@@ -131,4 +131,4 @@ module _ {size : ℕ} {next : Direction → ℕ → Option ℕ} {white : ℕ →
         by x d (inr w) = inr (rw (go-is next d x (w .0) (w .1)) (w .2))
 
     pub distance : {s bound : ℕ} {Q : ℕ → ℕ → Type 0} → Counted size next white goes s bound Q → Distance (go next) goes s Q
-    distance N = record { ends = N .ends; never = N .never; falls = λ x d k g q. N .falls x d (go next d x) k g (far B L x d (drawn x d ∙ link-out next goes x d g)) q }
+    distance N = record { ends = N .ends; noneBlack = N .noneBlack; falls = λ x d k g q. N .falls x d (go next d x) k g (far B L x d (drawn x d ∙ link-out next goes x d g)) q }

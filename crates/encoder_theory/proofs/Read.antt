@@ -175,7 +175,7 @@ module _ (b : Board) (law : Laws b) (w : Variable → Bool) (proper : Proper b w
 
   -- 5. Distance
   counted : (s : ℕ) → w (S s) ≡ true → Counted (b .size) (b .next) bright goes s (openCount b) (λ x k. w (Q x k) ≡ true)
-  counted s h = record { has = has; begins = implies w (S s) (Q s 0) (distance-at s (proper (S s) h) .1 .1 .0 .0) h; ends = ends; never = never; falls = falls }
+  counted s h = record { has = has; begins = implies w (S s) (Q s 0) (distance-at s (proper (S s) h) .1 .1 .0 .0) h; ends = ends; noneBlack = noneBlack; falls = falls }
     where
       has : (x : ℕ) → x < b .size → bright x ≡ true → (k : ℕ) × (k < openCount b) × (w (Q x k) ≡ true)
       has x l e =
@@ -195,8 +195,8 @@ module _ (b : Board) (law : Laws b) (w : Variable → Bool) (proper : Proper b w
       in-one : (x k : ℕ) → w (Q x (suc k)) ≡ true → suc k ∈ fromOne b
       in-one x k q = let l = proper (Q x (suc k)) q .1 in in-from 1 (openCount b - 1) (suc k) (omega arith) (omega arith)
 
-      never : (k : ℕ) → w (Q s (suc k)) ≡ true → ⊥
-      never k q = not-both w (S s) (Q s (suc k)) (map-at (Sat w) (notAhead s) (distance-at s (proper (S s) h) .1 .1 .1 .0) (in-one s k q)) h q
+      noneBlack : (k : ℕ) → w (Q s (suc k)) ≡ true → ⊥
+      noneBlack k q = not-both w (S s) (Q s (suc k)) (map-at (Sat w) (notAhead s) (distance-at s (proper (S s) h) .1 .1 .1 .0) (in-one s k q)) h q
 
       falls : (x : ℕ) (d : Direction) (y k : ℕ) → goes x d ≡ true → b .next d x ≡ some y → w (Q x (suc k)) ≡ true → w (Q y k) ≡ true
       falls x d y k g e q =

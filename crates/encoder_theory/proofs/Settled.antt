@@ -225,7 +225,7 @@ module _ {size : ℕ} {next : Direction → ℕ → Option ℕ} {white : ℕ →
   -- and the steps before it are counts
   walk-counted : (bound : ℕ) → steps ≤ bound → Counted size next white (goesOf next link s steps) s bound (λ x k. aheadOf next link s steps x k ≡ true)
   unfolding walk
-  walk-counted bound fits = record { has = has; begins = begins; ends = ends; never = never; falls = falls }
+  walk-counted bound fits = record { has = has; begins = begins; ends = ends; noneBlack = noneBlack; falls = falls }
     where
       has : (x : ℕ) → x < size → white x ≡ true → (k : ℕ) × (k < bound) × (ahead x k ≡ true)
       has x h w = let v = from-one x h w in let l = v .1 in (steps - suc (v .0), omega arith, ahead-at (v .0) x _ (v .1) (v .2) (omega arith))
@@ -240,8 +240,8 @@ module _ {size : ℕ} {next : Direction → ℕ → Option ℕ} {white : ℕ →
       ends : (x : ℕ) → ahead x 0 ≡ true → x ≡ s
       ends x h = let v = ahead-from x 0 h in let e = v .3 in let q : suc (v .0) ≡ steps = omega arith in sym (v .2) ∙ ap (λ (k : ℕ). at k .cell) q ∙ at-home
 
-      never : (k : ℕ) → ahead s (suc k) ≡ true → ⊥
-      never k h = let v = ahead-from s (suc k) h in let e = v .3 in W .fresh 0 (suc (v .0)) (omega arith) (omega arith) (sym (v .2))
+      noneBlack : (k : ℕ) → ahead s (suc k) ≡ true → ⊥
+      noneBlack k h = let v = ahead-from s (suc k) h in let e = v .3 in W .fresh 0 (suc (v .0)) (omega arith) (omega arith) (sym (v .2))
 
       falls : (x : ℕ) (d : Direction) (y k : ℕ) → runs x d ≡ true → next d x ≡ some y → ahead x (suc k) ≡ true → ahead y k ≡ true
       falls x d y k g p h =

@@ -17,7 +17,7 @@ use Rattle.rules.specs.Record.{Puzzle, puzzle, sides, size, IsAccepted}
 use Rattle.rules.specs.Board.{Board, line, board, boardOf}
 use Rattle.rules.specs.Drawing.{blacksNearest, blackAt, SolutionBytes}
 use Rattle.rules.proofs.Boards.{Laws, Filled}
-use Rattle.rules.proofs.Records.{held-filled, accepted-held, accepted-laws}
+use Rattle.rules.proofs.Records.{held-filled, accepted-fits, accepted-laws}
 use Rattle.cnf.specs.Literals.{mostVariables, tooManyVariables, wrongList}
 use Rattle.cnf.specs.Clauses.{clauseCount}
 use Rattle.encoder.specs.Variables.{T, variableCount}
@@ -57,20 +57,20 @@ comes-from-only-one s acc ds a c h d k e =
     exactly.the-only (boardOf s) law ds S a (h .gives) (h .satisfies) p ∙ sym (exactly.the-only (boardOf s) law ds S c (k .gives) (k .satisfies) (handed s acc c (k .gives) e))
 
 -- 3. V is at most 16,777,216 and the list gets no 16 for that V: search and writer never turn a grid's clauses down. First of any small board ..
-pub never-turned-down-on : {b : Board} → Laws b → Small b → (variableCount b ≤ mostVariables) × (tooManyVariables (variableCount b) ≡ false) × (wrongList (variableCount b) (clauseList b) ≡ none)
-never-turned-down-on {b} law small = let h = bounds.few-variables small in (h, le-ltb mostVariables (variableCount b) h, bounds.list-right b law)
+pub never-refused-on : {b : Board} → Laws b → Small b → (variableCount b ≤ mostVariables) × (tooManyVariables (variableCount b) ≡ false) × (wrongList (variableCount b) (clauseList b) ≡ none)
+never-refused-on {b} law small = let h = bounds.few-variables small in (h, le-ltb mostVariables (variableCount b) h, bounds.list-right b law)
 
 -- .. as is that of each grid with sides to 45 and numbers to 44 ..
 pub small-board : (p : Puzzle) → p .grid .rows ≤ 45 → p .grid .columns ≤ 45 → Filled p → All (λ c. sizes.numberOf c ≤ 44) (p .cells) → Small (board p)
 small-board = sizes.small-board
 
 -- .. and so of an accepted record.
-pub never-turned-down : (s : List ℕ) → IsAccepted s → (variableCount (boardOf s) ≤ mostVariables) × (tooManyVariables (variableCount (boardOf s)) ≡ false) × (wrongList (variableCount (boardOf s)) (clauseList (boardOf s)) ≡ none)
-never-turned-down s acc = never-turned-down-on (accepted-laws s acc) (sizes.accepted-small s acc)
+pub never-refused : (s : List ℕ) → IsAccepted s → (variableCount (boardOf s) ≤ mostVariables) × (tooManyVariables (variableCount (boardOf s)) ≡ false) × (wrongList (variableCount (boardOf s)) (clauseList (boardOf s)) ≡ none)
+never-refused s acc = never-refused-on (accepted-laws s acc) (sizes.accepted-small s acc)
 
 -- The number of clauses that the encoder tells is the number of those that its list has.
-pub clauses-told : (b : Board) → clauseCount (clauseList b) ≡ length (clauses b)
-clauses-told = bounds.count-clauses
+pub clauses-outcome : (b : Board) → clauseCount (clauseList b) ≡ length (clauses b)
+clauses-outcome = bounds.count-clauses
 
 -- 4. T and the judge's count of a line, side by side (document 02, E3). Of an assignment that satisfies the clauses and the drawing that it decodes to, and a clue
 -- in cell x with its direction and number: T(j,t) holds exactly if the judge, counting its line from the edge, has t black cells after j cells.
@@ -80,7 +80,7 @@ pub side-by-side : (s : List ℕ) → IsAccepted s → (a : List Bool) → Satis
 side-by-side s acc a h ds dec x d n inside is j t l k = (λ p. eqb-true _ t (sym e ∙ p), λ p. e ∙ eq-eqb _ t p)
   where
     clue : record { cell = x; number = n; line = line (puzzle (sides s) s) d x } ∈ boardOf s .clues
-    clue = let f = held-filled (accepted-held s acc) in clue-in (puzzle (sides s) s) x (omega arith) is
+    clue = let f = held-filled (accepted-fits s acc) in clue-in (puzzle (sides s) s) x (omega arith) is
 
     e : valuation (boardOf s) a (T x j t) ≡ eqb (blacksNearest (blackAt ds) (line (puzzle (sides s) s) d x) j) t
     e = exactly.draws-counts (boardOf s) (accepted-laws s acc) a (h .gives) (h .satisfies) _ clue j t l k ∙ ap (λ ds. eqb (blacksNearest (blackAt ds) (line (puzzle (sides s) s) d x) j) t) (handed s acc a (h .gives) dec)

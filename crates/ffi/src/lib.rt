@@ -1,13 +1,13 @@
 // The library as a C program sees it. Every function returns 0 if the call was answered, else the refusal's number, and writes all four
 // words of `answer`: on a refusal the value beside it and three zeros, else what the call answers, filled up with zeros.
 ghost use mathlib.Core.Path.{_≡_};
-ghost use Rattle.answers.specs.Told.{words};
+ghost use Rattle.answers.specs.Outcome.{words};
 ghost use Rattle.rules.specs.Judge.{judgeAnswer};
 ghost use Rattle.dimacs.specs.Calls.{writerAnswer, writerLeaves, readerAnswer, readerLeaves};
 ghost use Rattle.encoder.specs.Encoding.{encoderAnswer, encoderLeaves};
 ghost use Rattle.encoder.specs.Decoding.{decoderAnswer, decoderLeaves};
 ghost use Rattle.search.specs.Run.{searchAnswer, trailAfter, marksAfter};
-ghost use Rattle.search.specs.Following.{nextAnswer, nextTrail, nextMarks};
+ghost use Rattle.search.specs.NextCall.{nextAnswer, nextTrail, nextMarks};
 
 // Is the drawing a solution of the record's grid? Answered: yes, four zeros.
 #[no_mangle]
@@ -16,7 +16,7 @@ pub extern "C" fn yajilin_judge(record: &[u8], drawing: &[u8], answer: &mut [u64
     ensures { λ r. ⌜ now (answer .exit) ≡ words (judgeAnswer (now («record» .entry)) (now (drawing .entry))) ⌝ }
 {
     let verdict = judge::judge(record, drawing);
-    verdict.told().write(answer)
+    verdict.outcome().write(answer)
 }
 
 // The DIMACS text of V and a clause list. Answered: the count of bytes written.
@@ -32,7 +32,7 @@ pub extern "C" fn yajilin_write(
     ensures { λ r. ⌜ now (text .exit) ≡ writerLeaves variables (now (list .entry)) (now (text .entry)) ⌝ }
 {
     let written = dimacs_writer::write(variables as usize, list, text);
-    written.told().write(answer)
+    written.outcome().write(answer)
 }
 
 // The clause list of a DIMACS text. Answered: the count of elements written, V, the number of clauses.
@@ -43,7 +43,7 @@ pub extern "C" fn yajilin_read(text: &[u8], list: &mut [i32], answer: &mut [u64;
     ensures { λ r. ⌜ now (list .exit) ≡ readerLeaves (now (text .entry)) (now (list .entry)) ⌝ }
 {
     let reading = dimacs_reader::read(text, list);
-    reading.told().write(answer)
+    reading.outcome().write(answer)
 }
 
 // The clauses of the record's grid. Answered: the count of elements written, V, the number of clauses.
@@ -54,7 +54,7 @@ pub extern "C" fn yajilin_encode(record: &[u8], list: &mut [i32], answer: &mut [
     ensures { λ r. ⌜ now (list .exit) ≡ encoderLeaves (now («record» .entry)) (now (list .entry)) ⌝ }
 {
     let encoded = encoder_call::encode(record, list);
-    encoded.told().write(answer)
+    encoded.outcome().write(answer)
 }
 
 // Draws the values of a grid's variables. Answered: the drawing is a solution and stands in `drawing`; four zeros.
@@ -70,7 +70,7 @@ pub extern "C" fn yajilin_decode(
     ensures { λ r. ⌜ now (drawing .exit) ≡ decoderLeaves (now («record» .entry)) (now (values .entry)) (now (drawing .entry)) ⌝ }
 {
     let decoded = decoder::decode(record, values, drawing);
-    decoded.told().write(answer)
+    decoded.outcome().write(answer)
 }
 
 // The search from a trail. Answered: 1 found, 2 none, 3 halted; the steps that this call made; the used count; 0.
@@ -97,7 +97,7 @@ pub extern "C" fn yajilin_search(
         used as usize,
         budget,
     );
-    found.told().write(answer)
+    found.outcome().write(answer)
 }
 
 // The search from a full trail on to the following solution: drops that assignment first. Answered: as by the search.
@@ -124,5 +124,5 @@ pub extern "C" fn yajilin_next(
         used as usize,
         budget,
     );
-    found.told().write(answer)
+    found.outcome().write(answer)
 }

@@ -1,3 +1,3 @@
 -- Laws that the proofs of this crate share.
-pub mod Tracing
-pub mod Joining
+pub mod TraceMarks
+pub mod JudgeRows

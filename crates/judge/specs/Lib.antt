@@ -1,2 +1,2 @@
 -- What the judge's functions compute, where the rules have no word for it.
-pub mod Walking
+pub mod WalkMarks

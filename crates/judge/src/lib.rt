@@ -3,21 +3,21 @@ ghost use mathlib.Core.Path.{_≡_};
 ghost use Prim.Native.Nat.{_<_, _≤_};
 ghost use lib.ListN.{length};
 ghost use Rattle.answers.specs.First.{firstWhere, placed};
-ghost use Rattle.answers.specs.Told.{cause, turnedDown};
-ghost use Rattle.rules.specs.Record.{size, On, Held, Drawn};
+ghost use Rattle.answers.specs.Outcome.{cause, firstRefusal};
+ghost use Rattle.rules.specs.Record.{size, OnBoard, RecordFits, DrawingFits};
 ghost use Rattle.rules.specs.Board.{neighbour, gridBoard};
 ghost use Rattle.rules.specs.Drawing.{linkAt};
 ghost use Rattle.rules.specs.Walk.{loopCells};
-ghost use Rattle.rules.specs.Judge.{wrongDrawing, wrongByte, touching, clueNotMet, linkUnmatched, notTwoLinks, notOneLoop, judgeRows, judgeAnswer, saysYes, toldVerdict};
-ghost use Rattle.judge.specs.Walking.{marked, leftAfter, unseenAt, passedUp};
+ghost use Rattle.rules.specs.Judge.{wrongDrawing, wrongByte, touching, clueNotMet, linkUnmatched, notTwoLinks, notOneLoop, judgeRows, judgeAnswer, saysYes, verdictOutcome};
+ghost use Rattle.judge.specs.WalkMarks.{marked, leftAfter, unseenAt, passedUp};
 use answers::Place;
 use judge_cells::Test;
 use judge_cells::cells::first;
 use judge_cells::cells::white_at;
 use judge_cells::drawing::other;
 use rules::Direction;
-use rules::Fault;
 use rules::Grid;
+use rules::JudgeRefusal;
 use rules::MOST_CELLS;
 use rules::Parsed;
 use rules::Verdict;
@@ -38,7 +38,7 @@ fn left_after(y: usize, s: usize, left: usize) -> usize
 
 // Marks the cells that the walk from s eastward passes until it is at s again.
 fn trace(g: Grid, drawing: &[u8], s: usize, seen: &mut [u8])
-    requires { ⌜ On g s ⌝ }
+    requires { ⌜ OnBoard g s ⌝ }
     requires { ⌜ length (now drawing) ≡ size g ⌝ }
     requires { ⌜ size g ≤ length (now seen) ⌝ }
     ensures { λ r. ⌜ now (seen .exit) ≡ marked (loopCells (size g) (neighbour g) (linkAt (now (drawing .entry))) s) (now (seen .entry)) ⌝ }
@@ -59,7 +59,7 @@ fn trace(g: Grid, drawing: &[u8], s: usize, seen: &mut [u8])
 }
 
 fn unseen_at(g: Grid, record: &[u8], drawing: &[u8], seen: &[u8], x: usize) -> bool
-    requires { ⌜ Drawn g (now «record») (now drawing) ⌝ }
+    requires { ⌜ DrawingFits g (now «record») (now drawing) ⌝ }
     requires { ⌜ size g ≤ length (now seen) ⌝ }
     requires { ⌜ x < size g ⌝ }
     ensures { λ r. ⌜ r ≡ unseenAt (gridBoard g (now («record» .entry))) (now (drawing .entry)) (now (seen .entry)) x ⌝ }
@@ -72,7 +72,7 @@ fn unseen_at(g: Grid, record: &[u8], drawing: &[u8], seen: &[u8], x: usize) -> b
 
 // The first white cell that is not marked.
 fn first_unseen(g: Grid, record: &[u8], drawing: &[u8], seen: &[u8]) -> Place
-    requires { ⌜ Drawn g (now «record») (now drawing) ⌝ }
+    requires { ⌜ DrawingFits g (now «record») (now drawing) ⌝ }
     requires { ⌜ size g ≤ length (now seen) ⌝ }
     ensures { λ r. ⌜ placed r ≡ firstWhere (unseenAt (gridBoard g (now («record» .entry))) (now (drawing .entry)) (now (seen .entry))) (size g) ⌝ }
 {
@@ -90,7 +90,7 @@ fn first_unseen(g: Grid, record: &[u8], drawing: &[u8], seen: &[u8]) -> Place
 
 // 7: drawing not N bytes.
 fn wrong_length(g: Grid, record: &[u8], drawing: &[u8]) -> bool
-    requires { ⌜ Held g (now «record») ⌝ }
+    requires { ⌜ RecordFits g (now «record») ⌝ }
     ensures { λ r. ⌜ cause r ≡ wrongDrawing (gridBoard g (now («record» .entry))) (now (drawing .entry)) ⌝ }
 {
     drawing.len() != g.size()
@@ -98,7 +98,7 @@ fn wrong_length(g: Grid, record: &[u8], drawing: &[u8]) -> bool
 
 // 10: a byte that its cell doesn't allow.
 fn wrong_byte(g: Grid, record: &[u8], drawing: &[u8]) -> Place
-    requires { ⌜ Drawn g (now «record») (now drawing) ⌝ }
+    requires { ⌜ DrawingFits g (now «record») (now drawing) ⌝ }
     ensures { λ r. ⌜ placed r ≡ wrongByte (gridBoard g (now («record» .entry))) (now (drawing .entry)) ⌝ }
 {
     first(Test::DrawingByte, g, record, drawing)
@@ -106,7 +106,7 @@ fn wrong_byte(g: Grid, record: &[u8], drawing: &[u8]) -> Place
 
 // 11: black beside black to its east or south.
 fn touching(g: Grid, record: &[u8], drawing: &[u8]) -> Place
-    requires { ⌜ Drawn g (now «record») (now drawing) ⌝ }
+    requires { ⌜ DrawingFits g (now «record») (now drawing) ⌝ }
     ensures { λ r. ⌜ placed r ≡ touching (gridBoard g (now («record» .entry))) (now (drawing .entry)) ⌝ }
 {
     first(Test::Touching, g, record, drawing)
@@ -114,7 +114,7 @@ fn touching(g: Grid, record: &[u8], drawing: &[u8]) -> Place
 
 // 12: a clue that is not met.
 fn clue_not_met(g: Grid, record: &[u8], drawing: &[u8]) -> Place
-    requires { ⌜ Drawn g (now «record») (now drawing) ⌝ }
+    requires { ⌜ DrawingFits g (now «record») (now drawing) ⌝ }
     ensures { λ r. ⌜ placed r ≡ clueNotMet (gridBoard g (now («record» .entry))) (now (drawing .entry)) ⌝ }
 {
     first(Test::ClueNotMet, g, record, drawing)
@@ -122,7 +122,7 @@ fn clue_not_met(g: Grid, record: &[u8], drawing: &[u8]) -> Place
 
 // 13: a link that is unmatched or leads off the board.
 fn link_unmatched(g: Grid, record: &[u8], drawing: &[u8]) -> Place
-    requires { ⌜ Drawn g (now «record») (now drawing) ⌝ }
+    requires { ⌜ DrawingFits g (now «record») (now drawing) ⌝ }
     ensures { λ r. ⌜ placed r ≡ linkUnmatched (gridBoard g (now («record» .entry))) (now (drawing .entry)) ⌝ }
 {
     first(Test::LinkUnmatched, g, record, drawing)
@@ -130,7 +130,7 @@ fn link_unmatched(g: Grid, record: &[u8], drawing: &[u8]) -> Place
 
 // 14: a white cell without exactly two links.
 fn not_two_links(g: Grid, record: &[u8], drawing: &[u8]) -> Place
-    requires { ⌜ Drawn g (now «record») (now drawing) ⌝ }
+    requires { ⌜ DrawingFits g (now «record») (now drawing) ⌝ }
     ensures { λ r. ⌜ placed r ≡ notTwoLinks (gridBoard g (now («record» .entry))) (now (drawing .entry)) ⌝ }
 {
     first(Test::NotTwoLinks, g, record, drawing)
@@ -138,7 +138,7 @@ fn not_two_links(g: Grid, record: &[u8], drawing: &[u8]) -> Place
 
 // 15: no white cell, or the first white cell not on the first white cell's loop.
 fn not_one_loop(g: Grid, record: &[u8], drawing: &[u8]) -> Place
-    requires { ⌜ Drawn g (now «record») (now drawing) ⌝ }
+    requires { ⌜ DrawingFits g (now «record») (now drawing) ⌝ }
     ensures { λ r. ⌜ placed r ≡ notOneLoop (gridBoard g (now («record» .entry))) (now (drawing .entry)) ⌝ }
 {
     let p = first(Test::White, g, record, drawing);
@@ -152,36 +152,36 @@ fn not_one_loop(g: Grid, record: &[u8], drawing: &[u8]) -> Place
 
 // 7 and 10 to 15, in order.
 pub fn judge_grid(g: Grid, record: &[u8], drawing: &[u8]) -> Verdict
-    requires { ⌜ Held g (now «record») ⌝ }
-    ensures { λ r. ⌜ toldVerdict r ≡ turnedDown (judgeRows (gridBoard g (now («record» .entry))) (now (drawing .entry))) saysYes ⌝ }
+    requires { ⌜ RecordFits g (now «record») ⌝ }
+    ensures { λ r. ⌜ verdictOutcome r ≡ firstRefusal (judgeRows (gridBoard g (now («record» .entry))) (now (drawing .entry))) saysYes ⌝ }
 {
     let wrong = wrong_length(g, record, drawing);
     if wrong {
-        return Verdict::No(Fault::DrawingLength);
+        return Verdict::No(JudgeRefusal::DrawingLength);
     }
     let p = wrong_byte(g, record, drawing);
     if let Place::At(x) = p {
-        return Verdict::No(Fault::DrawingByte(x));
+        return Verdict::No(JudgeRefusal::DrawingByte(x));
     }
     let p = touching(g, record, drawing);
     if let Place::At(x) = p {
-        return Verdict::No(Fault::Touching(x));
+        return Verdict::No(JudgeRefusal::Touching(x));
     }
     let p = clue_not_met(g, record, drawing);
     if let Place::At(x) = p {
-        return Verdict::No(Fault::ClueNotMet(x));
+        return Verdict::No(JudgeRefusal::ClueNotMet(x));
     }
     let p = link_unmatched(g, record, drawing);
     if let Place::At(x) = p {
-        return Verdict::No(Fault::LinkUnmatched(x));
+        return Verdict::No(JudgeRefusal::LinkUnmatched(x));
     }
     let p = not_two_links(g, record, drawing);
     if let Place::At(x) = p {
-        return Verdict::No(Fault::NotTwoLinks(x));
+        return Verdict::No(JudgeRefusal::NotTwoLinks(x));
     }
     let p = not_one_loop(g, record, drawing);
     if let Place::At(x) = p {
-        return Verdict::No(Fault::NotOneLoop(x));
+        return Verdict::No(JudgeRefusal::NotOneLoop(x));
     }
     Verdict::Yes
 }
@@ -193,12 +193,12 @@ fn passed_up(p: Parsed) -> Verdict
     let Parsed::Refused(r) = p else {
         return Verdict::Yes;
     };
-    Verdict::No(Fault::Record(r))
+    Verdict::No(JudgeRefusal::Record(r))
 }
 
 // The judge says yes, or names the first cause against it.
 pub fn judge(record: &[u8], drawing: &[u8]) -> Verdict
-    ensures { λ r. ⌜ toldVerdict r ≡ judgeAnswer (now («record» .entry)) (now (drawing .entry)) ⌝ }
+    ensures { λ r. ⌜ verdictOutcome r ≡ judgeAnswer (now («record» .entry)) (now (drawing .entry)) ⌝ }
 {
     let p = read(record);
     let Parsed::Accepted(g) = p else {

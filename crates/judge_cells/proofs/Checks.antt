@@ -16,7 +16,7 @@ use Rattle.rules.specs.declared.Cell.{Cell}
 use Rattle.rules.specs.declared.Cell.the-variants.{Open, Clue as Clued}
 use Rattle.rules.specs.declared.Grid.{Grid}
 use Rattle.rules.specs.Directions.{bit}
-use Rattle.rules.specs.Record.{Puzzle, size, On, Held, Drawn, puzzle}
+use Rattle.rules.specs.Record.{Puzzle, size, OnBoard, RecordFits, DrawingFits, puzzle}
 use Rattle.rules.specs.Board.{openCell, openAt, line, clueOf, cluesFrom, gridBoard}
 use Rattle.rules.specs.Drawing.{weight, blackAt}
 use Rattle.rules.specs.Judge.{badByte, foundClue, unmetClue}
@@ -45,13 +45,13 @@ open-at [] x h = absurd (omega arith)
 open-at (c ∷ cs) zero h = refl
 open-at (c ∷ cs) (suc x) h = open-at cs x (omega arith)
 
-module _ {g : Grid} {s : List ℕ} {x : ℕ} (h : Held g s) (inside : x < size g) where
+module _ {g : Grid} {s : List ℕ} {x : ℕ} (h : RecordFits g s) (inside : x < size g) where
   pub is-opened : {c : Cell} → c ≡ getD (puzzle g s .cells) x Open → openCell c ≡ gridBoard g s .isOpen x
   is-opened e = let l = held-filled h in ap openCell e ∙ open-at (puzzle g s .cells) x (omega arith)
 
 -- a cell of a grid with its drawing
-pub on-drawn : {g : Grid} {s ds : List ℕ} {x : ℕ} → Drawn g s ds → x < size g → On g x
-on-drawn d h = record { sides = d .held .sides; inside = h }
+pub on-drawn : {g : Grid} {s ds : List ℕ} {x : ℕ} → DrawingFits g s ds → x < size g → OnBoard g x
+on-drawn d h = record { sides = d .recordFits .sides; inside = h }
 
 -- the first unmet clue of the board is the first cell that is one
 module _ (p : Puzzle) (ds : List ℕ) where

@@ -10,7 +10,7 @@ use Rattle.rules.specs.declared.Cell.the-variants.{Open, Clue}
 use Rattle.rules.specs.Record.{Puzzle}
 use Rattle.rules.specs.Board.{line, board}
 use Rattle.rules.specs.Drawing.{blackAt}
-use Rattle.rules.specs.Judge.{badByteAt, touchingAt, looseAt, whiteAt, notTwoAt}
+use Rattle.rules.specs.Judge.{badByteAt, touchesAt, unmatchedLinkAt, whiteAt, notTwoAt}
 use Rattle.judge_cells.specs.declared.Test.{Test}
 use Rattle.judge_cells.specs.declared.Test.the-variants.{DrawingByte, Touching, ClueNotMet, LinkUnmatched, NotTwoLinks, White}
 
@@ -25,8 +25,8 @@ unmetAt p ds x = unmetCell p (blackAt ds) x (getD (p .cells) x Open)
 -- what is sought cell by cell
 abbrev pub testAt : Test → Puzzle → List ℕ → ℕ → Bool
 testAt DrawingByte p ds = badByteAt (board p) ds
-testAt Touching p ds = touchingAt (board p) ds
+testAt Touching p ds = touchesAt (board p) ds
 testAt ClueNotMet p ds = unmetAt p ds
-testAt LinkUnmatched p ds = looseAt (board p) ds
+testAt LinkUnmatched p ds = unmatchedLinkAt (board p) ds
 testAt NotTwoLinks p ds = notTwoAt (board p) ds
 testAt White p ds = whiteAt (board p) ds

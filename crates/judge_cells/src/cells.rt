@@ -4,10 +4,10 @@ ghost use Prim.Native.Nat.{_≤_, _<_};
 ghost use lib.ListN.{length};
 ghost use Rattle.answers.specs.First.{firstWhere, placed};
 ghost use Rattle.answers.specs.Lists.{howMany};
-ghost use Rattle.rules.specs.Record.{size, puzzle, On, Held, Drawn};
+ghost use Rattle.rules.specs.Record.{size, puzzle, OnBoard, RecordFits, DrawingFits};
 ghost use Rattle.rules.specs.Board.{neighbour, line, nearest, gridBoard};
 ghost use Rattle.rules.specs.Drawing.{blacksNearest, blackAt};
-ghost use Rattle.rules.specs.Judge.{badByte, there, badByteAt, touchingAt, loose, looseAt, whiteAt, notTwoAt};
+ghost use Rattle.rules.specs.Judge.{badByte, there, badByteAt, touchesAt, unmatchedLink, unmatchedLinkAt, whiteAt, notTwoAt};
 ghost use Rattle.judge_cells.specs.Tests.{unmetAt, testAt};
 use super::Test;
 use super::drawing::black_bit;
@@ -24,7 +24,7 @@ use rules::board::neighbour;
 use rules::board::opposite;
 
 fn is_open(g: Grid, record: &[u8], x: usize) -> bool
-    requires { ⌜ Held g (now «record») ⌝ }
+    requires { ⌜ RecordFits g (now «record») ⌝ }
     requires { ⌜ x < size g ⌝ }
     ensures { λ r. ⌜ r ≡ gridBoard g (now («record» .entry)) .isOpen x ⌝ }
 {
@@ -48,7 +48,7 @@ fn bad_byte(open: bool, v: u8) -> bool
 }
 
 fn bad_byte_at(g: Grid, record: &[u8], drawing: &[u8], x: usize) -> bool
-    requires { ⌜ Drawn g (now «record») (now drawing) ⌝ }
+    requires { ⌜ DrawingFits g (now «record») (now drawing) ⌝ }
     requires { ⌜ x < size g ⌝ }
     ensures { λ r. ⌜ r ≡ badByteAt (gridBoard g (now («record» .entry))) (now (drawing .entry)) x ⌝ }
 {
@@ -58,7 +58,7 @@ fn bad_byte_at(g: Grid, record: &[u8], drawing: &[u8], x: usize) -> bool
 
 // Is there a black cell in that direction?
 fn black_there(g: Grid, drawing: &[u8], x: usize, d: Direction) -> bool
-    requires { ⌜ On g x ⌝ }
+    requires { ⌜ OnBoard g x ⌝ }
     requires { ⌜ length (now drawing) ≡ size g ⌝ }
     ensures { λ r. ⌜ r ≡ there (blackAt (now (drawing .entry))) (neighbour g d x) ⌝ }
 {
@@ -69,10 +69,10 @@ fn black_there(g: Grid, drawing: &[u8], x: usize, d: Direction) -> bool
     drawing[y] == 0x10
 }
 
-fn touching_at(g: Grid, record: &[u8], drawing: &[u8], x: usize) -> bool
-    requires { ⌜ Drawn g (now «record») (now drawing) ⌝ }
+fn touches_at(g: Grid, record: &[u8], drawing: &[u8], x: usize) -> bool
+    requires { ⌜ DrawingFits g (now «record») (now drawing) ⌝ }
     requires { ⌜ x < size g ⌝ }
-    ensures { λ r. ⌜ r ≡ touchingAt (gridBoard g (now («record» .entry))) (now (drawing .entry)) x ⌝ }
+    ensures { λ r. ⌜ r ≡ touchesAt (gridBoard g (now («record» .entry))) (now (drawing .entry)) x ⌝ }
 {
     if drawing[x] != 0x10 {
         return false;
@@ -95,7 +95,7 @@ fn blacks_nearest(
     end: End,
     j: usize,
 ) -> usize
-    requires { ⌜ Drawn g (now «record») (now drawing) ⌝ }
+    requires { ⌜ DrawingFits g (now «record») (now drawing) ⌝ }
     requires { ⌜ end .cell ≡ nearest (line (puzzle g (now «record»)) d x) x ⌝ }
     requires { ⌜ j ≤ length (line (puzzle g (now «record»)) d x) ⌝ }
     ensures { λ r. ⌜ r ≡ blacksNearest (blackAt (now (drawing .entry))) (line (puzzle g (now («record» .entry))) d x) j ⌝ }
@@ -115,7 +115,7 @@ fn blacks_nearest(
 
 // The black cells of a clue's whole line: j is its length.
 fn black_count(g: Grid, record: &[u8], drawing: &[u8], x: usize, d: Direction) -> usize
-    requires { ⌜ Drawn g (now «record») (now drawing) ⌝ }
+    requires { ⌜ DrawingFits g (now «record») (now drawing) ⌝ }
     requires { ⌜ x < size g ⌝ }
     ensures { λ r. ⌜ r ≡ howMany (blackAt (now (drawing .entry))) (line (puzzle g (now («record» .entry))) d x) ⌝ }
 {
@@ -125,7 +125,7 @@ fn black_count(g: Grid, record: &[u8], drawing: &[u8], x: usize, d: Direction) -
 }
 
 fn unmet_at(g: Grid, record: &[u8], drawing: &[u8], x: usize) -> bool
-    requires { ⌜ Drawn g (now «record») (now drawing) ⌝ }
+    requires { ⌜ DrawingFits g (now «record») (now drawing) ⌝ }
     requires { ⌜ x < size g ⌝ }
     ensures { λ r. ⌜ r ≡ unmetAt (puzzle g (now («record» .entry))) (now (drawing .entry)) x ⌝ }
 {
@@ -138,10 +138,10 @@ fn unmet_at(g: Grid, record: &[u8], drawing: &[u8], x: usize) -> bool
 }
 
 // Has x a link in that direction that is unmatched or leads off the board?
-fn loose(g: Grid, record: &[u8], drawing: &[u8], x: usize, d: Direction) -> bool
-    requires { ⌜ Drawn g (now «record») (now drawing) ⌝ }
+fn unmatched_link(g: Grid, record: &[u8], drawing: &[u8], x: usize, d: Direction) -> bool
+    requires { ⌜ DrawingFits g (now «record») (now drawing) ⌝ }
     requires { ⌜ x < size g ⌝ }
-    ensures { λ r. ⌜ r ≡ loose (gridBoard g (now («record» .entry))) (now (drawing .entry)) x d ⌝ }
+    ensures { λ r. ⌜ r ≡ unmatchedLink (gridBoard g (now («record» .entry))) (now (drawing .entry)) x d ⌝ }
 {
     let link = linked(drawing[x], d);
     if !link {
@@ -156,28 +156,28 @@ fn loose(g: Grid, record: &[u8], drawing: &[u8], x: usize, d: Direction) -> bool
     !matched
 }
 
-fn loose_at(g: Grid, record: &[u8], drawing: &[u8], x: usize) -> bool
-    requires { ⌜ Drawn g (now «record») (now drawing) ⌝ }
+fn unmatched_link_at(g: Grid, record: &[u8], drawing: &[u8], x: usize) -> bool
+    requires { ⌜ DrawingFits g (now «record») (now drawing) ⌝ }
     requires { ⌜ x < size g ⌝ }
-    ensures { λ r. ⌜ r ≡ looseAt (gridBoard g (now («record» .entry))) (now (drawing .entry)) x ⌝ }
+    ensures { λ r. ⌜ r ≡ unmatchedLinkAt (gridBoard g (now («record» .entry))) (now (drawing .entry)) x ⌝ }
 {
-    let north = loose(g, record, drawing, x, Direction::North);
+    let north = unmatched_link(g, record, drawing, x, Direction::North);
     if north {
         return true;
     }
-    let east = loose(g, record, drawing, x, Direction::East);
+    let east = unmatched_link(g, record, drawing, x, Direction::East);
     if east {
         return true;
     }
-    let south = loose(g, record, drawing, x, Direction::South);
+    let south = unmatched_link(g, record, drawing, x, Direction::South);
     if south {
         return true;
     }
-    loose(g, record, drawing, x, Direction::West)
+    unmatched_link(g, record, drawing, x, Direction::West)
 }
 
 pub fn white_at(g: Grid, record: &[u8], drawing: &[u8], x: usize) -> bool
-    requires { ⌜ Drawn g (now «record») (now drawing) ⌝ }
+    requires { ⌜ DrawingFits g (now «record») (now drawing) ⌝ }
     requires { ⌜ x < size g ⌝ }
     ensures { λ r. ⌜ r ≡ whiteAt (gridBoard g (now («record» .entry))) (now (drawing .entry)) x ⌝ }
 {
@@ -189,7 +189,7 @@ pub fn white_at(g: Grid, record: &[u8], drawing: &[u8], x: usize) -> bool
 }
 
 fn not_two_at(g: Grid, record: &[u8], drawing: &[u8], x: usize) -> bool
-    requires { ⌜ Drawn g (now «record») (now drawing) ⌝ }
+    requires { ⌜ DrawingFits g (now «record») (now drawing) ⌝ }
     requires { ⌜ x < size g ⌝ }
     ensures { λ r. ⌜ r ≡ notTwoAt (gridBoard g (now («record» .entry))) (now (drawing .entry)) x ⌝ }
 {
@@ -203,15 +203,15 @@ fn not_two_at(g: Grid, record: &[u8], drawing: &[u8], x: usize) -> bool
 
 // Does the test hold at a cell?
 fn holds(t: Test, g: Grid, record: &[u8], drawing: &[u8], x: usize) -> bool
-    requires { ⌜ Drawn g (now «record») (now drawing) ⌝ }
+    requires { ⌜ DrawingFits g (now «record») (now drawing) ⌝ }
     requires { ⌜ x < size g ⌝ }
     ensures { λ r. ⌜ r ≡ testAt t (puzzle g (now («record» .entry))) (now (drawing .entry)) x ⌝ }
 {
     match t {
         Test::DrawingByte => bad_byte_at(g, record, drawing, x),
-        Test::Touching => touching_at(g, record, drawing, x),
+        Test::Touching => touches_at(g, record, drawing, x),
         Test::ClueNotMet => unmet_at(g, record, drawing, x),
-        Test::LinkUnmatched => loose_at(g, record, drawing, x),
+        Test::LinkUnmatched => unmatched_link_at(g, record, drawing, x),
         Test::NotTwoLinks => not_two_at(g, record, drawing, x),
         Test::White => white_at(g, record, drawing, x),
     }
@@ -219,7 +219,7 @@ fn holds(t: Test, g: Grid, record: &[u8], drawing: &[u8], x: usize) -> bool
 
 // The first cell at which the test holds.
 pub fn first(t: Test, g: Grid, record: &[u8], drawing: &[u8]) -> Place
-    requires { ⌜ Drawn g (now «record») (now drawing) ⌝ }
+    requires { ⌜ DrawingFits g (now «record») (now drawing) ⌝ }
     ensures { λ r. ⌜ placed r ≡ firstWhere (testAt t (puzzle g (now («record» .entry))) (now (drawing .entry))) (size g) ⌝ }
 {
     let n = g.size();

@@ -5,7 +5,7 @@ use lib.IntN.{ℤ}
 use lib.ListN.{length, take, length-append}
 use mathlib.Core.Path.{_≡_, refl, sym, _∙_, ap}
 use mathlib.Core.List.{List, _++_}
-use Rattle.answers.specs.declared.Told.{Told}
+use Rattle.answers.specs.declared.Outcome.{Outcome}
 use Rattle.answers.specs.Lent.{Wrote}
 use Rattle.answers.proofs.Lent.{wrote-recast}
 use Rattle.rules.specs.Board.{boardOf}
@@ -14,19 +14,19 @@ use Rattle.encoder.specs.Variables.{variableCount}
 use Rattle.encoder.specs.Clauses.{clauseList}
 use Rattle.encoder.proofs.Bounds.{count-clauses}
 use Rattle.encoder_size.specs.declared.Counts.{Counts}
-use Rattle.encoder_call.specs.Answer.{toldCounts}
+use Rattle.encoder_call.specs.Answer.{countsOutcome}
 use Rattle.program_text.specs.Programs.{mostHeld, printedClauses}
 use Rattle.program_text.proofs.Limits.{printed-text}
-use Rattle.program_text.proofs.Encoding.{Encodes, counted, variables, listed, unrefused}
+use Rattle.program_text.proofs.Encoded.{Encodes, counted, variables, listed, unrefused}
 use Rattle.print_clauses.proofs.Fits.{text-fits}
 
-module _ {s : List ℕ} {new : List ℤ} {c : Counts} (w : Encodes s (toldCounts c) new) where
+module _ {s : List ℕ} {new : List ℤ} {c : Counts} (w : Encodes s (countsOutcome c) new) where
   -- the text that is put
   abbrev pub put : List ℕ
   put = headerLine (c .variables) (c .clauses) ++ lines (take (c .elements) new)
 
   is-text : put ≡ textOf (variableCount (boardOf s)) (clauseList (boardOf s))
-  is-text = λ i. headerLine (variables w refl i) ((ap (λ (t : Told). t .third) (counted w refl) ∙ sym (count-clauses (boardOf s))) i) ++ lines (listed w refl i)
+  is-text = λ i. headerLine (variables w refl i) ((ap (λ (t : Outcome). t .third) (counted w refl) ∙ sym (count-clauses (boardOf s))) i) ++ lines (listed w refl i)
 
   module _ (h : c .variables ≤ mostHeld) where
     pub listed-fits : length (headerLine (c .variables) (c .clauses)) + length (lines (take (c .elements) new)) < 18446744073709551616

@@ -32,8 +32,8 @@ fn clauses_text(record: &[u8], text: &mut [u8]) -> usize
 {
     let mut list = [0i32; MOST_ELEMENTS];
     let e = encode(record, &mut list);
-    let Encoded::Listed(c) = e else {
-        return put_refused(text, e.told().number as usize);
+    let Encoded::Written(c) = e else {
+        return put_refused(text, e.outcome().number as usize);
     };
     let elements = c.elements;
     let variables = c.variables;

@@ -1,4 +1,4 @@
-pub mod Encoding
+pub mod Encoded
 pub mod Limits
-pub mod Putting
+pub mod Lines
 pub mod Samples

@@ -10,13 +10,13 @@ use mathlib.Core.Path.{_≡_, refl, sym, _∙_, ap}
 use mathlib.Core.Bool.{Bool, true, false, cond}
 use mathlib.Core.Option.{Option, none, some}
 use mathlib.Core.List.{List, [], _∷_, _++_}
-use Rattle.answers.specs.declared.Told.{Told}
-use Rattle.answers.specs.Told.{answer, Row, row, cause, unless, turnedDown}
+use Rattle.answers.specs.declared.Outcome.{Outcome}
+use Rattle.answers.specs.Outcome.{answer, Row, row, cause, unless, firstRefusal}
 use Rattle.answers.specs.Lent.{Wrote}
 use Rattle.answers.specs.Lists.{All}
 use Rattle.answers.proofs.Lent.{wrote-length}
 use Rattle.answers.proofs.Bools.{or-neither}
-use Rattle.answers.proofs.Rows.{Clear, turned-append, answered-clear, clear-answered, no-cause}
+use Rattle.answers.proofs.Rows.{Clear, refusals-append, answered-clear, clear-answered, no-cause}
 use Rattle.rules.specs.Record.{recordRows, IsAccepted}
 use Rattle.rules.specs.Board.{boardOf}
 use Rattle.dimacs.specs.Text.{decimal, lineFeed}
@@ -28,12 +28,12 @@ use Rattle.program_text.specs.Lines.{refusedLine}
 use Rattle.program_text.specs.Programs.{mostElements, mostHeld, needsMore, programRows, programNumber, printed}
 
 -- calls with the same first rows tell the same number, if they do wherever these are passed
-same-rows : (rs qs ps : List Row) (t u : Told) → (Clear rs → turnedDown qs t .number ≡ turnedDown ps u .number) → turnedDown (rs ++ qs) t .number ≡ turnedDown (rs ++ ps) u .number
+same-rows : (rs qs ps : List Row) (t u : Outcome) → (Clear rs → firstRefusal qs t .number ≡ firstRefusal ps u .number) → firstRefusal (rs ++ qs) t .number ≡ firstRefusal (rs ++ ps) u .number
 same-rows [] qs ps t u h = h tt
 same-rows (r ∷ rs) qs ps t u h = by (r .beside) refl (same-rows rs qs ps t u)
   where
-    by : (o : Option ℕ) → r .beside ≡ o → ((Clear rs → turnedDown qs t .number ≡ turnedDown ps u .number) → turnedDown (rs ++ qs) t .number ≡ turnedDown (rs ++ ps) u .number)
-        → unless (r .number) o (turnedDown (rs ++ qs) t) .number ≡ unless (r .number) o (turnedDown (rs ++ ps) u) .number
+    by : (o : Option ℕ) → r .beside ≡ o → ((Clear rs → firstRefusal qs t .number ≡ firstRefusal ps u .number) → firstRefusal (rs ++ qs) t .number ≡ firstRefusal (rs ++ ps) u .number)
+        → unless (r .number) o (firstRefusal (rs ++ qs) t) .number ≡ unless (r .number) o (firstRefusal (rs ++ ps) u) .number
     by none e go = go (λ c. h (e, c))
     by (some v) e go = refl
 
@@ -43,17 +43,17 @@ limited t = unless 6 (cause t) (answer 0 0 0) .number
 
 module _ (s : List ℕ) where
   -- a record without a cause is left to the rows after the reader's
-  pub left : Clear (recordRows s) → (qs : List Row) (t : Told) → turnedDown (recordRows s ++ qs) t ≡ turnedDown qs t
-  left c qs t = turned-append (recordRows s) qs t ∙ clear-answered (recordRows s) _ c
+  pub left : Clear (recordRows s) → (qs : List Row) (t : Outcome) → firstRefusal (recordRows s ++ qs) t ≡ firstRefusal qs t
+  left c qs t = refusals-append (recordRows s) qs t ∙ clear-answered (recordRows s) _ c
 
   pub left-to-limits : Clear (recordRows s) → programNumber s ≡ limited (needsMore (boardOf s))
-  left-to-limits c = ap (λ (t : Told). t .number) (left c (row 6 (cause (needsMore (boardOf s))) ∷ []) (answer 0 0 0))
+  left-to-limits c = ap (λ (t : Outcome). t .number) (left c (row 6 (cause (needsMore (boardOf s))) ∷ []) (answer 0 0 0))
 
   pub clear-parts : (qs : List Row) → Clear (recordRows s ++ qs) → Clear (recordRows s) × Clear qs
   clear-parts qs c = (all-left (λ (r : Row). r .beside ≡ none) (recordRows s) qs c, all-right (λ (r : Row). r .beside ≡ none) (recordRows s) qs c)
 
   pub clear-accepted : Clear (recordRows s) → IsAccepted s
-  clear-accepted c = ap (λ (t : Told). t .number) (clear-answered (recordRows s) _ c)
+  clear-accepted c = ap (λ (t : Outcome). t .number) (clear-answered (recordRows s) _ c)
 
   -- no refusal: an accepted grid that needs no more than the programs hold
   pub unrefused : programNumber s ≡ 0 → IsAccepted s × (length (clauseList (boardOf s)) ≤ mostElements) × (variableCount (boardOf s) ≤ mostHeld)
@@ -63,7 +63,7 @@ module _ (s : List ℕ) where
       (clear-accepted c, ltb-false mostElements (length (clauseList (boardOf s))) (n .0), ltb-false mostHeld (variableCount (boardOf s)) (n .1))
 
   -- the same refusal as that of another call
-  pub same-number : (qs : List Row) (t : Told) → (Clear (recordRows s) → turnedDown qs t .number ≡ limited (needsMore (boardOf s))) → turnedDown (recordRows s ++ qs) t .number ≡ programNumber s
+  pub same-number : (qs : List Row) (t : Outcome) → (Clear (recordRows s) → firstRefusal qs t .number ≡ limited (needsMore (boardOf s))) → firstRefusal (recordRows s ++ qs) t .number ≡ programNumber s
   same-number qs t h = same-rows (recordRows s) qs (row 6 (cause (needsMore (boardOf s))) ∷ []) t (answer 0 0 0) h
 
 -- what is printed
@@ -74,11 +74,11 @@ pub printed-text : {m : ℕ} (text : List ℕ) → m ≡ 0 → text ≡ printed 
 printed-text {m} text e = sym (ap (λ b. cond b text (refusedLine m)) (eq-eqb m 0 e))
 
 -- no row has a number over 6, so the line of a refusal is short
-rows-most : (rs : List Row) (t : Told) → All (λ (r : Row). r .number ≤ 6) rs → t .number ≤ 6 → turnedDown rs t .number ≤ 6
+rows-most : (rs : List Row) (t : Outcome) → All (λ (r : Row). r .number ≤ 6) rs → t .number ≤ 6 → firstRefusal rs t .number ≤ 6
 rows-most [] t a h = h
 rows-most (r ∷ rs) t a h = by (r .beside) (rows-most rs t (a .1) h)
   where
-    by : (o : Option ℕ) → turnedDown rs t .number ≤ 6 → unless (r .number) o (turnedDown rs t) .number ≤ 6
+    by : (o : Option ℕ) → firstRefusal rs t .number ≤ 6 → unless (r .number) o (firstRefusal rs t) .number ≤ 6
     by none i = i
     by (some v) i = a .0
 

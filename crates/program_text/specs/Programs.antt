@@ -4,7 +4,7 @@ use lib.Dec.{eqb, ltb}
 use lib.ListN.{length}
 use mathlib.Core.Bool.{Bool, _||_, cond}
 use mathlib.Core.List.{List, [], _∷_, _++_}
-use Rattle.answers.specs.Told.{answer, Row, row, cause, turnedDown}
+use Rattle.answers.specs.Outcome.{answer, Row, row, cause, firstRefusal}
 use Rattle.rules.specs.Record.{recordRows, sides}
 use Rattle.rules.specs.Board.{Board, boardOf}
 use Rattle.dimacs.specs.Text.{textOf}
@@ -32,7 +32,7 @@ programRows s = recordRows s ++ (row 6 (cause (needsMore (boardOf s))) ∷ [])
 
 -- the number of the refusal, 0 if there is none
 abbrev pub programNumber : List ℕ → ℕ
-programNumber s = turnedDown (programRows s) (answer 0 0 0) .number
+programNumber s = firstRefusal (programRows s) (answer 0 0 0) .number
 
 -- on a refusal a program prints one line such as `refused 3`
 abbrev pub printed : ℕ → List ℕ → List ℕ

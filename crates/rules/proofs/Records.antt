@@ -11,20 +11,20 @@ use mathlib.Core.Bool.{true, false, not}
 use mathlib.Core.Option.{none, some}
 use mathlib.Core.List.{List, _++_}
 use Rattle.answers.proofs.Bools.{and-both, or-left, or-right, or-neither}
-use Rattle.answers.proofs.Rows.{Tells, tells, turns, passes, answers, Clear, answered-clear, clear-answered, no-cause, still-turned, turned-append}
-use Rattle.answers.specs.declared.Told.{Told}
-use Rattle.answers.specs.Told.{refusal, answer, Row, cause, turnedDown}
+use Rattle.answers.proofs.Rows.{Tells, tells, turns, passes, answers, Clear, answered-clear, clear-answered, no-cause, still-refused, refusals-append}
+use Rattle.answers.specs.declared.Outcome.{Outcome}
+use Rattle.answers.specs.Outcome.{refusal, answer, Row, cause, firstRefusal}
 use Rattle.answers.specs.First.{firstWhere}
 use Rattle.rules.specs.declared.Cell.the-variants.{Open, Clue}
 use Rattle.rules.specs.declared.CellByte.the-variants.{Is, NotAllowed}
 use Rattle.rules.specs.declared.Grid.{Grid}
-use Rattle.rules.specs.declared.Refusal.{Refusal}
-use Rattle.rules.specs.declared.Refusal.the-variants.{Length, Kind, Side, Size, NotACell}
+use Rattle.rules.specs.declared.RecordRefusal.{RecordRefusal}
+use Rattle.rules.specs.declared.RecordRefusal.the-variants.{Length, Kind, Side, Size, NotACell}
 use Rattle.rules.specs.declared.Parsed.{Parsed}
 use Rattle.rules.specs.declared.Parsed.the-variants.{Accepted, Refused}
 use Rattle.rules.specs.Board.{boardOf}
 use Rattle.rules.proofs.Boards.{Laws, Filled, laws}
-use Rattle.rules.specs.Record.{directionOf, readCell, cellOf, word, sides, size, cellByte, puzzle, isSide, wrongLength, wrongKind, wrongSide, wrongSize, wrongCell, Sides, Held, recordRows, recordAnswer, IsAccepted, toldRefusal, toldParsed}
+use Rattle.rules.specs.Record.{directionOf, readCell, cellOf, word, sides, size, cellByte, puzzle, isSide, wrongLength, wrongKind, wrongSide, wrongSize, wrongCell, Sides, RecordFits, recordRows, recordAnswer, IsAccepted, recordRefusalOutcome, parsedOutcome}
 
 -- the bytes of clues, once for every direction
 pub clue-byte : (d b : ℕ) → 1 ≤ d → d ≤ 4 → 16 * d ≤ b → b < 16 * d + 16 → Is (Clue (directionOf d) (b - 16 * d)) ≡ readCell b
@@ -54,7 +54,7 @@ sides-small g h k =
     record { wide = omega arith; narrow = omega arith; few = omega arith }
 
 -- a grid with its record has as many cells as its sides say
-pub held-filled : {g : Grid} {s : List ℕ} → Held g s → Filled (puzzle g s)
+pub held-filled : {g : Grid} {s : List ℕ} → RecordFits g s → Filled (puzzle g s)
 held-filled {g} {s} h = let l = h .long in length-map (drop 6 s) cellOf ∙ omega (arith, length-drop 6 s)
 
 module _ (s : List ℕ) (acc : IsAccepted s) where
@@ -62,14 +62,14 @@ module _ (s : List ℕ) (acc : IsAccepted s) where
   accepted-clear = answered-clear (recordRows s) _ refl acc
 
   -- an accepted record is as long as its sides say, and these are small
-  pub accepted-held : Held (sides s) s
-  accepted-held =
+  pub accepted-fits : RecordFits (sides s) s
+  accepted-fits =
       let (c1, (c2, (c3, (c4, c)))) = accepted-clear in
       let w = or-neither (not (isSide (sides s .rows))) (not (isSide (sides s .columns))) (no-cause _ c3) in
       record { sides = sides-small (sides s) (not-false _ (w .0)) (not-false _ (w .1)); long = eqb-true _ _ (not-false _ (no-cause _ c4)) }
 
   pub accepted-laws : Laws (boardOf s)
-  accepted-laws = laws (puzzle (sides s) s) (held-filled accepted-held)
+  accepted-laws = laws (puzzle (sides s) s) (held-filled accepted-fits)
 
 -- The reader goes through the rows in order. Each record says which are passed.
 pub record LengthRight (s : List ℕ) : Type 0 where
@@ -82,14 +82,14 @@ pub record KindRight (s : List ℕ) : Type 0 where
 pub record SidesRight (s : List ℕ) : Type 0 where
   pub before : KindRight s
   pub right : wrongSide s ≡ false
-  pub held : Sides (sides s)
+  pub recordFits : Sides (sides s)
 
 pub record SizeRight (s : List ℕ) : Type 0 where
   pub before : SidesRight s
   pub right : wrongSize s ≡ false
 
 module _ (s : List ℕ) where
-  abbrev Goes : List Row → Told → Type 0
+  abbrev Goes : List Row → Outcome → Type 0
   Goes rows u = Tells rows (answer (sides s .rows) (sides s .columns) 0) u
 
   pub short-record : length s < 6 → refusal 1 0 ≡ recordAnswer s
@@ -102,16 +102,16 @@ module _ (s : List ℕ) where
   right-length h e = record { right = rw (le-ltb _ _ h, eq-eqb _ _ e) }
 
 module _ {s : List ℕ} where
-  past-length : {u : Told} → LengthRight s → Goes s (drop 1 (recordRows s)) u → u ≡ recordAnswer s
+  past-length : {u : Outcome} → LengthRight s → Goes s (drop 1 (recordRows s)) u → u ≡ recordAnswer s
   past-length p h = let t : Goes s (recordRows s) _ = passes (ap cause (p .right)) h in tells t
 
-  past-kind : {u : Told} → KindRight s → Goes s (drop 2 (recordRows s)) u → u ≡ recordAnswer s
+  past-kind : {u : Outcome} → KindRight s → Goes s (drop 2 (recordRows s)) u → u ≡ recordAnswer s
   past-kind p h = past-length (p .before) (passes (ap cause (p .right)) h)
 
-  past-sides : {u : Told} → SidesRight s → Goes s (drop 3 (recordRows s)) u → u ≡ recordAnswer s
+  past-sides : {u : Outcome} → SidesRight s → Goes s (drop 3 (recordRows s)) u → u ≡ recordAnswer s
   past-sides p h = past-kind (p .before) (passes (ap cause (p .right)) h)
 
-  past-size : {u : Told} → SizeRight s → Goes s (drop 4 (recordRows s)) u → u ≡ recordAnswer s
+  past-size : {u : Outcome} → SizeRight s → Goes s (drop 4 (recordRows s)) u → u ≡ recordAnswer s
   past-size p h = past-sides (p .before) (passes (ap cause (p .right)) h)
 
   pub other-kind : LengthRight s → (word s 2 ≡ 1 → ⊥) → refusal 2 0 ≡ recordAnswer s
@@ -127,7 +127,7 @@ module _ {s : List ℕ} where
   columns-wrong p h = past-kind p (turns (ap cause (or-right (not (isSide (sides s .rows))) _ (ap not h))))
 
   pub right-sides : KindRight s → isSide (sides s .rows) ≡ true → isSide (sides s .columns) ≡ true → SidesRight s
-  right-sides p h k = record { before = p; right = rw (h, k); held = sides-small (sides s) h k }
+  right-sides p h k = record { before = p; right = rw (h, k); recordFits = sides-small (sides s) h k }
 
   pub other-size : SidesRight s → (length s ≡ 6 + size (sides s) → ⊥) → refusal 4 0 ≡ recordAnswer s
   other-size p h = past-sides p (turns (ap cause (ap not (ne-eqb _ _ h))))
@@ -142,7 +142,7 @@ module _ {s : List ℕ} where
   all-right p e = past-size p (passes (sym e) answers)
 
 -- What the reader told, for the calls that go on after it: no refusal has the number 0
-pub refusal-number : (r : Refusal) → toldRefusal r .number ≡ 0 → ⊥
+pub refusal-number : (r : RecordRefusal) → recordRefusalOutcome r .number ≡ 0 → ⊥
 refusal-number Length e = omega arith
 refusal-number Kind e = omega arith
 refusal-number Side e = omega arith
@@ -150,27 +150,27 @@ refusal-number Size e = omega arith
 refusal-number (NotACell x) e = omega arith
 
 -- a refusal is passed up unchanged, whatever rows come after the reader's
-pub passes-up : (s : List ℕ) (qs : List Row) (t : Told) {p : Parsed} {r : Refusal} → p ≡ Refused r → toldParsed p ≡ recordAnswer s → toldRefusal r ≡ turnedDown (recordRows s ++ qs) t
+pub passes-up : (s : List ℕ) (qs : List Row) (t : Outcome) {p : Parsed} {r : RecordRefusal} → p ≡ Refused r → parsedOutcome p ≡ recordAnswer s → recordRefusalOutcome r ≡ firstRefusal (recordRows s ++ qs) t
 passes-up s qs t {p} {r} q e =
-    let told : toldRefusal r ≡ recordAnswer s = sym (ap toldParsed q) ∙ e in
-    told ∙ still-turned (recordRows s) qs _ t refl (λ z. refusal-number r (ap (λ (u : Told). u .number) told ∙ z))
+    let outcome : recordRefusalOutcome r ≡ recordAnswer s = sym (ap parsedOutcome q) ∙ e in
+    outcome ∙ still-refused (recordRows s) qs _ t refl (λ z. refusal-number r (ap (λ (u : Outcome). u .number) outcome ∙ z))
 
-module _ (s : List ℕ) {p : Parsed} {g : Grid} (q : p ≡ Accepted g) (e : toldParsed p ≡ recordAnswer s) where
-  told : toldParsed (Accepted g) ≡ recordAnswer s
-  told = sym (ap toldParsed q) ∙ e
+module _ (s : List ℕ) {p : Parsed} {g : Grid} (q : p ≡ Accepted g) (e : parsedOutcome p ≡ recordAnswer s) where
+  outcome : parsedOutcome (Accepted g) ≡ recordAnswer s
+  outcome = sym (ap parsedOutcome q) ∙ e
 
   pub is-accepted : IsAccepted s
-  is-accepted = sym (ap (λ (u : Told). u .number) told)
+  is-accepted = sym (ap (λ (u : Outcome). u .number) outcome)
 
   pub read-sides : g ≡ sides s
   read-sides =
-      let all : toldParsed (Accepted g) ≡ toldParsed (Accepted (sides s)) = told ∙ clear-answered (recordRows s) _ (accepted-clear s is-accepted) in
+      let all : parsedOutcome (Accepted g) ≡ parsedOutcome (Accepted (sides s)) = outcome ∙ clear-answered (recordRows s) _ (accepted-clear s is-accepted) in
       λ i. record { rows = all i .first; columns = all i .second }
 
-  pub read-held : Held g s
-  read-held = rw read-sides (accepted-held s is-accepted)
+  pub read-fits : RecordFits g s
+  read-fits = rw read-sides (accepted-fits s is-accepted)
 
   -- the call is left to the rows after the reader's, over the grid that was read
-  pub goes-on : (rows : Grid → List Row) (t : Told) → turnedDown (rows g) t ≡ turnedDown (recordRows s ++ rows (sides s)) t
+  pub goes-on : (rows : Grid → List Row) (t : Outcome) → firstRefusal (rows g) t ≡ firstRefusal (recordRows s ++ rows (sides s)) t
   goes-on rows t =
-      ap (λ (g : Grid). turnedDown (rows g) t) read-sides ∙ sym (turned-append (recordRows s) (rows (sides s)) t ∙ clear-answered (recordRows s) _ (accepted-clear s is-accepted))
+      ap (λ (g : Grid). firstRefusal (rows g) t) read-sides ∙ sym (refusals-append (recordRows s) (rows (sides s)) t ∙ clear-answered (recordRows s) _ (accepted-clear s is-accepted))

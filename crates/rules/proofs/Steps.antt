@@ -13,12 +13,12 @@ use mathlib.Core.List.{List, [], _∷_}
 use Rattle.answers.proofs.Bools.{both-and}
 use Rattle.rules.specs.declared.Direction.{Direction}
 use Rattle.rules.specs.declared.Grid.{Grid}
-use Rattle.rules.specs.Record.{size, On}
+use Rattle.rules.specs.Record.{size, OnBoard}
 use Rattle.rules.specs.Board.{when, inside, target, neighbour, beyond, outward, nearest}
 use Rattle.rules.specs.Walk.{go}
 use Rattle.rules.proofs.Boards.{when-true, wired, far, nearer, has, not-far}
 
-module _ {g : Grid} {x : ℕ} (o : On g x) where
+module _ {g : Grid} {x : ℕ} (o : OnBoard g x) where
   -- a test that holds leads to the neighbour, one that fails leads nowhere
   pub leads-to : {d : Direction} (e : Direction) → d ≡ e → inside g e x ≡ true → some (target g e x) ≡ neighbour g d x
   leads-to {d} e q h =
@@ -34,20 +34,20 @@ module _ {g : Grid} {x : ℕ} (o : On g x) where
   pub not-first : (x % g .columns ≡ 0 → ⊥) → 1 ≤ x
   not-first h = omega (arith, div-add-mod' x (g .columns))
 
-  pub stays-on : (d : Direction) {y : ℕ} → some y ≡ neighbour g d x → On g y
+  pub stays-on : (d : Direction) {y : ℕ} → some y ≡ neighbour g d x → OnBoard g y
   stays-on d {y} e = record { sides = o .sides; inside = wired g .inside d x y (sym e) .1 }
 
 -- the walk stays on the board
-pub gone-on : {g : Grid} {x y : ℕ} (d : Direction) → On g x → y ≡ go (neighbour g) d x → On g y
+pub gone-on : {g : Grid} {x y : ℕ} (d : Direction) → OnBoard g x → y ≡ go (neighbour g) d x → OnBoard g y
 gone-on {g} {x} {y} d o e = by (neighbour g d x) refl e
   where
-    by : (p : Option ℕ) → neighbour g d x ≡ p → y ≡ Option·getD p x → On g y
+    by : (p : Option ℕ) → neighbour g d x ≡ p → y ≡ Option·getD p x → OnBoard g y
     by none q e = rw e o
     by (some z) q e = rw e (stays-on o d (sym q))
 
 -- on the way out along a line that leaves x: at y, after so many cells
 pub record Outgoing (g : Grid) (d : Direction) (x y cells : ℕ) : Type 0 where
-  pub on : On g y
+  pub on : OnBoard g y
   pub seen : List ℕ
   pub last : y ≡ nearest seen x
   pub many : cells ≡ length seen
@@ -56,7 +56,7 @@ pub record Outgoing (g : Grid) (d : Direction) (x y cells : ℕ) : Type 0 where
   pub rest : outward g d fuel y seen ≡ outward g d (size g) x []
   pub bound : cells + far g d y ≤ size g
 
-pub out-start : {g : Grid} {x : ℕ} (d : Direction) → On g x → Outgoing g d x x 0
+pub out-start : {g : Grid} {x : ℕ} (d : Direction) → OnBoard g x → Outgoing g d x x 0
 out-start {g} {x} d o =
     let h : far g d x ≤ size g = not-far g d x (o .inside) in
     record { on = o; seen = []; last = refl; many = refl; fuel = size g; enough = h; rest = refl; bound = omega arith }

@@ -5,18 +5,18 @@ use lib.ListN.{length, getD}
 use mathlib.Core.Bool.{Bool, true, false, not, _&&_, _||_}
 use mathlib.Core.Option.{Option, none, some}
 use mathlib.Core.List.{List, [], _∷_, _++_}
-use Rattle.answers.specs.declared.Told.{Told}
+use Rattle.answers.specs.declared.Outcome.{Outcome}
 use Rattle.answers.specs.First.{firstWhere}
-use Rattle.answers.specs.Told.{refusal, answer, Row, row, cause, turnedDown}
+use Rattle.answers.specs.Outcome.{refusal, answer, Row, row, cause, firstRefusal}
 use Rattle.rules.specs.declared.Direction.{Direction}
 use Rattle.rules.specs.declared.Direction.the-variants.{North as north, East as east, South as south, West as west}
-use Rattle.rules.specs.declared.Fault.{Fault}
-use Rattle.rules.specs.declared.Fault.the-variants.{Record, DrawingLength, DrawingByte, Touching, ClueNotMet, LinkUnmatched, NotTwoLinks, NotOneLoop}
+use Rattle.rules.specs.declared.JudgeRefusal.{JudgeRefusal}
+use Rattle.rules.specs.declared.JudgeRefusal.the-variants.{Record, DrawingLength, DrawingByte, Touching, ClueNotMet, LinkUnmatched, NotTwoLinks, NotOneLoop}
 use Rattle.rules.specs.declared.Verdict.{Verdict}
 use Rattle.rules.specs.declared.Verdict.the-variants.{Yes, No}
 use Rattle.answers.specs.Lists.{howMany}
 use Rattle.rules.specs.Directions.{opposite, degree}
-use Rattle.rules.specs.Record.{recordRows, toldRefusal}
+use Rattle.rules.specs.Record.{recordRows, recordRefusalOutcome}
 use Rattle.rules.specs.Board.{Clue, Board, boardOf}
 use Rattle.rules.specs.Drawing.{white, linkAt, blackAt}
 use Rattle.rules.specs.Walk.{loopCells, among}
@@ -39,15 +39,15 @@ module _ (b : Board) (ds : List ℕ) where
   badByteAt x = badByte (b .isOpen x) (getD ds x 0)
 
   -- black beside black to its east or south
-  abbrev pub touchingAt : ℕ → Bool
-  touchingAt x = blackAt ds x && (there (blackAt ds) (b .next east x) || there (blackAt ds) (b .next south x))
+  abbrev pub touchesAt : ℕ → Bool
+  touchesAt x = blackAt ds x && (there (blackAt ds) (b .next east x) || there (blackAt ds) (b .next south x))
 
   -- a link of x that is unmatched or off the board
-  abbrev pub loose : ℕ → Direction → Bool
-  loose x d = linkAt ds x d && not (there (λ y. linkAt ds y (opposite d)) (b .next d x))
+  abbrev pub unmatchedLink : ℕ → Direction → Bool
+  unmatchedLink x d = linkAt ds x d && not (there (λ y. linkAt ds y (opposite d)) (b .next d x))
 
-  abbrev pub looseAt : ℕ → Bool
-  looseAt x = loose x north || loose x east || loose x south || loose x west
+  abbrev pub unmatchedLinkAt : ℕ → Bool
+  unmatchedLinkAt x = unmatchedLink x north || unmatchedLink x east || unmatchedLink x south || unmatchedLink x west
 
   abbrev pub whiteAt : ℕ → Bool
   whiteAt x = white b (blackAt ds) x
@@ -83,7 +83,7 @@ module _ (b : Board) (ds : List ℕ) where
 
   -- 11: black beside black
   abbrev pub touching : Option ℕ
-  touching = firstWhere (touchingAt b ds) (b .size)
+  touching = firstWhere (touchesAt b ds) (b .size)
 
   -- 12: clue not met
   abbrev pub clueNotMet : Option ℕ
@@ -91,7 +91,7 @@ module _ (b : Board) (ds : List ℕ) where
 
   -- 13: link unmatched or off the board
   abbrev pub linkUnmatched : Option ℕ
-  linkUnmatched = firstWhere (looseAt b ds) (b .size)
+  linkUnmatched = firstWhere (unmatchedLinkAt b ds) (b .size)
 
   -- 14: white cell without exactly two links
   abbrev pub notTwoLinks : Option ℕ
@@ -113,23 +113,23 @@ module _ (b : Board) (ds : List ℕ) where
       []
 
 -- yes: there is nothing to tell beside it
-abbrev pub saysYes : Told
+abbrev pub saysYes : Outcome
 saysYes = answer 0 0 0
 
 -- judge 1-5, 7, 10-15
-abbrev pub judgeAnswer : List ℕ → List ℕ → Told
-judgeAnswer s ds = turnedDown (recordRows s ++ judgeRows (boardOf s) ds) saysYes
+abbrev pub judgeAnswer : List ℕ → List ℕ → Outcome
+judgeAnswer s ds = firstRefusal (recordRows s ++ judgeRows (boardOf s) ds) saysYes
 
-abbrev pub toldFault : Fault → Told
-toldFault (Record r) = toldRefusal r
-toldFault DrawingLength = refusal 7 0
-toldFault (DrawingByte x) = refusal 10 x
-toldFault (Touching x) = refusal 11 x
-toldFault (ClueNotMet x) = refusal 12 x
-toldFault (LinkUnmatched x) = refusal 13 x
-toldFault (NotTwoLinks x) = refusal 14 x
-toldFault (NotOneLoop x) = refusal 15 x
+abbrev pub judgeRefusalOutcome : JudgeRefusal → Outcome
+judgeRefusalOutcome (Record r) = recordRefusalOutcome r
+judgeRefusalOutcome DrawingLength = refusal 7 0
+judgeRefusalOutcome (DrawingByte x) = refusal 10 x
+judgeRefusalOutcome (Touching x) = refusal 11 x
+judgeRefusalOutcome (ClueNotMet x) = refusal 12 x
+judgeRefusalOutcome (LinkUnmatched x) = refusal 13 x
+judgeRefusalOutcome (NotTwoLinks x) = refusal 14 x
+judgeRefusalOutcome (NotOneLoop x) = refusal 15 x
 
-abbrev pub toldVerdict : Verdict → Told
-toldVerdict Yes = saysYes
-toldVerdict (No f) = toldFault f
+abbrev pub verdictOutcome : Verdict → Outcome
+verdictOutcome Yes = saysYes
+verdictOutcome (No f) = judgeRefusalOutcome f

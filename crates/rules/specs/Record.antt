@@ -5,9 +5,9 @@ use lib.Dec.{eqb, leb, ltb}
 use lib.ListN.{length, getD, drop}
 use mathlib.Core.Bool.{Bool, true, false, not, _&&_, _||_, cond}
 use mathlib.Core.List.{List, [], _∷_, map}
-use Rattle.answers.specs.declared.Told.{Told}
+use Rattle.answers.specs.declared.Outcome.{Outcome}
 use Rattle.answers.specs.First.{firstWhere}
-use Rattle.answers.specs.Told.{refusal, answer, Row, row, cause, turnedDown}
+use Rattle.answers.specs.Outcome.{refusal, answer, Row, row, cause, firstRefusal}
 use Rattle.rules.specs.declared.Direction.{Direction}
 use Rattle.rules.specs.declared.Direction.the-variants.{North as north, East as east, South as south, West as west}
 use Rattle.rules.specs.declared.Cell.{Cell}
@@ -15,8 +15,8 @@ use Rattle.rules.specs.declared.Cell.the-variants.{Open, Clue}
 use Rattle.rules.specs.declared.CellByte.{CellByte}
 use Rattle.rules.specs.declared.CellByte.the-variants.{Is, NotAllowed}
 use Rattle.rules.specs.declared.Grid.{Grid}
-use Rattle.rules.specs.declared.Refusal.{Refusal}
-use Rattle.rules.specs.declared.Refusal.the-variants.{Length, Kind, Side, Size, NotACell}
+use Rattle.rules.specs.declared.RecordRefusal.{RecordRefusal}
+use Rattle.rules.specs.declared.RecordRefusal.the-variants.{Length, Kind, Side, Size, NotACell}
 use Rattle.rules.specs.declared.Parsed.{Parsed}
 use Rattle.rules.specs.declared.Parsed.the-variants.{Accepted, Refused}
 
@@ -78,18 +78,18 @@ pub record Sides (g : Grid) : Type 0 where
   pub few : size g ≤ mostCells
 
 -- with a cell of it,
-pub record On (g : Grid) (x : ℕ) : Type 0 where
+pub record OnBoard (g : Grid) (x : ℕ) : Type 0 where
   pub sides : Sides g
   pub inside : x < size g
 
 -- with its record,
-pub record Held (g : Grid) (s : List ℕ) : Type 0 where
+pub record RecordFits (g : Grid) (s : List ℕ) : Type 0 where
   pub sides : Sides g
   pub long : length s ≡ 6 + size g
 
 -- and with a drawing of its size
-pub record Drawn (g : Grid) (s ds : List ℕ) : Type 0 where
-  pub held : Held g s
+pub record DrawingFits (g : Grid) (s ds : List ℕ) : Type 0 where
+  pub recordFits : RecordFits g s
   pub drawn : length ds ≡ size g
 
 -- 1: record under 6 bytes, or length field not the slice's
@@ -122,20 +122,20 @@ recordRows s =
     []
 
 -- what the record reader tells: rows and columns of an accepted record
-abbrev pub recordAnswer : List ℕ → Told
-recordAnswer s = turnedDown (recordRows s) (answer (sides s .rows) (sides s .columns) 0)
+abbrev pub recordAnswer : List ℕ → Outcome
+recordAnswer s = firstRefusal (recordRows s) (answer (sides s .rows) (sides s .columns) 0)
 
 -- a grid is accepted if the record reader doesn't turn it down
 abbrev pub IsAccepted : List ℕ → Type 0
 IsAccepted s = recordAnswer s .number ≡ 0
 
-abbrev pub toldRefusal : Refusal → Told
-toldRefusal Length = refusal 1 0
-toldRefusal Kind = refusal 2 0
-toldRefusal Side = refusal 3 0
-toldRefusal Size = refusal 4 0
-toldRefusal (NotACell x) = refusal 5 x
+abbrev pub recordRefusalOutcome : RecordRefusal → Outcome
+recordRefusalOutcome Length = refusal 1 0
+recordRefusalOutcome Kind = refusal 2 0
+recordRefusalOutcome Side = refusal 3 0
+recordRefusalOutcome Size = refusal 4 0
+recordRefusalOutcome (NotACell x) = refusal 5 x
 
-abbrev pub toldParsed : Parsed → Told
-toldParsed (Accepted g) = answer (g .rows) (g .columns) 0
-toldParsed (Refused r) = toldRefusal r
+abbrev pub parsedOutcome : Parsed → Outcome
+parsedOutcome (Accepted g) = answer (g .rows) (g .columns) 0
+parsedOutcome (Refused r) = recordRefusalOutcome r

@@ -3,7 +3,7 @@ ghost use mathlib.Core.Path.{_≡_};
 ghost use lib.ListN.{length};
 ghost use Rattle.answers.specs.First.{placed};
 ghost use Rattle.rules.specs.Directions.{opposite};
-ghost use Rattle.rules.specs.Record.{On, puzzle};
+ghost use Rattle.rules.specs.Record.{OnBoard, puzzle};
 ghost use Rattle.rules.specs.Board.{neighbour, line, nearest};
 ghost use Rattle.rules.specs.Walk.{go};
 use super::Direction;
@@ -23,7 +23,7 @@ pub fn opposite(d: Direction) -> Direction
 
 // The neighbour of a cell, if there is one.
 pub fn neighbour(g: Grid, x: usize, d: Direction) -> Place
-    requires { ⌜ On g x ⌝ }
+    requires { ⌜ OnBoard g x ⌝ }
     ensures { λ r. ⌜ placed r ≡ neighbour g d x ⌝ }
 {
     let rows = g.rows;
@@ -58,7 +58,7 @@ pub fn neighbour(g: Grid, x: usize, d: Direction) -> Place
 
 // The neighbour, or the cell itself where there is none.
 pub fn go(g: Grid, x: usize, d: Direction) -> usize
-    requires { ⌜ On g x ⌝ }
+    requires { ⌜ OnBoard g x ⌝ }
     ensures { λ r. ⌜ r ≡ go (neighbour g) d x ⌝ }
 {
     let p = neighbour(g, x, d);
@@ -78,7 +78,7 @@ pub struct End {
 
 // The end of the line that leaves x in a direction.
 pub fn line_end(g: Grid, record: &[u8], x: usize, d: Direction) -> End
-    requires { ⌜ On g x ⌝ }
+    requires { ⌜ OnBoard g x ⌝ }
     ensures { λ r. ⌜ r .cell ≡ nearest (line (puzzle g (now («record» .entry))) d x) x ⌝ }
     ensures { λ r. ⌜ r .cells ≡ length (line (puzzle g (now («record» .entry))) d x) ⌝ }
 {

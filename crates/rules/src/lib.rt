@@ -28,7 +28,7 @@ pub struct Grid {
 }
 
 // Why a record is turned down: 1 to 5 of document 01's table.
-pub enum Refusal {
+pub enum RecordRefusal {
     Length,
     Kind,
     Side,
@@ -38,12 +38,12 @@ pub enum Refusal {
 
 pub enum Parsed {
     Accepted(Grid),
-    Refused(Refusal),
+    Refused(RecordRefusal),
 }
 
 // Why a drawing is turned down: the record's refusal, else 7 and 10 to 15 of document 01's table.
-pub enum Fault {
-    Record(Refusal),
+pub enum JudgeRefusal {
+    Record(RecordRefusal),
     DrawingLength,
     DrawingByte(usize),
     Touching(usize),
@@ -56,9 +56,9 @@ pub enum Fault {
 
 pub enum Verdict {
     Yes,
-    No(Fault),
+    No(JudgeRefusal),
 }
 
 pub mod record; // the reader of a grid record
 pub mod board; // steps from cell to cell
-pub mod told; // what the answers tell
+pub mod outcome; // the outcomes in document 01's numbers

@@ -4,13 +4,13 @@ ghost use Prim.Native.Nat.{_+_, _<_};
 ghost use lib.ListN.{length, getD};
 ghost use Rattle.answers.specs.First.{firstWhere, placed};
 ghost use Rattle.rules.specs.declared.Cell.the-variants.{Open};
-ghost use Rattle.rules.specs.Record.{readCell, notAllowed, word, size, puzzle, isSide, wrongCell, Sides, Held, recordAnswer, toldParsed};
+ghost use Rattle.rules.specs.Record.{readCell, notAllowed, word, size, puzzle, isSide, wrongCell, Sides, RecordFits, recordAnswer, parsedOutcome};
 use super::Cell;
 use super::CellByte;
 use super::Direction;
 use super::Grid;
 use super::Parsed;
-use super::Refusal;
+use super::RecordRefusal;
 use answers::Place;
 
 // The cell of a byte: 0 is open; the upper four bits of a clue tell the direction, the lower four the number.
@@ -40,7 +40,7 @@ impl Grid {
 
     // The cell numbered x.
     pub fn cell(self, record: &[u8], x: usize) -> Cell
-        requires { ⌜ Held self (now «record») ⌝ }
+        requires { ⌜ RecordFits self (now «record») ⌝ }
         requires { ⌜ x < size self ⌝ }
         ensures { λ r. ⌜ r ≡ getD (puzzle self (now («record» .entry)) .cells) x Open ⌝ }
     {
@@ -64,7 +64,7 @@ fn not_allowed(b: u8) -> bool
 
 // The first cell whose byte is not allowed.
 fn wrong_cell(g: Grid, record: &[u8]) -> Place
-    requires { ⌜ Held g (now «record») ⌝ }
+    requires { ⌜ RecordFits g (now «record») ⌝ }
     ensures { λ r. ⌜ placed r ≡ firstWhere (wrongCell (now («record» .entry))) (size g) ⌝ }
 {
     let n = g.size();
@@ -100,36 +100,36 @@ fn is_side(n: usize) -> bool
 
 // Refusals 1 to 5, in order.
 pub fn read(record: &[u8]) -> Parsed
-    ensures { λ r. ⌜ toldParsed r ≡ recordAnswer (now («record» .entry)) ⌝ }
+    ensures { λ r. ⌜ parsedOutcome r ≡ recordAnswer (now («record» .entry)) ⌝ }
 {
     if record.len() < 6 {
-        return Parsed::Refused(Refusal::Length);
+        return Parsed::Refused(RecordRefusal::Length);
     }
     let length = word_at(record, 0);
     if length != record.len() {
-        return Parsed::Refused(Refusal::Length);
+        return Parsed::Refused(RecordRefusal::Length);
     }
     let kind = word_at(record, 2);
     if kind != 1 {
-        return Parsed::Refused(Refusal::Kind);
+        return Parsed::Refused(RecordRefusal::Kind);
     }
     let rows = record[4] as usize;
     let columns = record[5] as usize;
     let tall = is_side(rows);
     if !tall {
-        return Parsed::Refused(Refusal::Side);
+        return Parsed::Refused(RecordRefusal::Side);
     }
     let wide = is_side(columns);
     if !wide {
-        return Parsed::Refused(Refusal::Side);
+        return Parsed::Refused(RecordRefusal::Side);
     }
     if record.len() != 6 + rows * columns {
-        return Parsed::Refused(Refusal::Size);
+        return Parsed::Refused(RecordRefusal::Size);
     }
     let g = Grid { rows, columns };
     let p = wrong_cell(g, record);
     let Place::At(x) = p else {
         return Parsed::Accepted(g);
     };
-    Parsed::Refused(Refusal::NotACell(x))
+    Parsed::Refused(RecordRefusal::NotACell(x))
 }

@@ -11,7 +11,7 @@ use Rattle.rules.specs.declared.Direction.{Direction}
 use Rattle.answers.specs.Lists.{_∈_}
 use Rattle.rules.specs.Walk.{State, step, onward, around}
 use Rattle.rules_theory.specs.Loop.{walk}
-use Rattle.rules_theory.proofs.Listing.{listing, listing-has, listing-from}
+use Rattle.rules_theory.proofs.WhiteCells.{listing, listing-has, listing-from}
 use Rattle.rules_theory.proofs.Ring.{Ring, walk-good, other-other}
 use Rattle.rules_theory.proofs.Round.{Round}
 
@@ -23,8 +23,8 @@ module _ {size : ℕ} {go : Direction → ℕ → ℕ} {other : ℕ → Directio
   abbrev at : ℕ → State
   at k = walk go other u k
 
-  abbrev On : ℕ → Type 0
-  On x = OnRound go other u m x
+  abbrev OnBoard : ℕ → Type 0
+  OnBoard x = OnRound go other u m x
 
   home : at m .cell ≡ u .cell
   home = ap (λ (v : State). v .cell) (W .closed)
@@ -64,11 +64,11 @@ module _ {size : ℕ} {go : Direction → ℕ → ℕ} {other : ℕ → Directio
       by (suc k) h e n q = (k, omega arith, e)
 
   -- a cell of the walk, up to one step after the return
-  within : (k : ℕ) → k ≤ suc m → {x : ℕ} → at k .cell ≡ x → On x
+  within : (k : ℕ) → k ≤ suc m → {x : ℕ} → at k .cell ≡ x → OnBoard x
   unfolding walk
   within k h {x} e = by (ℕ-discrete k m) (ℕ-discrete k (suc m))
     where
-      by : Dec (k ≡ m) → Dec (k ≡ suc m) → On x
+      by : Dec (k ≡ m) → Dec (k ≡ suc m) → OnBoard x
       by (yes q) d = let l = W .long in (0, omega arith, sym home ∙ ap (λ n. at n .cell) (sym q) ∙ e)
       by (no p) (yes q) = (1, W .long, ap (λ (v : State). step go other v .cell) (sym (W .closed)) ∙ ap (λ n. at n .cell) (sym q) ∙ e)
       by (no p) (no q) = (k, omega arith, e)
@@ -83,9 +83,9 @@ module _ {size : ℕ} {go : Direction → ℕ → ℕ} {other : ℕ → Directio
     unfolding walk
     stays {x} d w h = by (later w)
       where
-        by : (k : ℕ) × (k < m) × (at (suc k) .cell ≡ x) → On (go d x)
+        by : (k : ℕ) × (k < m) × (at (suc k) .cell ≡ x) → OnBoard (go d x)
         by (k, l, e) = which (R .only _ _ d (walk-good R u good (suc k)) (rw e h))
           where
-            which : (d ≡ at (suc k) .way) ⊎ (d ≡ other (at (suc k) .cell) (at (suc k) .way)) → On (go d x)
+            which : (d ≡ at (suc k) .way) ⊎ (d ≡ other (at (suc k) .cell) (at (suc k) .way)) → OnBoard (go d x)
             which (inl q) = within (suc (suc k)) (omega arith) (λ t. go (sym q t) (e t))
             which (inr q) = within k (omega arith) (sym (behind k) ∙ (λ t. go (sym q t) (e t)))

@@ -3,14 +3,14 @@ use Prim.Native.Nat.{ℕ, _+_, _*_}
 use lib.ListN.{replicate}
 use mathlib.Core.Path.{_≡_, refl}
 use mathlib.Core.List.{List, [], _∷_, map}
-use Rattle.answers.specs.declared.Told.{Told}
+use Rattle.answers.specs.declared.Outcome.{Outcome}
 use Rattle.answers.specs.First.{firstFrom}
-use Rattle.answers.specs.Told.{refusal}
+use Rattle.answers.specs.Outcome.{refusal}
 use Rattle.rules.specs.Record.{recordAnswer}
 
 pub record ReaderCase : Type 0 where
   pub bytes : List ℕ
-  pub says : Told
+  pub says : Outcome
 
 -- a record of kind 1 with these sides and cells; its length is below 256
 abbrev recordOf : ℕ → ℕ → List ℕ → ℕ → List ℕ

@@ -4,11 +4,11 @@ pub mod Finite
 pub mod Directions
 pub mod Ring
 pub mod Round
-pub mod Listing
+pub mod WhiteCells
 pub mod Around
 pub mod Loop
 pub mod Whole
 pub mod Bytes
-pub mod Judging
-pub mod Telling
+pub mod JudgeExact
+pub mod Outcomes
 pub mod Cases

@@ -6,35 +6,35 @@ use mathlib.Core.Bool.{Bool, true, false}
 use mathlib.Core.Logic.{_↔_}
 use mathlib.Core.Option.{Option}
 use mathlib.Core.List.{List}
-use Rattle.answers.specs.declared.Told.{Told}
+use Rattle.answers.specs.declared.Outcome.{Outcome}
 use Rattle.answers.specs.First.{Least}
-use Rattle.answers.specs.Told.{turnedDown}
-use Rattle.answers.proofs.Rows.{turned-append}
+use Rattle.answers.specs.Outcome.{firstRefusal}
+use Rattle.answers.proofs.Rows.{refusals-append}
 use Rattle.rules.specs.declared.Direction.{Direction}
 use Rattle.rules.specs.declared.Direction.the-variants.{North as north, East as east, South as south, West as west}
 use Rattle.rules.specs.declared.Parsed.{Parsed}
 use Rattle.rules.specs.declared.Verdict.{Verdict}
-use Rattle.rules.specs.Record.{recordRows, IsAccepted, toldParsed}
+use Rattle.rules.specs.Record.{recordRows, IsAccepted, parsedOutcome}
 use Rattle.rules.specs.Board.{Board, boardOf}
 use Rattle.rules.specs.Drawing.{Drawing, white, Links, Solution, SolutionBytes}
-use Rattle.rules.specs.Judge.{judgeRows, judgeAnswer, saysYes, toldVerdict}
+use Rattle.rules.specs.Judge.{judgeRows, judgeAnswer, saysYes, verdictOutcome}
 use Rattle.rules.proofs.Boards.{Wired, Laws}
 use Rattle.rules_theory.specs.Loop.{WholeLoop, Looped}
 use Rattle.answers.proofs.Rows.{answered-clear, clear-answered}
 use Rattle.rules.proofs.Records as records
-use Rattle.rules_theory.proofs.Judging.{clear-solution, solution-clear}
+use Rattle.rules_theory.proofs.JudgeExact.{clear-solution, solution-clear}
 use Rattle.rules_theory.proofs.Loop.{first-north, first-east, first-south, first-west}
 use Rattle.rules_theory.proofs.Whole as whole
-use Rattle.rules_theory.proofs.Telling as telling
+use Rattle.rules_theory.proofs.Outcomes as telling
 
 -- An accepted record's board has the laws of a board: a step stays inside and leads back, open cells and lines are on it, and so on.
 pub accepted-laws : (s : List ℕ) → IsAccepted s → Laws (boardOf s)
 accepted-laws = records.accepted-laws
 
 -- The judge says yes exactly of a solution. First of any board with the laws ..
-pub judge-right-on : {b : Board} → Laws b → (ds : List ℕ) → turnedDown (judgeRows b ds) saysYes ≡ saysYes ↔ SolutionBytes b ds
+pub judge-right-on : {b : Board} → Laws b → (ds : List ℕ) → firstRefusal (judgeRows b ds) saysYes ≡ saysYes ↔ SolutionBytes b ds
 judge-right-on {b} law ds = (
-  λ e. clear-solution law ds (answered-clear (judgeRows b ds) saysYes refl (ap (λ (t : Told). t .number) e)),
+  λ e. clear-solution law ds (answered-clear (judgeRows b ds) saysYes refl (ap (λ (t : Outcome). t .number) e)),
   λ S. clear-answered (judgeRows b ds) saysYes (solution-clear law ds S),
 )
 
@@ -42,12 +42,12 @@ judge-right-on {b} law ds = (
 pub judge-right : (s : List ℕ) → IsAccepted s → (ds : List ℕ) → judgeAnswer s ds ≡ saysYes ↔ SolutionBytes (boardOf s) ds
 judge-right s a ds = (λ e. right .0 (sym passed ∙ e), λ S. passed ∙ right .1 S)
   where
-    right : turnedDown (judgeRows (boardOf s) ds) saysYes ≡ saysYes ↔ SolutionBytes (boardOf s) ds
+    right : firstRefusal (judgeRows (boardOf s) ds) saysYes ≡ saysYes ↔ SolutionBytes (boardOf s) ds
     right = judge-right-on (accepted-laws s a) ds
 
     -- the record's rows turn nothing down
-    passed : judgeAnswer s ds ≡ turnedDown (judgeRows (boardOf s) ds) saysYes
-    passed = turned-append (recordRows s) (judgeRows (boardOf s) ds) saysYes ∙ clear-answered (recordRows s) _ (records.accepted-clear s a)
+    passed : judgeAnswer s ds ≡ firstRefusal (judgeRows (boardOf s) ds) saysYes
+    passed = refusals-append (recordRows s) (judgeRows (boardOf s) ds) saysYes ∙ clear-answered (recordRows s) _ (records.accepted-clear s a)
 
 -- The first white cell has its links to the east and the south, and none to the north or west.
 module _ {size : ℕ} {next : Direction → ℕ → Option ℕ} {white : ℕ → Bool} {link : ℕ → Direction → Bool} {s : ℕ} where
@@ -70,5 +70,5 @@ module _ {b : Board} (law : Laws b) {D : Drawing} (sol : Solution b D) where
     walk-steps = whole.looped (law .wired) (sol .links) first
 
 -- Document 01's numbers and values tell the answers apart: two verdicts that are told the same are the same, and two readings of a record likewise.
-pub told-one-to-one : ((v w : Verdict) → toldVerdict v ≡ toldVerdict w → v ≡ w) × ((p q : Parsed) → toldParsed p ≡ toldParsed q → p ≡ q)
-told-one-to-one = (telling.verdict-one-to-one, telling.parsed-one-to-one)
+pub outcome-one-to-one : ((v w : Verdict) → verdictOutcome v ≡ verdictOutcome w → v ≡ w) × ((p q : Parsed) → parsedOutcome p ≡ parsedOutcome q → p ≡ q)
+outcome-one-to-one = (telling.verdict-one-to-one, telling.parsed-one-to-one)

@@ -14,7 +14,7 @@ use Rattle.rules.specs.Drawing.{Links, Reach, here, along}
 use Rattle.rules.specs.Walk.{State, go, onto, start, loopCells, among}
 use Rattle.rules.proofs.Boards.{Wired}
 use Rattle.rules_theory.specs.Loop.{walk, pass, Linked, WholeLoop, Looped}
-use Rattle.rules_theory.proofs.Listing.{listing, listing-length, listing-at, listing-from, listing-apart, listing-chain, among-in, in-among}
+use Rattle.rules_theory.proofs.WhiteCells.{listing, listing-length, listing-at, listing-from, listing-apart, listing-chain, among-in, in-among}
 use Rattle.rules_theory.proofs.Round.{Round}
 use Rattle.rules_theory.proofs.Around.{around-is, round-in, in-round}
 use Rattle.rules_theory.proofs.Loop.{ring, loop, pass-linked, pass-steps, pass-white, pass-last, pass-last-step, reach-on, on-reach}

@@ -4,9 +4,9 @@ use lib.IntN.{ℤ, pos, negsuc}
 use lib.ListN.{replicate}
 use mathlib.Core.Path.{_≡_, refl}
 use mathlib.Core.List.{List, [], _∷_, map}
-use Rattle.answers.specs.declared.Told.{Told}
+use Rattle.answers.specs.declared.Outcome.{Outcome}
 use Rattle.answers.specs.First.{firstFrom}
-use Rattle.answers.specs.Told.{answer}
+use Rattle.answers.specs.Outcome.{answer}
 use Rattle.search.specs.Trail.{trailOf, variableValue}
 use Rattle.search.specs.Step.{everyLiteral, firstClause, forcedAt, failedClause, forcedPlace, lowestUnassigned, undo, step}
 use Rattle.search.specs.Run.{run, searchAnswer}
@@ -15,7 +15,7 @@ use Rattle.search.specs.Run.{run, searchAnswer}
 pub record Case : Type 0 where
   pub v : ℕ
   pub list : List ℤ
-  pub says : Told
+  pub says : Outcome
 
 abbrev pub cases : List Case
 cases =
@@ -25,7 +25,7 @@ cases =
     record { v = 0; list = []; says = answer 1 1 0 } ∷
     []
 
-abbrev pub fromEmpty : Case → Told
+abbrev pub fromEmpty : Case → Outcome
 fromEmpty c = searchAnswer (c .v) (c .list) (replicate (c .v) (pos 0)) (replicate (c .v) 0) 0 1000000
 
 pub cases-hold : map fromEmpty cases ≡ map (λ (c : Case). c .says) cases

@@ -3,11 +3,11 @@ use lib.IntN.{pos, negsuc}
 use mathlib.Core.Path.{_≡_, refl}
 use mathlib.Core.List.{[], _∷_}
 use Rattle.answers.specs.First.{firstFrom}
-use Rattle.answers.specs.Told.{refusal, answer}
+use Rattle.answers.specs.Outcome.{refusal, answer}
 use Rattle.search.specs.Trail.{laid, trailOf, variableValue}
 use Rattle.search.specs.Step.{everyLiteral, firstClause, forcedAt, failedClause, forcedPlace, lowestUnassigned, undo, step}
 use Rattle.search.specs.Run.{run, searchAnswer}
-use Rattle.search.specs.Following.{following, nextAnswer, nextTrail}
+use Rattle.search.specs.NextCall.{following, nextAnswer, nextTrail}
 
 -- a trail that is not full, with an entry beyond V: 18
 pub entries-first : nextAnswer 2 [] (pos 7 ∷ pos 0 ∷ []) (0 ∷ 0 ∷ []) 1 1 ≡ refusal 18 0

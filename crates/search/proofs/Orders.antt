@@ -3,7 +3,7 @@ use lib.IntN.{pos, negsuc}
 use mathlib.Core.Path.{_≡_, refl}
 use mathlib.Core.List.{[], _∷_}
 use Rattle.answers.specs.First.{firstFrom}
-use Rattle.answers.specs.Told.{refusal, answer}
+use Rattle.answers.specs.Outcome.{refusal, answer}
 use Rattle.search.specs.Trail.{laid, trailOf, variableValue}
 use Rattle.search.specs.Step.{everyLiteral, firstClause, forcedAt, failedClause, forcedPlace, lowestUnassigned, undo, step}
 use Rattle.search.specs.Run.{run, searchAnswer, trailAfter, marksAfter}

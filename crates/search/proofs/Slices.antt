@@ -7,7 +7,7 @@ use mathlib.Core.List.{List}
 use Rattle.search.specs.Trail.{Trail}
 use Rattle.search.specs.Step.{Next, Moved, AnsweredFound, AnsweredNone, undoes, step}
 use Rattle.search.specs.Run.{Ending, Found, None, Halted, Done, ends, oneMore, after, run}
-use Rattle.search.specs.Following.{following}
+use Rattle.search.specs.NextCall.{following}
 
 -- what a search comes to, n steps that were made before counted in
 abbrev pub counted : ℕ → Done → Done

@@ -3,4 +3,4 @@
 pub mod Trail
 pub mod Step
 pub mod Run
-pub mod Following
+pub mod NextCall

@@ -8,10 +8,10 @@ use mathlib.Core.Path.{_≡_}
 use mathlib.Core.Option.{none}
 use mathlib.Core.List.{List, [], _∷_}
 use Rattle.answers.specs.Lists.{All}
-use Rattle.answers.specs.declared.Told.{Told}
+use Rattle.answers.specs.declared.Outcome.{Outcome}
 use Rattle.answers.specs.First.{firstWhere}
-use Rattle.answers.specs.Told.{answer, Row, row, cause, turnedDown}
-use Rattle.answers.specs.Lent.{leaves}
+use Rattle.answers.specs.Outcome.{answer, Row, row, cause, firstRefusal}
+use Rattle.answers.specs.Lent.{unlessRefused}
 use Rattle.cnf.specs.Literals.{closes, tooManyVariables, beyond, wrongList}
 use Rattle.search.specs.Trail.{Entry, Trail, trailImage, marksImage, entryAt, trailOf, isUnassigned, variableValue}
 use Rattle.search.specs.Step.{Next, Moved, AnsweredFound, AnsweredNone, step}
@@ -74,20 +74,20 @@ endingNumber None = 2
 endingNumber Halted = 3
 
 -- found 1, none 2, halted 3; the steps that this call made; the used count
-abbrev pub toldDone : Done → Told
-toldDone d = answer (endingNumber (d .ending)) (d .steps) (length (d .trail))
+abbrev pub doneOutcome : Done → Outcome
+doneOutcome d = answer (endingNumber (d .ending)) (d .steps) (length (d .trail))
 
 module _ (v : ℕ) (ls ts : List ℤ) (ms : List ℕ) (used budget : ℕ) where
   -- the search begins at the trail handed in
   abbrev pub searched : Done
   searched = run v ls budget (trailOf ts ms used)
 
-  abbrev pub searchAnswer : Told
-  searchAnswer = turnedDown (searchRows v ls ts ms used) (toldDone searched)
+  abbrev pub searchAnswer : Outcome
+  searchAnswer = firstRefusal (searchRows v ls ts ms used) (doneOutcome searched)
 
   -- what the call leaves in the two buffers: the trail at which it ends
   abbrev pub trailAfter : List ℤ
-  trailAfter = leaves searchAnswer ts (trailImage v (searched .trail))
+  trailAfter = unlessRefused searchAnswer ts (trailImage v (searched .trail))
 
   abbrev pub marksAfter : List ℕ
-  marksAfter = leaves searchAnswer ms (marksImage v (searched .trail))
+  marksAfter = unlessRefused searchAnswer ms (marksImage v (searched .trail))

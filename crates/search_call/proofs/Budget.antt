@@ -5,50 +5,50 @@ use lib.IntN.{ℤ}
 use lib.ListN.{length}
 use mathlib.Core.Path.{_≡_, refl, sym, _∙_, ap, subst}
 use mathlib.Core.List.{List}
-use Rattle.answers.specs.Told.{answer}
+use Rattle.answers.specs.Outcome.{answer}
 use Rattle.search.specs.Step.{Next, step}
-use Rattle.search.specs.Run.{Ending, Found, None, Halted, Done, ends, after, endingNumber, toldDone, run}
+use Rattle.search.specs.Run.{Ending, Found, None, Halted, Done, ends, after, endingNumber, doneOutcome, run}
 use Rattle.search.proofs.Trails.{length-trail}
 use Rattle.search.proofs.Slices.{counted}
-use Rattle.search_scan.specs.Held.{lows}
-use Rattle.search_trail.specs.Running.{heldTrail, Running}
+use Rattle.search_scan.specs.PackedValues.{bareMarks}
+use Rattle.search_trail.specs.Packed.{packedTrail, Packed}
 use Rattle.search_step.specs.declared.Stepped.{Stepped}
 use Rattle.search_step.specs.declared.Stepped.the-variants.{MovedTo, Found as SaysFound, None as SaysNone}
-use Rattle.search_step.specs.Stepping.{Listed, nextOf, Steps}
-use Rattle.search_step.proofs.Choosing.{Standing}
+use Rattle.search_step.specs.Steps.{ListFits, nextOf, Steps}
+use Rattle.search_step.proofs.Chosen.{Standing}
 use Rattle.search_call.specs.declared.Answer.{Answer}
 use Rattle.search_call.specs.declared.Answer.the-variants.{Found as FoundAt, None as NoneAt, Halted as HaltedAt}
-use Rattle.search_call.specs.Answers.{toldAnswer, usedOf}
+use Rattle.search_call.specs.Answers.{answerOutcome, usedOf}
 use Rattle.search_call.specs.Runs.{Ran}
 
 -- n steps are made, and the rest of the budget leads to where the whole leads
 pub record Going (ls : List ℤ) (budget : ℕ) (ts₀ : List ℤ) (ms₀ : List ℕ) (first : ℕ) (ts : List ℤ) (ms : List ℕ) (used n : ℕ) : Type 0 where
   pub early : n ≤ budget
-  pub listed : Listed (length ms₀) ls
-  pub running : Running (length ms₀) ts ms used
-  pub rest : counted n (run (length ms₀) ls (budget - n) (heldTrail ts ms used)) ≡ run (length ms₀) ls budget (heldTrail ts₀ ms₀ first)
+  pub listed : ListFits (length ms₀) ls
+  pub running : Packed (length ms₀) ts ms used
+  pub rest : counted n (run (length ms₀) ls (budget - n) (packedTrail ts ms used)) ≡ run (length ms₀) ls budget (packedTrail ts₀ ms₀ first)
 
-pub go-start : {ls : List ℤ} {budget : ℕ} {ts : List ℤ} {ms : List ℕ} {first : ℕ} → Running (length ms) ts ms first → Listed (length ms) ls → Going ls budget ts ms first ts ms first 0
+pub go-start : {ls : List ℤ} {budget : ℕ} {ts : List ℤ} {ms : List ℕ} {first : ℕ} → Packed (length ms) ts ms first → ListFits (length ms) ls → Going ls budget ts ms first ts ms first 0
 go-start {ls} {budget} {ts} {ms} {first} r k =
-    let d : Done = run (length ms) ls budget (heldTrail ts ms first) in
+    let d : Done = run (length ms) ls budget (packedTrail ts ms first) in
     let z : 0 + d .steps ≡ d .steps = omega arith in
-    record { early = omega arith; listed = k; running = r; rest = ap (λ (b : ℕ). counted 0 (run (length ms) ls b (heldTrail ts ms first))) (omega arith) ∙ ap (λ (n : ℕ). ends (d .ending) n (d .trail)) z }
+    record { early = omega arith; listed = k; running = r; rest = ap (λ (b : ℕ). counted 0 (run (length ms) ls b (packedTrail ts ms first))) (omega arith) ∙ ap (λ (n : ℕ). ends (d .ending) n (d .trail)) z }
 
 module _ {ls : List ℤ} {budget : ℕ} {ts₀ : List ℤ} {ms₀ : List ℕ} {first : ℕ} {ts : List ℤ} {ms : List ℕ} {used n : ℕ} (g : Going ls budget ts₀ ms₀ first ts ms used n) where
   abbrev whole : Done
-  whole = run (length ms₀) ls budget (heldTrail ts₀ ms₀ first)
+  whole = run (length ms₀) ls budget (packedTrail ts₀ ms₀ first)
 
   pub go-standing : Standing ls ts ms used
-  go-standing = let e = sym (g .running .bytes) in record { running = subst (λ (v : ℕ). Running v ts ms used) e (g .running); listed = subst (λ (v : ℕ). Listed v ls) e (g .listed) }
+  go-standing = let e = sym (g .running .bytes) in record { running = subst (λ (v : ℕ). Packed v ts ms used) e (g .running); listed = subst (λ (v : ℕ). ListFits v ls) e (g .listed) }
 
   -- an answer, with the trail as it is in us, ns
-  answers : {us : List ℤ} {ns : List ℕ} {m : ℕ} (x : Ending) (r : Answer) → toldAnswer r ≡ answer (endingNumber x) m used → usedOf r ≡ used → Running (length ms₀) us ns used → heldTrail us ns used ≡ heldTrail ts ms used
-      → ends x m (heldTrail ts ms used) ≡ whole → Ran ls budget ts₀ ms₀ first r us ns
+  answers : {us : List ℤ} {ns : List ℕ} {m : ℕ} (x : Ending) (r : Answer) → answerOutcome r ≡ answer (endingNumber x) m used → usedOf r ≡ used → Packed (length ms₀) us ns used → packedTrail us ns used ≡ packedTrail ts ms used
+      → ends x m (packedTrail ts ms used) ≡ whole → Ran ls budget ts₀ ms₀ first r us ns
   answers {us} {ns} {m} x r t u k s e =
       record {
-        tells = t ∙ ap (answer (endingNumber x) m) (sym (length-trail ts (lows ms) used)) ∙ ap toldDone e;
-        trail = ap (heldTrail us ns) u ∙ s ∙ ap (λ (d : Done). d .trail) e;
-        running = subst (Running (length ms₀) us ns) (sym u) k;
+        tells = t ∙ ap (answer (endingNumber x) m) (sym (length-trail ts (bareMarks ms) used)) ∙ ap doneOutcome e;
+        trail = ap (packedTrail us ns) u ∙ s ∙ ap (λ (d : Done). d .trail) e;
+        running = subst (Packed (length ms₀) us ns) (sym u) k;
       }
 
   pub go-over : budget ≤ n → Ran ls budget ts₀ ms₀ first (HaltedAt (record { steps = n; used = used })) ts ms
@@ -60,20 +60,20 @@ module _ {ls : List ℤ} {budget : ℕ} {ts₀ : List ℤ} {ms₀ : List ℕ} {f
 
   module _ (h : n < budget) {r : Stepped} {us : List ℤ} {ns : List ℕ} (s : Steps ts ms used (step (length ms) ls) r us ns) where
     -- one step is made of what is left
-    next : counted n (after (nextOf r us ns) (heldTrail ts ms used) (λ u. run (length ms₀) ls (budget - (n + 1)) u)) ≡ whole
+    next : counted n (after (nextOf r us ns) (packedTrail ts ms used) (λ u. run (length ms₀) ls (budget - (n + 1)) u)) ≡ whole
     unfolding run
     next =
         let z : budget - n ≡ suc (budget - (n + 1)) = omega arith in
-        let e = s .says ∙ ap (λ (v : ℕ). step v ls (heldTrail ts ms used)) (g .running .bytes) in
-        ap (λ (x : Next). counted n (after x (heldTrail ts ms used) (λ u. run (length ms₀) ls (budget - (n + 1)) u))) e ∙ (rw z at (g .rest))
+        let e = s .says ∙ ap (λ (v : ℕ). step v ls (packedTrail ts ms used)) (g .running .bytes) in
+        ap (λ (x : Next). counted n (after x (packedTrail ts ms used) (λ u. run (length ms₀) ls (budget - (n + 1)) u))) e ∙ (rw z at (g .rest))
 
   module _ (h : n < budget) {us : List ℤ} {ns : List ℕ} where
-    kept : {used₁ : ℕ} → Running (length ms) us ns used₁ → Running (length ms₀) us ns used₁
-    kept {used₁} k = subst (λ (v : ℕ). Running v us ns used₁) (g .running .bytes) k
+    kept : {used₁ : ℕ} → Packed (length ms) us ns used₁ → Packed (length ms₀) us ns used₁
+    kept {used₁} k = subst (λ (v : ℕ). Packed v us ns used₁) (g .running .bytes) k
 
     moves : {u : ℕ} → Steps ts ms used (step (length ms) ls) (MovedTo u) us ns → Going ls budget ts₀ ms₀ first us ns u (n + 1)
     moves {u} s =
-        let d : Done = run (length ms₀) ls (budget - (n + 1)) (heldTrail us ns u) in
+        let d : Done = run (length ms₀) ls (budget - (n + 1)) (packedTrail us ns u) in
         let z : n + 1 + d .steps ≡ n + suc (d .steps) = omega arith in
         record { early = omega arith; listed = g .listed; running = kept (s .running); rest = ap (λ (m : ℕ). ends (d .ending) m (d .trail)) z ∙ next h s }
 

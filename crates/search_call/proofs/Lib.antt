@@ -1,3 +1,3 @@
 -- Laws of the search in code. Budget: the loop. Calling: the whole call.
 pub mod Budget
-pub mod Calling
+pub mod Calls

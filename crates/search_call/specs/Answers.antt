@@ -1,21 +1,21 @@
 -- What the answers of the search tell, in document 01's numbers.
 use Prim.Native.Nat.{ℕ}
-use Rattle.answers.specs.declared.Told.{Told}
-use Rattle.answers.specs.Told.{refusal, answer}
+use Rattle.answers.specs.declared.Outcome.{Outcome}
+use Rattle.answers.specs.Outcome.{refusal, answer}
 use Rattle.search_call.specs.declared.Answer.{Answer}
 use Rattle.search_call.specs.declared.Answer.the-variants.{Found, None, Halted, Lengths, List, Entry, Untrue}
 use Rattle.search_call.specs.declared.Checked.{Checked}
 use Rattle.search_call.specs.declared.Checked.the-variants.{Accepted, Refused}
 
 -- found 1, none 2, halted 3, with the steps that this call made and the used count; refusals 17, 16, 18, and 20 of `next`
-abbrev pub toldAnswer : Answer → Told
-toldAnswer (Found c) = answer 1 (c .steps) (c .used)
-toldAnswer (None c) = answer 2 (c .steps) (c .used)
-toldAnswer (Halted c) = answer 3 (c .steps) (c .used)
-toldAnswer Lengths = refusal 17 0
-toldAnswer (List i) = refusal 16 i
-toldAnswer (Entry i) = refusal 18 i
-toldAnswer Untrue = refusal 20 0
+abbrev pub answerOutcome : Answer → Outcome
+answerOutcome (Found c) = answer 1 (c .steps) (c .used)
+answerOutcome (None c) = answer 2 (c .steps) (c .used)
+answerOutcome (Halted c) = answer 3 (c .steps) (c .used)
+answerOutcome Lengths = refusal 17 0
+answerOutcome (List i) = refusal 16 i
+answerOutcome (Entry i) = refusal 18 i
+answerOutcome Untrue = refusal 20 0
 
 -- the used count of an answer; a refusal has none
 abbrev pub usedOf : Answer → ℕ
@@ -28,6 +28,6 @@ usedOf (Entry i) = 0
 usedOf Untrue = 0
 
 -- where they are accepted the call goes on
-abbrev pub checkedTells : Checked → Told → Told
+abbrev pub checkedTells : Checked → Outcome → Outcome
 checkedTells Accepted t = t
-checkedTells (Refused a) t = toldAnswer a
+checkedTells (Refused a) t = answerOutcome a

@@ -4,13 +4,13 @@ use lib.IntN.{ℤ}
 use lib.ListN.{length}
 use mathlib.Core.Path.{_≡_}
 use mathlib.Core.List.{List}
-use Rattle.search.specs.Run.{run, toldDone}
-use Rattle.search_trail.specs.Running.{heldTrail, Running}
+use Rattle.search.specs.Run.{run, doneOutcome}
+use Rattle.search_trail.specs.Packed.{packedTrail, Packed}
 use Rattle.search_call.specs.declared.Answer.{Answer}
-use Rattle.search_call.specs.Answers.{toldAnswer, usedOf}
+use Rattle.search_call.specs.Answers.{answerOutcome, usedOf}
 
 -- from the buffers ts, ms with a used count, the whole search is answered and held by us, ns
 pub record Ran (ls : List ℤ) (budget : ℕ) (ts : List ℤ) (ms : List ℕ) (used : ℕ) (r : Answer) (us : List ℤ) (ns : List ℕ) : Type 0 where
-  pub tells : toldAnswer r ≡ toldDone (run (length ms) ls budget (heldTrail ts ms used))
-  pub trail : heldTrail us ns (usedOf r) ≡ run (length ms) ls budget (heldTrail ts ms used) .trail
-  pub running : Running (length ms) us ns (usedOf r)
+  pub tells : answerOutcome r ≡ doneOutcome (run (length ms) ls budget (packedTrail ts ms used))
+  pub trail : packedTrail us ns (usedOf r) ≡ run (length ms) ls budget (packedTrail ts ms used) .trail
+  pub running : Packed (length ms) us ns (usedOf r)

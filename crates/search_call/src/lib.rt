@@ -1,16 +1,16 @@
 // The search: document 01's "Search", by its listed steps under a budget.
 ghost use mathlib.Core.Path.{_≡_};
 ghost use lib.ListN.{length};
-ghost use Rattle.answers.specs.declared.Told.{Told};
-ghost use Rattle.answers.specs.Told.{turnedDown};
+ghost use Rattle.answers.specs.declared.Outcome.{Outcome};
+ghost use Rattle.answers.specs.Outcome.{firstRefusal};
 ghost use Rattle.search.specs.Trail.{trailImage, marksImage};
-ghost use Rattle.search.specs.Run.{searchRows, IsAccepted, toldDone, searched, searchAnswer, trailAfter, marksAfter};
-ghost use Rattle.search_trail.specs.Running.{Running};
-ghost use Rattle.search_step.specs.Stepping.{Listed};
-ghost use Rattle.search_call.specs.Answers.{toldAnswer, usedOf, checkedTells};
+ghost use Rattle.search.specs.Run.{searchRows, IsAccepted, doneOutcome, searched, searchAnswer, trailAfter, marksAfter};
+ghost use Rattle.search_trail.specs.Packed.{Packed};
+ghost use Rattle.search_step.specs.Steps.{ListFits};
+ghost use Rattle.search_call.specs.Answers.{answerOutcome, usedOf, checkedTells};
 ghost use Rattle.search_call.specs.Runs.{Ran};
+use answers::Outcome;
 use answers::Place;
-use answers::Told;
 use answers::answered;
 use answers::refused;
 use cnf::wrong_list;
@@ -20,7 +20,7 @@ use search_step::Stepped;
 use search_step::step;
 use search_trail::clear_marks;
 use search_trail::clear_trail;
-use search_trail::load;
+use search_trail::pack_values;
 
 // The steps that this call made, and the used count.
 pub struct Count {
@@ -47,8 +47,8 @@ pub enum Checked {
 
 impl Answer {
     // Document 01's number, and the values.
-    pub fn told(self) -> Told
-        ensures { λ r. ⌜ r ≡ toldAnswer self ⌝ }
+    pub fn outcome(self) -> Outcome
+        ensures { λ r. ⌜ r ≡ answerOutcome self ⌝ }
     {
         match self {
             Answer::Found(c) => answered(1, c.steps, c.used as u64),
@@ -78,7 +78,7 @@ impl Answer {
 
 // 17, 16 and 18: the first cause against a list and a trail.
 pub fn check(variables: usize, list: &[i32], trail: &[i32], marks: &[u8], used: usize) -> Checked
-    ensures { λ r. ⌜ ((t : Told) → checkedTells r t ≡ turnedDown (searchRows variables (now (list .entry)) (now (trail .entry)) (now (marks .entry)) used) t) ⌝ }
+    ensures { λ r. ⌜ ((t : Outcome) → checkedTells r t ≡ firstRefusal (searchRows variables (now (list .entry)) (now (trail .entry)) (now (marks .entry)) used) t) ⌝ }
 {
     if wrong_lengths(variables, trail, marks, used) {
         return Checked::Refused(Answer::Lengths);
@@ -96,8 +96,8 @@ pub fn check(variables: usize, list: &[i32], trail: &[i32], marks: &[u8], used: 
 
 // Steps until one answers, or the budget is used up.
 fn run(list: &[i32], trail: &mut [i32], marks: &mut [u8], first: usize, budget: u64) -> Answer
-    requires { ⌜ Running (length (now marks)) (now trail) (now marks) first ⌝ }
-    requires { ⌜ Listed (length (now marks)) (now list) ⌝ }
+    requires { ⌜ Packed (length (now marks)) (now trail) (now marks) first ⌝ }
+    requires { ⌜ ListFits (length (now marks)) (now list) ⌝ }
     ensures { λ r. ⌜ Ran (now (list .entry)) budget (now (trail .entry)) (now (marks .entry)) first r (now (trail .exit)) (now (marks .exit)) ⌝ }
 {
     let mut used = first;
@@ -124,12 +124,12 @@ pub fn searched(
     budget: u64,
 ) -> Answer
     requires { ⌜ IsAccepted (length (now marks)) (now list) (now trail) (now marks) used ⌝ }
-    ensures { λ r. ⌜ toldAnswer r ≡ toldDone (searched (length (now (marks .entry))) (now (list .entry)) (now (trail .entry)) (now (marks .entry)) used budget) ⌝ }
+    ensures { λ r. ⌜ answerOutcome r ≡ doneOutcome (searched (length (now (marks .entry))) (now (list .entry)) (now (trail .entry)) (now (marks .entry)) used budget) ⌝ }
     ensures { λ r. ⌜ now (trail .exit) ≡ trailImage (length (now (marks .entry))) (searched (length (now (marks .entry))) (now (list .entry)) (now (trail .entry)) (now (marks .entry)) used budget .trail) ⌝ }
     ensures { λ r. ⌜ now (marks .exit) ≡ marksImage (length (now (marks .entry))) (searched (length (now (marks .entry))) (now (list .entry)) (now (trail .entry)) (now (marks .entry)) used budget .trail) ⌝ }
 {
     clear_marks(marks, used);
-    load(trail, marks, used);
+    pack_values(trail, marks, used);
     let answer = run(list, trail, marks, used, budget);
     let last = answer.used();
     clear_trail(trail, last);
@@ -146,7 +146,7 @@ pub fn search(
     used: usize,
     budget: u64,
 ) -> Answer
-    ensures { λ r. ⌜ toldAnswer r ≡ searchAnswer variables (now (list .entry)) (now (trail .entry)) (now (marks .entry)) used budget ⌝ }
+    ensures { λ r. ⌜ answerOutcome r ≡ searchAnswer variables (now (list .entry)) (now (trail .entry)) (now (marks .entry)) used budget ⌝ }
     ensures { λ r. ⌜ now (trail .exit) ≡ trailAfter variables (now (list .entry)) (now (trail .entry)) (now (marks .entry)) used budget ⌝ }
     ensures { λ r. ⌜ now (marks .exit) ≡ marksAfter variables (now (list .entry)) (now (trail .entry)) (now (marks .entry)) used budget ⌝ }
 {

@@ -1,6 +1,6 @@
 -- Laws of the check of a trail. Bounds: the first place, or the bound. Entering: what is wrong with an entry. Meeting: turns of the loop that sets flags.
 -- Windows: the variables, window by window.
 pub mod Bounds
-pub mod Entering
-pub mod Meeting
+pub mod Entries
+pub mod Flags
 pub mod Windows

@@ -1,3 +1,3 @@
 -- Laws of the call `next` in code. Dropping: the drop and the search that goes on. Calling: the rows of the whole call.
-pub mod Dropping
-pub mod Calling
+pub mod Drop
+pub mod Calls

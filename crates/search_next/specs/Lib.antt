@@ -1,2 +1,2 @@
 -- The call `next` in code: how it counts.
-pub mod Counting
+pub mod Counts

@@ -12,7 +12,7 @@ use Rattle.cnf.specs.Literals.{closes, codeOf}
 use Rattle.cnf.proofs.Lists.{code-variable, code-closes}
 use Rattle.search.specs.Trail.{Value, True, False, Unassigned, isFalse, opposite, literalValue}
 use Rattle.search.specs.Step.{fails}
-use Rattle.search_scan.specs.Held.{held, Within}
+use Rattle.search_scan.specs.PackedValues.{packedValues, Within}
 
 -- a literal that was read, of a list within V: its code, and the number of its variable's value
 pub record Read (ms : List ℕ) (l : ℤ) (k n : ℕ) : Type 0 where
@@ -43,7 +43,7 @@ code-not l e z = code-closes l ∙ ne-eqb (codeOf l) 0 (λ q. z (e ∙ q))
 pub code-zero : {k : ℕ} (l : ℤ) → k ≡ codeOf l → k ≡ 0 → closes l ≡ true
 code-zero l e z = code-closes l ∙ eq-eqb (codeOf l) 0 (sym e ∙ z)
 
-pub read-value : {ms : List ℕ} {k n : ℕ} (l : ℤ) → Read ms l k n → literalValue (held ms) l ≡ codeValue k n
+pub read-value : {ms : List ℕ} {k n : ℕ} (l : ℤ) → Read ms l k n → literalValue (packedValues ms) l ≡ codeValue k n
 read-value {ms} {k} {n} l r = by l (r .code) (r .number) (r .some)
   where
     plus : (x : ℕ) (a b : Bool) → eqb x 1 ≡ a → eqb x 2 ≡ b → cond a True (cond b False Unassigned) ≡ cond b False (cond a True Unassigned)
@@ -59,7 +59,7 @@ read-value {ms} {k} {n} l r = by l (r .code) (r .number) (r .some)
     at : (m : ℕ) → k / 2 ≡ suc m → n ≡ getD ms (k / 2 - 1) 0 / 2 → getD ms m 0 / 2 ≡ n
     at m e f = let q : k / 2 - 1 ≡ m = omega arith in rw (← q) (sym f)
 
-    by : (l : ℤ) → k ≡ codeOf l → n ≡ getD ms (k / 2 - 1) 0 / 2 → (k ≡ 0 → ⊥) → literalValue (held ms) l ≡ codeValue k n
+    by : (l : ℤ) → k ≡ codeOf l → n ≡ getD ms (k / 2 - 1) 0 / 2 → (k ≡ 0 → ⊥) → literalValue (packedValues ms) l ≡ codeValue k n
     by (pos zero) e f z = absurd (z e)
     by (pos (suc m)) e f z =
         let b : k % 2 ≡ 0 = omega arith in
@@ -70,7 +70,7 @@ read-value {ms} {k} {n} l r = by l (r .code) (r .number) (r .some)
 
 -- a false literal, and one that is not
 module _ {ms : List ℕ} {k n : ℕ} (l : ℤ) (r : Read ms l k n) where
-  pub fails-is : fails (held ms) l ≡ eqb n (2 - k % 2)
+  pub fails-is : fails (packedValues ms) l ≡ eqb n (2 - k % 2)
   fails-is = ap isFalse (read-value l r) ∙ by (eqb n (2 - k % 2)) (eqb n (1 + k % 2))
     where
       by : (a c : Bool) → isFalse (cond a False (cond c True Unassigned)) ≡ a
@@ -78,8 +78,8 @@ module _ {ms : List ℕ} {k n : ℕ} (l : ℤ) (r : Read ms l k n) where
       by false true = refl
       by false false = refl
 
-  pub read-fails : n ≡ 2 - k % 2 → fails (held ms) l ≡ true
+  pub read-fails : n ≡ 2 - k % 2 → fails (packedValues ms) l ≡ true
   read-fails e = fails-is ∙ eq-eqb _ _ e
 
-  pub read-stands : (n ≡ 2 - k % 2 → ⊥) → fails (held ms) l ≡ false
+  pub read-stands : (n ≡ 2 - k % 2 → ⊥) → fails (packedValues ms) l ≡ false
   read-stands e = fails-is ∙ ne-eqb _ _ e

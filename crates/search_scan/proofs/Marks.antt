@@ -6,7 +6,7 @@ use borrow.Author.Tests.{eq-eqb, ne-eqb}
 use mathlib.Core.Path.{_≡_, refl}
 use mathlib.Core.Option.{none, some}
 use mathlib.Core.List.{List}
-use Rattle.search_scan.specs.Held.{lastMarked}
+use Rattle.search_scan.specs.PackedValues.{lastMarked}
 
 -- the last mark of the first `used` is the last of the first i
 pub record Backing (ms : List ℕ) (used i : ℕ) : Type 0 where

@@ -5,7 +5,7 @@ ghost use lib.ListN.{length, getD, drop};
 ghost use Rattle.answers.specs.First.{placed};
 ghost use Rattle.search.specs.Trail.{isUnassigned};
 ghost use Rattle.search.specs.Step.{failedClause, forcedPlace, lowestUnassigned};
-ghost use Rattle.search_scan.specs.Held.{valueOf, held, lastMarked, Within};
+ghost use Rattle.search_scan.specs.PackedValues.{valueOf, packedValues, lastMarked, Within};
 ghost use Rattle.search_scan.specs.Clause.{met, closed, clauseLength};
 use answers::Place;
 use cnf::closes_at;
@@ -46,7 +46,7 @@ fn after_clause(list: &[i32], i: usize) -> usize
 // Where the first failed clause begins. At the first literal that is not false the rest of its clause is passed over.
 pub fn first_failed(list: &[i32], marks: &[u8]) -> Place
     requires { ⌜ Within (length (now marks)) (now list) ⌝ }
-    ensures { λ r. ⌜ placed r ≡ failedClause (held (now (marks .entry))) (now (list .entry)) ⌝ }
+    ensures { λ r. ⌜ placed r ≡ failedClause (packedValues (now (marks .entry))) (now (list .entry)) ⌝ }
 {
     let mut start: usize = 0;
     let found: Place = 'clauses: loop {
@@ -112,7 +112,7 @@ impl Clause {
 // The place of the literal that the first clause to force one forces.
 pub fn forced_place(list: &[i32], marks: &[u8]) -> Place
     requires { ⌜ Within (length (now marks)) (now list) ⌝ }
-    ensures { λ r. ⌜ placed r ≡ forcedPlace (held (now (marks .entry))) (now (list .entry)) ⌝ }
+    ensures { λ r. ⌜ placed r ≡ forcedPlace (packedValues (now (marks .entry))) (now (list .entry)) ⌝ }
 {
     let mut clause = Clause::Fails;
     let mut i: usize = 0;
@@ -146,7 +146,7 @@ fn is_unassigned(byte: u8) -> bool
 
 // The lowest unassigned variable, by its index from 0.
 pub fn lowest_unassigned(marks: &[u8]) -> Place
-    ensures { λ r. ⌜ placed r ≡ lowestUnassigned (length (now (marks .entry))) (held (now (marks .entry))) ⌝ }
+    ensures { λ r. ⌜ placed r ≡ lowestUnassigned (length (now (marks .entry))) (packedValues (now (marks .entry))) ⌝ }
 {
     let mut i: usize = 0;
     while i < marks.len() {

@@ -1,3 +1,3 @@
 -- Laws of a step in code. Appending: an entry more, and undoing. Choosing: one step.
-pub mod Appending
-pub mod Choosing
+pub mod Append
+pub mod Chosen

@@ -1,2 +1,2 @@
 -- A step of the search in code: its contract.
-pub mod Stepping
+pub mod Steps

@@ -3,18 +3,18 @@ ghost use lib.IntN.{pos, negsuc};
 ghost use lib.ListN.{length, getD};
 ghost use Rattle.search.specs.Trail.{entry};
 ghost use Rattle.search.specs.Step.{undoes, step};
-ghost use Rattle.search_trail.specs.Running.{Running};
-ghost use Rattle.search_step.specs.Stepping.{Listed, Allows, appends, Steps};
+ghost use Rattle.search_trail.specs.Packed.{Packed};
+ghost use Rattle.search_step.specs.Steps.{ListFits, Allows, appends, Steps};
 use answers::Place;
 use cnf::put_not;
 use search_scan::first_failed;
 use search_scan::forced_place;
 use search_scan::last_mark;
 use search_scan::lowest_unassigned;
+use search_trail::assign;
 use search_trail::copy_at;
-use search_trail::enter;
-use search_trail::forget;
 use search_trail::negate_at;
+use search_trail::unassign;
 
 // After a step: the used count, or an answer.
 pub enum Stepped {
@@ -25,16 +25,16 @@ pub enum Stepped {
 
 // Undoes back to the last entry marked 1, negates it and marks it 0; if no mark is 1, the answer is "none".
 fn undo(trail: &mut [i32], marks: &mut [u8], used: usize) -> Stepped
-    requires { ⌜ Running (length (now marks)) (now trail) (now marks) used ⌝ }
+    requires { ⌜ Packed (length (now marks)) (now trail) (now marks) used ⌝ }
     ensures { λ r. ⌜ Steps (now (trail .entry)) (now (marks .entry)) used undoes r (now (trail .exit)) (now (marks .exit)) ⌝ }
 {
     let p = last_mark(marks, used);
     let Place::At(i) = p else {
         return Stepped::None;
     };
-    forget(trail, marks, used, i);
+    unassign(trail, marks, used, i);
     negate_at(trail, i);
-    enter(trail, marks, i, 0);
+    assign(trail, marks, i, 0);
     Stepped::MovedTo(i + 1)
 }
 
@@ -46,30 +46,30 @@ fn append_forced(
     used: usize,
     place: usize,
 ) -> Stepped
-    requires { ⌜ Running (length (now marks)) (now trail) (now marks) used ⌝ }
+    requires { ⌜ Packed (length (now marks)) (now trail) (now marks) used ⌝ }
     requires { ⌜ Allows (now trail) (now marks) used (entry (getD (now list) place (pos 0)) 0) ⌝ }
     ensures { λ r. ⌜ Steps (now (trail .entry)) (now (marks .entry)) used (appends (entry (getD (now (list .entry)) place (pos 0)) 0)) r (now (trail .exit)) (now (marks .exit)) ⌝ }
 {
     copy_at(trail, used, list, place);
-    enter(trail, marks, used, 0);
+    assign(trail, marks, used, 0);
     Stepped::MovedTo(used + 1)
 }
 
 // Appends a variable, by its index from 0, negated and marked 1.
 fn append_choice(trail: &mut [i32], marks: &mut [u8], used: usize, index: usize) -> Stepped
-    requires { ⌜ Running (length (now marks)) (now trail) (now marks) used ⌝ }
+    requires { ⌜ Packed (length (now marks)) (now trail) (now marks) used ⌝ }
     requires { ⌜ Allows (now trail) (now marks) used (entry (negsuc index) 1) ⌝ }
     ensures { λ r. ⌜ Steps (now (trail .entry)) (now (marks .entry)) used (appends (entry (negsuc index) 1)) r (now (trail .exit)) (now (marks .exit)) ⌝ }
 {
     put_not(trail, used, index + 1);
-    enter(trail, marks, used, 1);
+    assign(trail, marks, used, 1);
     Stepped::MovedTo(used + 1)
 }
 
 // One step does the first that applies.
 pub fn step(list: &[i32], trail: &mut [i32], marks: &mut [u8], used: usize) -> Stepped
-    requires { ⌜ Running (length (now marks)) (now trail) (now marks) used ⌝ }
-    requires { ⌜ Listed (length (now marks)) (now list) ⌝ }
+    requires { ⌜ Packed (length (now marks)) (now trail) (now marks) used ⌝ }
+    requires { ⌜ ListFits (length (now marks)) (now list) ⌝ }
     ensures { λ r. ⌜ Steps (now (trail .entry)) (now (marks .entry)) used (step (length (now (marks .entry))) (now (list .entry))) r (now (trail .exit)) (now (marks .exit)) ⌝ }
 {
     let failed = first_failed(list, marks);

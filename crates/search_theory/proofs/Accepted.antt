@@ -11,16 +11,16 @@ use mathlib.Core.Option.{Option, none, some, Option·some-ne-none}
 use mathlib.Core.List.{List}
 use Rattle.answers.specs.First.{firstWhere}
 use Rattle.answers.specs.Lists.{All}
-use Rattle.answers.specs.declared.Told.{Told}
-use Rattle.answers.specs.Told.{cause}
-use Rattle.answers.specs.Lent.{leaves}
+use Rattle.answers.specs.declared.Outcome.{Outcome}
+use Rattle.answers.specs.Outcome.{cause}
+use Rattle.answers.specs.Lent.{unlessRefused}
 use Rattle.answers.proofs.Bools.{or-neither}
 use Rattle.answers.proofs.First.{first-none, none-first, not-found}
 use Rattle.answers.proofs.Rows.{no-cause}
 use Rattle.cnf.specs.Literals.{tooManyVariables, beyondAt, unclosed, orElse}
 use Rattle.cnf.specs.Clauses.{split}
 use Rattle.search.specs.Trail.{Entry, Trail, laid, trailImage, marksImage, trailOf}
-use Rattle.search.specs.Run.{Done, toldDone, wrongLengths, wrongEntryAt, IsAccepted}
+use Rattle.search.specs.Run.{Done, doneOutcome, wrongLengths, wrongEntryAt, IsAccepted}
 use Rattle.search.proofs.Trails.{length-laid, read-image}
 use Rattle.search_theory.proofs.Lists.{Proper, proper-clauses}
 use Rattle.search_theory.proofs.Legal.{Legal, read-legal, legal-read}
@@ -71,12 +71,12 @@ module _ {v : ℕ} {ls ts : List ℤ} {ms : List ℕ} {used : ℕ} (ok : IsAccep
       (legal-length v t l) (subst (Legal v) (sym (read-image v t)) l)
 
   -- what a call that tells how it was done leaves in the buffers: read back, it is the trail at which it ended, and it is accepted again
-  module _ {told : Told} (d : Done) (e : told ≡ toldDone d) where
-    left-image : (leaves told ts (trailImage v (d .trail)) ≡ trailImage v (d .trail)) × (leaves told ms (marksImage v (d .trail)) ≡ marksImage v (d .trail))
-    left-image = (ap (λ t. leaves t ts (trailImage v (d .trail))) e, ap (λ t. leaves t ms (marksImage v (d .trail))) e)
+  module _ {outcome : Outcome} (d : Done) (e : outcome ≡ doneOutcome d) where
+    left-image : (unlessRefused outcome ts (trailImage v (d .trail)) ≡ trailImage v (d .trail)) × (unlessRefused outcome ms (marksImage v (d .trail)) ≡ marksImage v (d .trail))
+    left-image = (ap (λ t. unlessRefused t ts (trailImage v (d .trail))) e, ap (λ t. unlessRefused t ms (marksImage v (d .trail))) e)
 
-    pub left-read : trailOf (leaves told ts (trailImage v (d .trail))) (leaves told ms (marksImage v (d .trail))) (length (d .trail)) ≡ d .trail
+    pub left-read : trailOf (unlessRefused outcome ts (trailImage v (d .trail))) (unlessRefused outcome ms (marksImage v (d .trail))) (length (d .trail)) ≡ d .trail
     left-read = rw (left-image .0, left-image .1) (read-image v (d .trail))
 
-    pub left-again : Legal v (d .trail) → IsAccepted v ls (leaves told ts (trailImage v (d .trail))) (leaves told ms (marksImage v (d .trail))) (length (d .trail))
+    pub left-again : Legal v (d .trail) → IsAccepted v ls (unlessRefused outcome ts (trailImage v (d .trail))) (unlessRefused outcome ms (marksImage v (d .trail))) (length (d .trail))
     left-again l = rw (left-image .0, left-image .1) (accepted-image (d .trail) l)

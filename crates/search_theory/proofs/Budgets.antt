@@ -9,18 +9,18 @@ use borrow.Author.Tests.{eqb-true, eqb-false, eq-eqb}
 use mathlib.Core.Path.{_≡_, refl, sym, _∙_, ap, subst}
 use mathlib.Core.Bool.{Bool, true, false, cond}
 use mathlib.Core.List.{List, [], _∷_}
-use Rattle.answers.specs.declared.Told.{Told}
+use Rattle.answers.specs.declared.Outcome.{Outcome}
 use Rattle.answers.proofs.Bools.{and-both, other-half}
 use Rattle.search.specs.Trail.{Trail, trailOf}
-use Rattle.search.specs.Run.{Halted, Done, endingNumber, toldDone, searched}
-use Rattle.search.specs.Following.{following, followed}
+use Rattle.search.specs.Run.{Halted, Done, endingNumber, doneOutcome, searched}
+use Rattle.search.specs.NextCall.{following, followed}
 use Rattle.search.proofs.Endings.{same-ending}
 use Rattle.search.proofs.Slices.{counted, halted-on, ended-on, run-adds, following-adds}
 use Rattle.search_theory.specs.Calls.{Call, Following, goesOn, Start, Handed, hands}
 use Rattle.search_theory.specs.Budgets.{passedOn, inAll, isHalted, total, inSlices}
 use Rattle.search_theory.proofs.Calls.{comesTo}
-use Rattle.search_theory.proofs.Following.{next-halted-steps}
-use Rattle.search_theory.proofs.Taken.{Takes, searches, follows, done, leaving, handedAt, start, taken, handed, told, left, takes-on}
+use Rattle.search_theory.proofs.NextCall.{next-halted-steps}
+use Rattle.search_theory.proofs.Taken.{Takes, searches, follows, done, leaving, handedAt, start, taken, handed, outcome, left, takes-on}
 
 module _ {v : ℕ} {ls ts : List ℤ} {ms : List ℕ} {used : ℕ} where
   -- halted with a, what it comes to with a + b is what the call that goes on comes to, the steps made before counted in;
@@ -43,7 +43,7 @@ module _ {v : ℕ} {ls ts : List ℤ} {ms : List ℕ} {used : ℕ} where
   ended-adds (suc a) b (follows ok) n = following-adds v ls b a (trailOf ts ms used) ∙ ended-on v ls b (followed v ls ts ms used (suc a)) n
 
 -- The call is not turned down.
-module _ (v : ℕ) (ls : List ℤ) (s : Start) (a : ℕ) (ok : hands v ls s a .told .number ≡ 0) where
+module _ (v : ℕ) (ls : List ℤ) (s : Start) (a : ℕ) (ok : hands v ls s a .outcome .number ≡ 0) where
   abbrev d : Done
   d = done v ls (s .call) (s .trail) (s .marks) (s .used) a
 
@@ -51,50 +51,50 @@ module _ (v : ℕ) (ls : List ℤ) (s : Start) (a : ℕ) (ok : hands v ls s a .t
   takes = taken (s .call) a ok
 
   -- Halted with a: the call that goes on is not turned down,
-  module _ (e : hands v ls s a .told .first ≡ endingNumber Halted) (b : ℕ) where
+  module _ (e : hands v ls s a .outcome .first ≡ endingNumber Halted) (b : ℕ) where
     halted : d .ending ≡ Halted
-    halted = same-ending (d .ending) Halted (sym (ap (λ (t : Told). t .first) (told a takes)) ∙ e)
+    halted = same-ending (d .ending) Halted (sym (ap (λ (t : Outcome). t .first) (outcome a takes)) ∙ e)
 
     on-takes : Takes v ls (hands v ls s a .trail) (hands v ls s a .marks) (length (d .trail)) (goesOn (s .call) (d .steps))
     on-takes = takes-on a takes halted
 
     -- the call that goes on, by what was told
-    abbrev on : Told → Handed
+    abbrev on : Outcome → Handed
     on t = hands v ls (start (goesOn (s .call) (t .second)) (hands v ls s a .trail) (hands v ls s a .marks) (t .third)) b
 
-    pub goes-on : hands v ls (passedOn (s .call) (hands v ls s a)) b .told .number ≡ 0
-    goes-on = subst (λ (t : Told). on t .told .number ≡ 0) (sym (told a takes)) (ap (λ (t : Told). t .number) (told b on-takes))
+    pub goes-on : hands v ls (passedOn (s .call) (hands v ls s a)) b .outcome .number ≡ 0
+    goes-on = subst (λ (t : Outcome). on t .outcome .number ≡ 0) (sym (outcome a takes)) (ap (λ (t : Outcome). t .number) (outcome b on-takes))
 
     -- and with budget b it hands out what one call with a + b does, which counts the steps of both.
     pub adds-up : hands v ls s (a + b) ≡ inAll (hands v ls s a) (hands v ls (passedOn (s .call) (hands v ls s a)) b)
-    adds-up = subst (λ (t : Told). hands v ls s (a + b) ≡ inAll (leaving v s d t) (on t)) (sym (told a takes)) from-there
+    adds-up = subst (λ (t : Outcome). hands v ls s (a + b) ≡ inAll (leaving v s d t) (on t)) (sym (outcome a takes)) from-there
       where
-        from-there : hands v ls s (a + b) ≡ inAll (handedAt v d) (on (toldDone d))
+        from-there : hands v ls s (a + b) ≡ inAll (handedAt v d) (on (doneOutcome d))
         from-there =
             handed (a + b) takes ∙ ap (handedAt v) (halted-adds a b takes halted)
             ∙ ap (λ (t : Trail). inAll (handedAt v d) (handedAt v (comesTo (goesOn (s .call) (d .steps)) v ls b t))) (sym (left a takes)) ∙ ap (inAll (handedAt v d)) (sym (handed b on-takes))
 
   -- Not halted with a: a larger budget alters nothing.
-  pub unaltered : (hands v ls s a .told .first ≡ endingNumber Halted → ⊥) → (b : ℕ) → a ≤ b → hands v ls s b ≡ hands v ls s a
+  pub unaltered : (hands v ls s a .outcome .first ≡ endingNumber Halted → ⊥) → (b : ℕ) → a ≤ b → hands v ls s b ≡ hands v ls s a
   unaltered n b h =
       let sum : a + (b - a) ≡ b = omega arith in
-      let same = ended-adds a (b - a) takes (λ e. n (ap (λ (t : Told). t .first) (told a takes) ∙ ap endingNumber e)) in
+      let same = ended-adds a (b - a) takes (λ e. n (ap (λ (t : Outcome). t .first) (outcome a takes) ∙ ap endingNumber e)) in
       subst (λ k. hands v ls s k ≡ hands v ls s a) sum (handed (a + (b - a)) takes ∙ ap (handedAt v) same ∙ sym (handed a takes))
 
 -- In slices of any size, a call hands out what it does with all their budgets together.
-pub in-slices : (v : ℕ) (ls : List ℤ) (s : Start) (a : ℕ) (bs : List ℕ) → hands v ls s a .told .number ≡ 0 → inSlices v ls s a bs ≡ hands v ls s (total a bs)
+pub in-slices : (v : ℕ) (ls : List ℤ) (s : Start) (a : ℕ) (bs : List ℕ) → hands v ls s a .outcome .number ≡ 0 → inSlices v ls s a bs ≡ hands v ls s (total a bs)
 in-slices v ls s a [] ok = refl
-in-slices v ls s a (b ∷ bs) ok = by (isHalted (h .told)) refl (in-slices v ls (passedOn (s .call) h) b bs)
+in-slices v ls s a (b ∷ bs) ok = by (isHalted (h .outcome)) refl (in-slices v ls (passedOn (s .call) h) b bs)
   where
     h : Handed
     h = hands v ls s a
 
-    by : (x : Bool) → isHalted (h .told) ≡ x
-        → (hands v ls (passedOn (s .call) h) b .told .number ≡ 0 → inSlices v ls (passedOn (s .call) h) b bs ≡ hands v ls (passedOn (s .call) h) (total b bs))
+    by : (x : Bool) → isHalted (h .outcome) ≡ x
+        → (hands v ls (passedOn (s .call) h) b .outcome .number ≡ 0 → inSlices v ls (passedOn (s .call) h) b bs ≡ hands v ls (passedOn (s .call) h) (total b bs))
         → cond x (inAll h (inSlices v ls (passedOn (s .call) h) b bs)) h ≡ hands v ls s (a + total b bs)
     by true e rest =
-        let says = eqb-true _ _ (and-both (eqb (h .told .number) 0) _ e .1) in
+        let says = eqb-true _ _ (and-both (eqb (h .outcome .number) 0) _ e .1) in
         ap (inAll h) (rest (goes-on v ls s a ok says b)) ∙ sym (adds-up v ls s a ok says (total b bs))
     by false e rest =
-        let says = eqb-false _ _ (other-half (eqb (h .told .number) 0) _ e (eq-eqb _ 0 ok)) in
+        let says = eqb-false _ _ (other-half (eqb (h .outcome .number) 0) _ e (eq-eqb _ 0 ok)) in
         sym (unaltered v ls s a ok says (a + total b bs) (omega arith))

@@ -13,12 +13,12 @@ use Rattle.cnf.specs.Clauses.{split, Satisfies}
 use Rattle.search.specs.Trail.{Trail, variableValue, Turned, Open, valuesOf}
 use Rattle.search.specs.Step.{undo, undone}
 use Rattle.search.specs.Run.{Ending, Found, None, Halted, Done, ends, oneMore, after, run}
-use Rattle.search.specs.Following.{following}
+use Rattle.search.specs.NextCall.{following}
 use Rattle.search_theory.specs.Calls.{Call, Searching, Following, goesOn}
 use Rattle.search_theory.proofs.Lists.{Proper}
 use Rattle.search_theory.proofs.Legal.{Legal, AllAssigned}
-use Rattle.search_theory.proofs.Falling.{marked, number, number-more}
-use Rattle.search_theory.proofs.Undoing.{Undone, undo-some, undo-none}
+use Rattle.search_theory.proofs.Measure.{marked, number, number-more}
+use Rattle.search_theory.proofs.Undo.{Undone, undo-some, undo-none}
 use Rattle.search_theory.proofs.Runs.{Means, Ended, ended}
 use Rattle.search_theory.proofs.Orders.{Chosen, chosen-undo, chosen-run}
 

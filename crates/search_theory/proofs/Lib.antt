@@ -6,14 +6,14 @@ pub mod Values
 pub mod Legal
 pub mod Choices
 pub mod Full
-pub mod Falling
-pub mod Undoing
+pub mod Measure
+pub mod Undo
 pub mod Steps
 pub mod Runs
 pub mod Accepted
 pub mod Orders
 pub mod Calls
-pub mod Following
+pub mod NextCall
 pub mod Taken
 pub mod Budgets
 pub mod Listing

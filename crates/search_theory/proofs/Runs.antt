@@ -15,7 +15,7 @@ use Rattle.search.specs.Run.{Ending, Found, None, Halted, Done, ends, after, ru
 use Rattle.search_theory.proofs.Lists.{Proper}
 use Rattle.search_theory.proofs.Legal.{Legal, AllAssigned}
 use Rattle.search_theory.proofs.Choices.{choice-laws}
-use Rattle.search_theory.proofs.Falling.{number, number-more}
+use Rattle.search_theory.proofs.Measure.{number, number-more}
 use Rattle.search_theory.proofs.Steps.{Stepped, moved, exhausted, full, stepped}
 
 -- what an answer means: x of a search begun at t that ends at u, after n steps of a budget b

@@ -19,8 +19,8 @@ use Rattle.search_theory.proofs.Values.{literal-false}
 use Rattle.search_theory.proofs.Legal.{Right, Legal, AllAssigned, unassigned}
 use Rattle.search_theory.proofs.Choices.{Forces, Laws}
 use Rattle.search_theory.proofs.Full.{legal-length, literal-true}
-use Rattle.search_theory.proofs.Falling.{number, number-more, number-append}
-use Rattle.search_theory.proofs.Undoing.{undo-some, undo-none}
+use Rattle.search_theory.proofs.Measure.{number, number-more, number-append}
+use Rattle.search_theory.proofs.Undo.{undo-some, undo-none}
 
 -- a step's outcome
 pub data Stepped (v : ℕ) (ls : List ℤ) (t : Trail) : Next → Type 0 where

@@ -5,18 +5,18 @@ use lib.IntN.{ℤ}
 use lib.ListN.{length}
 use mathlib.Core.Path.{_≡_, sym, _∙_, ap, subst}
 use mathlib.Core.List.{List}
-use Rattle.answers.specs.declared.Told.{Told}
-use Rattle.answers.specs.Lent.{leaves}
+use Rattle.answers.specs.declared.Outcome.{Outcome}
+use Rattle.answers.specs.Lent.{unlessRefused}
 use Rattle.cnf.specs.Clauses.{Satisfies}
 use Rattle.search.specs.Trail.{trailImage, marksImage, trailOf, valuesOf}
-use Rattle.search.specs.Run.{Halted, Done, toldDone, searched, IsAccepted}
-use Rattle.search.specs.Following.{IsFollowed, following, followed, nextTrail, nextMarks}
+use Rattle.search.specs.Run.{Halted, Done, doneOutcome, searched, IsAccepted}
+use Rattle.search.specs.NextCall.{IsFollowed, following, followed, nextTrail, nextMarks}
 use Rattle.search.proofs.Trails.{length-trail}
 use Rattle.search_theory.specs.Calls.{Call, Searching, Following, goesOn, Start, Handed, tells, trailLeft, marksLeft, hands}
 use Rattle.search_theory.proofs.Accepted.{accepted-closed, accepted-proper, accepted-legal}
 use Rattle.search_theory.proofs.Calls.{comesTo, Came, came}
 use Rattle.search_theory.proofs.Theorems as search
-use Rattle.search_theory.proofs.Following as next
+use Rattle.search_theory.proofs.NextCall as next
 
 -- the call takes what it is handed
 pub data Takes (v : ℕ) (ls ts : List ℤ) (ms : List ℕ) (used : ℕ) : Call → Type 0 where
@@ -28,12 +28,12 @@ abbrev pub done : ℕ → List ℤ → Call → List ℤ → List ℕ → ℕ �
 done v ls c ts ms used budget = comesTo c v ls budget (trailOf ts ms used)
 
 -- what a call hands out that tells t and comes to d,
-abbrev pub leaving : ℕ → Start → Done → Told → Handed
-leaving v s d t = record { told = t; trail = leaves t (s .trail) (trailImage v (d .trail)); marks = leaves t (s .marks) (marksImage v (d .trail)) }
+abbrev pub leaving : ℕ → Start → Done → Outcome → Handed
+leaving v s d t = record { outcome = t; trail = unlessRefused t (s .trail) (trailImage v (d .trail)); marks = unlessRefused t (s .marks) (marksImage v (d .trail)) }
 
 -- not turned down
 abbrev pub handedAt : ℕ → Done → Handed
-handedAt v d = record { told = toldDone d; trail = trailImage v (d .trail); marks = marksImage v (d .trail) }
+handedAt v d = record { outcome = doneOutcome d; trail = trailImage v (d .trail); marks = marksImage v (d .trail) }
 
 abbrev pub start : Call → List ℤ → List ℕ → ℕ → Start
 start c ts ms used = record { call = c; trail = ts; marks = ms; used = used }
@@ -53,11 +53,11 @@ module _ {v : ℕ} {ls ts : List ℤ} {ms : List ℕ} {used : ℕ} where
     comes {c} ok = let acc = accepts ok in came (accepted-closed acc) (accepted-proper acc) c (trailOf ts ms used) budget (accepted-legal acc)
 
     pub handed : {c : Call} → Takes v ls ts ms used c → hands v ls (start c ts ms used) budget ≡ handedAt v (done v ls c ts ms used budget)
-    handed (searches ok) = ap (leaving v (start Searching ts ms used) (searched v ls ts ms used budget)) (search.told ok budget)
-    handed (follows ok) = ap (leaving v (start Following ts ms used) (followed v ls ts ms used budget)) (next.next-told ok budget)
+    handed (searches ok) = ap (leaving v (start Searching ts ms used) (searched v ls ts ms used budget)) (search.outcome ok budget)
+    handed (follows ok) = ap (leaving v (start Following ts ms used) (followed v ls ts ms used budget)) (next.next-outcome ok budget)
 
-    pub told : {c : Call} → Takes v ls ts ms used c → tells v ls c ts ms used budget ≡ toldDone (done v ls c ts ms used budget)
-    told ok = ap (λ (h : Handed). h .told) (handed ok)
+    pub outcome : {c : Call} → Takes v ls ts ms used c → tells v ls c ts ms used budget ≡ doneOutcome (done v ls c ts ms used budget)
+    outcome ok = ap (λ (h : Handed). h .outcome) (handed ok)
 
     pub left : {c : Call} → Takes v ls ts ms used c
         → trailOf (trailLeft v ls c ts ms used budget) (marksLeft v ls c ts ms used budget) (length (done v ls c ts ms used budget .trail)) ≡ done v ls c ts ms used budget .trail

@@ -9,14 +9,14 @@ use mathlib.Core.Path.{_≡_, refl, ap}
 use mathlib.Core.Bool.{Bool}
 use mathlib.Core.Logic.{_⊎_, inl, inr, _↔_}
 use mathlib.Core.List.{List}
-use Rattle.answers.specs.declared.Told.{Told}
+use Rattle.answers.specs.declared.Outcome.{Outcome}
 use Rattle.answers.proofs.Rows.{answered-clear, clear-answered}
 use Rattle.search.specs.Trail.{Trail, trailOf}
-use Rattle.search.specs.Run.{Ending, Found, None, Halted, Done, searchRows, IsAccepted, toldDone, searched, searchAnswer, trailAfter, marksAfter}
+use Rattle.search.specs.Run.{Ending, Found, None, Halted, Done, searchRows, IsAccepted, doneOutcome, searched, searchAnswer, trailAfter, marksAfter}
 use Rattle.search.proofs.Trails.{length-trail}
 use Rattle.search_theory.specs.Openings.{OpenAt, NoneOpenAt, OneAssignment, FoundOne}
 use Rattle.search_theory.proofs.Full.{full-length, length-full, one-assignment}
-use Rattle.search_theory.proofs.Falling.{number, number-most}
+use Rattle.search_theory.proofs.Measure.{number, number-most}
 use Rattle.search_theory.proofs.Runs.{Means, Ended, ended}
 use Rattle.search_theory.proofs.Accepted.{accepted-closed, accepted-proper, accepted-legal, left-read, left-again}
 
@@ -24,8 +24,8 @@ module _ (v : ℕ) (ls ts : List ℤ) (ms : List ℕ) (used budget : ℕ) where
   -- A list and a trail, with their V, are accepted exactly if the search call that gets them doesn't turn them down.
   pub accepted : IsAccepted v ls ts ms used ↔ searchAnswer v ls ts ms used budget .number ≡ 0
   accepted = (
-    λ ok. ap (λ (t : Told). t .number) (clear-answered (searchRows v ls ts ms used) _ (ok .clear)),
-    λ e. record { clear = answered-clear (searchRows v ls ts ms used) (toldDone (searched v ls ts ms used budget)) refl e },
+    λ ok. ap (λ (t : Outcome). t .number) (clear-answered (searchRows v ls ts ms used) _ (ok .clear)),
+    λ e. record { clear = answered-clear (searchRows v ls ts ms used) (doneOutcome (searched v ls ts ms used budget)) refl e },
   )
 
 -- An accepted trail with all V entries used is one assignment.
@@ -46,16 +46,16 @@ module _ {v : ℕ} {ls ts : List ℤ} {ms : List ℕ} {used : ℕ} (ok : IsAccep
   result = ended (accepted-closed ok) (accepted-proper ok) begins budget (accepted-legal ok)
 
   -- Answer, steps and used count are told, and the trail's image is left in the buffers:
-  pub told : searchAnswer v ls ts ms used budget ≡ toldDone done
-  told = clear-answered (searchRows v ls ts ms used) _ (ok .clear)
+  pub outcome : searchAnswer v ls ts ms used budget ≡ doneOutcome done
+  outcome = clear-answered (searchRows v ls ts ms used) _ (ok .clear)
 
   -- read back, it is the trail at which the search ends,
   pub left : trailOf (trailAfter v ls ts ms used budget) (marksAfter v ls ts ms used budget) (length (done .trail)) ≡ done .trail
-  left = left-read ok done told
+  left = left-read ok done outcome
 
   -- and it is accepted again.
   pub left-accepted : IsAccepted v ls (trailAfter v ls ts ms used budget) (marksAfter v ls ts ms used budget) (length (done .trail))
-  left-accepted = left-again ok done told (result .legal)
+  left-accepted = left-again ok done outcome (result .legal)
 
   -- 1. The satisfying assignments open at the beginning are exactly those open at the end.
   pub same-open : (a : List Bool) → OpenAt v ls begins a ↔ OpenAt v ls (done .trail) a

@@ -4,21 +4,21 @@ use lib.Dec.{eqb}
 use lib.IntN.{ℤ}
 use mathlib.Core.Bool.{Bool, _&&_, cond}
 use mathlib.Core.List.{List, [], _∷_}
-use Rattle.answers.specs.declared.Told.{Told}
-use Rattle.answers.specs.Told.{answer}
+use Rattle.answers.specs.declared.Outcome.{Outcome}
+use Rattle.answers.specs.Outcome.{answer}
 use Rattle.search.specs.Run.{Halted, endingNumber}
 use Rattle.search_theory.specs.Calls.{Call, goesOn, Start, Handed, hands}
 
 -- where the call that goes on after a halted one starts: on the buffers as that one left them, with the used count that it told; nothing else is passed on
 abbrev pub passedOn : Call → Handed → Start
-passedOn c h = record { call = goesOn c (h .told .second); trail = h .trail; marks = h .marks; used = h .told .third }
+passedOn c h = record { call = goesOn c (h .outcome .second); trail = h .trail; marks = h .marks; used = h .outcome .third }
 
 -- the steps of an earlier call are counted in
 abbrev pub inAll : Handed → Handed → Handed
-inAll h on = record { told = answer (on .told .first) (h .told .second + on .told .second) (on .told .third); trail = on .trail; marks = on .marks }
+inAll h on = record { outcome = answer (on .outcome .first) (h .outcome .second + on .outcome .second) (on .outcome .third); trail = on .trail; marks = on .marks }
 
 -- not turned down, and "halted"
-abbrev pub isHalted : Told → Bool
+abbrev pub isHalted : Outcome → Bool
 isHalted t = eqb (t .number) 0 && eqb (t .first) (endingNumber Halted)
 
 -- the budgets of several slices together
@@ -32,4 +32,4 @@ module _ (v : ℕ) (ls : List ℤ) where
   inSlices s a [] = hands v ls s a
   inSlices s a (b ∷ bs) =
       let h : Handed = hands v ls s a in
-      cond (isHalted (h .told)) (inAll h (inSlices (passedOn (s .call) h) b bs)) h
+      cond (isHalted (h .outcome)) (inAll h (inSlices (passedOn (s .call) h) b bs)) h

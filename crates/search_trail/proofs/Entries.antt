@@ -17,9 +17,9 @@ use Rattle.search.specs.Trail.{Entry, entry, Trail, entryAt, trailOf, Unassigne
 use Rattle.search.proofs.Trails.{length-trail}
 use Rattle.search_theory.proofs.Legal.{Right, Legal}
 use Rattle.search_theory.proofs.Full.{legal-length}
-use Rattle.search_scan.specs.Held.{held, lows}
-use Rattle.search_trail.specs.Running.{heldTrail, Running, HasByte, valued, madeTrue, entered}
-use Rattle.search_trail.proofs.Bytes.{lows-valued, held-valued, held-marked, low-marked, low-others, proper-byte, number-made}
+use Rattle.search_scan.specs.PackedValues.{packedValues, bareMarks}
+use Rattle.search_trail.specs.Packed.{packedTrail, Packed, HasByte, withValue, madeTrue, assigned}
+use Rattle.search_trail.proofs.Bytes.{bare-value, packed-value, packed-marked, low-marked, low-others, proper-byte, number-made}
 
 -- entries that are the same make the same trail
 pub same-trail : (ts us : List ℤ) (ms ns : List ℕ) (n : ℕ) → ((i : ℕ) → i < n → entryAt ts ms i ≡ entryAt us ns i) → trailOf ts ms n ≡ trailOf us ns n
@@ -47,27 +47,27 @@ module _ (v : ℕ) (ts : List ℤ) (ms : List ℕ) where
 
 -- values with an entry more, or less
 module _ {ms : List ℕ} (e : Entry) (t : Trail) (b : HasByte ms (codeOf (e .literal))) where
-  pub values-more : ((n : ℕ) → held ms n ≡ variableValue t n) → (n : ℕ) → held (valued ms (codeOf (e .literal)) (1 + codeOf (e .literal) % 2)) n ≡ variableValue (e ∷ t) n
+  pub values-more : ((n : ℕ) → packedValues ms n ≡ variableValue t n) → (n : ℕ) → packedValues (withValue ms (codeOf (e .literal)) (1 + codeOf (e .literal) % 2)) n ≡ variableValue (e ∷ t) n
   unfolding variableValue
-  values-more h n = held-valued (1 + codeOf (e .literal) % 2) b n ∙ rw (code-variable (e .literal), number-made (e .literal), h n)
+  values-more h n = packed-value (1 + codeOf (e .literal) % 2) b n ∙ rw (code-variable (e .literal), number-made (e .literal), h n)
 
-  pub values-less : ((n : ℕ) → held ms n ≡ variableValue (e ∷ t) n) → variableValue t (natAbs (e .literal)) ≡ Unassigned → (n : ℕ) → held (valued ms (codeOf (e .literal)) 0) n ≡ variableValue t n
+  pub values-less : ((n : ℕ) → packedValues ms n ≡ variableValue (e ∷ t) n) → variableValue t (natAbs (e .literal)) ≡ Unassigned → (n : ℕ) → packedValues (withValue ms (codeOf (e .literal)) 0) n ≡ variableValue t n
   unfolding variableValue
-  values-less h f n = held-valued 0 b n ∙ rw (code-variable (e .literal), h n) (by (eqb (natAbs (e .literal)) n) refl)
+  values-less h f n = packed-value 0 b n ∙ rw (code-variable (e .literal), h n) (by (eqb (natAbs (e .literal)) n) refl)
     where
       by : (b : Bool) → eqb (natAbs (e .literal)) n ≡ b → cond b Unassigned (cond b (made (e .literal)) (variableValue t n)) ≡ variableValue t n
       by true q = sym (ap (variableValue t) (sym (eqb-true _ _ q)) ∙ f)
       by false q = refl
 
-module _ {v : ℕ} {ts : List ℤ} {ms : List ℕ} {i : ℕ} (r : Running v ts ms i) where
+module _ {v : ℕ} {ts : List ℤ} {ms : List ℕ} {i : ℕ} (r : Packed v ts ms i) where
   pub running-used : i ≤ v
-  running-used = legal-used v ts (lows ms) i (r .legal)
+  running-used = legal-used v ts (bareMarks ms) i (r .legal)
 
   -- another literal in the first unused entry
-  pub set-trail : (l : ℤ) → heldTrail ts ms i ≡ heldTrail (set ts i l) ms i
-  set-trail l = same-trail ts (set ts i l) (lows ms) (lows ms) i (λ j h. ap (λ (x : ℤ). entry x (getD (lows ms) j 0)) (sym (getD-set-other ts i j l (pos 0) (λ e. omega arith))))
+  pub set-trail : (l : ℤ) → packedTrail ts ms i ≡ packedTrail (set ts i l) ms i
+  set-trail l = same-trail ts (set ts i l) (bareMarks ms) (bareMarks ms) i (λ j h. ap (λ (x : ℤ). entry x (getD (bareMarks ms) j 0)) (sym (getD-set-other ts i j l (pos 0) (λ e. omega arith))))
 
-  pub running-set : (l : ℤ) → Running v (set ts i l) ms i
+  pub running-set : (l : ℤ) → Packed v (set ts i l) ms i
   running-set l =
       record {
         few = r .few;
@@ -82,44 +82,44 @@ module _ {v : ℕ} {ts : List ℤ} {ms : List ℕ} {i : ℕ} (r : Running v ts m
     abbrev new : Entry
     new = entry (getD ts i (pos 0)) m
 
-    pub entered-trail : heldTrail ts (entered ts ms i m) (suc i) ≡ new ∷ heldTrail ts ms i
+    pub entered-trail : packedTrail ts (assigned ts ms i m) (suc i) ≡ new ∷ packedTrail ts ms i
     unfolding trailOf
-    entered-trail = (λ t. entry (getD ts i (pos 0)) (mark t) ∷ same-trail ts ts (lows (entered ts ms i m)) (lows ms) i same t)
+    entered-trail = (λ t. entry (getD ts i (pos 0)) (mark t) ∷ same-trail ts ts (bareMarks (assigned ts ms i m)) (bareMarks ms) i same t)
       where
         room : i < length (madeTrue ts ms i)
         room = simp length-set (let e = r .bytes in omega arith)
 
-        mark : getD (lows (entered ts ms i m)) i 0 ≡ m
+        mark : getD (bareMarks (assigned ts ms i m)) i 0 ≡ m
         mark = low-marked (madeTrue ts ms i) i m room k
 
-        same : (j : ℕ) → j < i → entryAt ts (lows (entered ts ms i m)) j ≡ entryAt ts (lows ms) j
+        same : (j : ℕ) → j < i → entryAt ts (bareMarks (assigned ts ms i m)) j ≡ entryAt ts (bareMarks ms) j
         same j l =
             ap (entry (getD ts j (pos 0)))
-            (low-others (madeTrue ts ms i) i m j (λ e. omega arith) ∙ ap (λ (ns : List ℕ). getD ns j 0) (lows-valued ms (codeOf (getD ts i (pos 0))) (1 + codeOf (getD ts i (pos 0)) % 2)))
+            (low-others (madeTrue ts ms i) i m j (λ e. omega arith) ∙ ap (λ (ns : List ℕ). getD ns j 0) (bare-value ms (codeOf (getD ts i (pos 0))) (1 + codeOf (getD ts i (pos 0)) % 2)))
 
-    pub enter-running : Right v (heldTrail ts ms i) new → Running v ts (entered ts ms i m) (i + 1)
-    enter-running w =
+    pub assign-packed : Right v (packedTrail ts ms i) new → Packed v ts (assigned ts ms i m) (i + 1)
+    assign-packed w =
         rw add-one (record {
           few = r .few;
           literals = r .literals;
           bytes = simp length-set (r .bytes);
           legal = subst (Legal v) (sym entered-trail) (w, r .legal);
-          values = λ n. held-marked (madeTrue ts ms i) i m (simp length-set (let e = r .bytes in omega arith)) k n ∙ values-more new (heldTrail ts ms i) (proper-byte (getD ts i (pos 0)) (w .proper) (r .bytes)) (r .values) n ∙ ap (λ (t : Trail). variableValue t n) (sym entered-trail);
+          values = λ n. packed-marked (madeTrue ts ms i) i m (simp length-set (let e = r .bytes in omega arith)) k n ∙ values-more new (packedTrail ts ms i) (proper-byte (getD ts i (pos 0)) (w .proper) (r .bytes)) (r .values) n ∙ ap (λ (t : Trail). variableValue t n) (sym entered-trail);
         })
 
 -- the values change and the marks stay: ms₀ has become ms, which holds the values of the first i entries
 pub record Valuing (v : ℕ) (ts : List ℤ) (ms₀ ms : List ℕ) (i : ℕ) : Type 0 where
-  pub running : Running v ts ms i
-  pub same : lows ms ≡ lows ms₀
+  pub running : Packed v ts ms i
+  pub same : bareMarks ms ≡ bareMarks ms₀
 
-pub value-start : {v : ℕ} {ts : List ℤ} {ms : List ℕ} {i : ℕ} → Running v ts ms i → Valuing v ts ms ms i
+pub value-start : {v : ℕ} {ts : List ℤ} {ms : List ℕ} {i : ℕ} → Packed v ts ms i → Valuing v ts ms ms i
 value-start r = record { running = r; same = refl }
 
 module _ {v : ℕ} {ts : List ℤ} {ms₀ ms : List ℕ} {i : ℕ} (g : Valuing v ts ms₀ ms i) where
   -- one more
-  module _ (n : ℕ) (l : Legal v (heldTrail ts ms₀ n)) (h : i < n) where
-    right : Right v (heldTrail ts ms i) (entryAt ts (lows ms) i)
-    right = rw (g .same) (legal-at v ts (lows ms₀) n l i h)
+  module _ (n : ℕ) (l : Legal v (packedTrail ts ms₀ n)) (h : i < n) where
+    right : Right v (packedTrail ts ms i) (entryAt ts (bareMarks ms) i)
+    right = rw (g .same) (legal-at v ts (bareMarks ms₀) n l i h)
 
     pub load-byte : HasByte ms (codeOf (getD ts i (pos 0)))
     load-byte = proper-byte (getD ts i (pos 0)) (right .proper) (g .running .bytes)
@@ -127,14 +127,14 @@ module _ {v : ℕ} {ts : List ℤ} {ms₀ ms : List ℕ} {i : ℕ} (g : Valuing 
     loaded : Valuing v ts ms₀ (madeTrue ts ms i) (i + 1)
     unfolding trailOf
     loaded =
-        let e = lows-valued ms (codeOf (getD ts i (pos 0))) (1 + codeOf (getD ts i (pos 0)) % 2) in
+        let e = bare-value ms (codeOf (getD ts i (pos 0))) (1 + codeOf (getD ts i (pos 0)) % 2) in
         record {
           running = record {
             few = g .running .few;
             literals = g .running .literals;
             bytes = simp length-set (g .running .bytes);
             legal = rw (add-one, e) (right, g .running .legal);
-            values = λ x. rw (add-one, e) (values-more (entryAt ts (lows ms) i) (heldTrail ts ms i) load-byte (g .running .values) x);
+            values = λ x. rw (add-one, e) (values-more (entryAt ts (bareMarks ms) i) (packedTrail ts ms i) load-byte (g .running .values) x);
           };
           same = e ∙ g .same;
         }
@@ -147,23 +147,23 @@ module _ {v : ℕ} {ts : List ℤ} {ms₀ ms : List ℕ} {i : ℕ} (g : Valuing 
     back : i ≡ suc (i - 1)
     back = omega arith
 
-    was : Right v (heldTrail ts ms (i - 1)) (entryAt ts (lows ms) (i - 1))
-    was = legal-at v ts (lows ms) i (g .running .legal) (i - 1) (omega arith)
+    was : Right v (packedTrail ts ms (i - 1)) (entryAt ts (bareMarks ms) (i - 1))
+    was = legal-at v ts (bareMarks ms) i (g .running .legal) (i - 1) (omega arith)
 
     byte : HasByte ms (codeOf (getD ts (i - 1) (pos 0)))
     byte = proper-byte (getD ts (i - 1) (pos 0)) (was .proper) (g .running .bytes)
 
-    forgot : Valuing v ts ms₀ (valued ms (codeOf (getD ts (i - 1) (pos 0))) 0) (i - 1)
+    forgot : Valuing v ts ms₀ (withValue ms (codeOf (getD ts (i - 1) (pos 0))) 0) (i - 1)
     unfolding trailOf
     forgot =
-        let e = lows-valued ms (codeOf (getD ts (i - 1) (pos 0))) 0 in
+        let e = bare-value ms (codeOf (getD ts (i - 1) (pos 0))) 0 in
         record {
           running = record {
             few = g .running .few;
             literals = g .running .literals;
             bytes = simp length-set (g .running .bytes);
-            legal = rw e (legal-before v ts (lows ms) i (g .running .legal) (i - 1) (omega arith));
-            values = λ x. rw e (values-less (entryAt ts (lows ms) (i - 1)) (heldTrail ts ms (i - 1)) byte (λ n. g .running .values n ∙ ap (λ (j : ℕ). variableValue (heldTrail ts ms j) n) back) (was .free) x);
+            legal = rw e (legal-before v ts (bareMarks ms) i (g .running .legal) (i - 1) (omega arith));
+            values = λ x. rw e (values-less (entryAt ts (bareMarks ms) (i - 1)) (packedTrail ts ms (i - 1)) byte (λ n. g .running .values n ∙ ap (λ (j : ℕ). variableValue (packedTrail ts ms j) n) back) (was .free) x);
           };
           same = e ∙ g .same;
         }
@@ -171,8 +171,8 @@ module _ {v : ℕ} {ts : List ℤ} {ms₀ ms : List ℕ} {i : ℕ} (g : Valuing 
     pub forget-byte : {k : ℕ} → k ≡ codeOf (getD ts (i - 1) (pos 0)) → HasByte ms k
     forget-byte e = subst (HasByte ms) (sym e) byte
 
-    pub forget-on : {k : ℕ} {ns : List ℕ} → k ≡ codeOf (getD ts (i - 1) (pos 0)) → ns ≡ valued ms k 0 → Valuing v ts ms₀ ns (i - 1)
-    forget-on e q = subst (λ (ns : List ℕ). Valuing v ts ms₀ ns (i - 1)) (sym (q ∙ ap (λ (k : ℕ). valued ms k 0) e)) forgot
+    pub forget-on : {k : ℕ} {ns : List ℕ} → k ≡ codeOf (getD ts (i - 1) (pos 0)) → ns ≡ withValue ms k 0 → Valuing v ts ms₀ ns (i - 1)
+    forget-on e q = subst (λ (ns : List ℕ). Valuing v ts ms₀ ns (i - 1)) (sym (q ∙ ap (λ (k : ℕ). withValue ms k 0) e)) forgot
 
-  pub value-end : {n : ℕ} → i ≡ n → (lows ms ≡ lows ms₀) × Running v ts ms n
-  value-end e = (g .same, subst (Running v ts ms) e (g .running))
+  pub value-end : {n : ℕ} → i ≡ n → (bareMarks ms ≡ bareMarks ms₀) × Packed v ts ms n
+  value-end e = (g .same, subst (Packed v ts ms) e (g .running))

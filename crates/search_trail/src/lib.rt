@@ -6,8 +6,8 @@ ghost use lib.IntN.{pos, negℤ, natAbs};
 ghost use lib.ListN.{length, getD, set, take, replicate};
 ghost use Rattle.cnf.specs.Literals.{codeOf};
 ghost use Rattle.search_theory.proofs.Legal.{Legal};
-ghost use Rattle.search_scan.specs.Held.{lows};
-ghost use Rattle.search_trail.specs.Running.{heldTrail, Running, HasByte, valued, madeTrue, entered, clearedByte};
+ghost use Rattle.search_scan.specs.PackedValues.{bareMarks};
+ghost use Rattle.search_trail.specs.Packed.{packedTrail, Packed, HasByte, withValue, madeTrue, assigned, clearedByte};
 use cnf::code_at;
 
 // Copies a literal of the list to a place of the trail.
@@ -30,10 +30,10 @@ pub fn negate_at(trail: &mut [i32], i: usize)
 }
 
 // Puts the number of a value above the mark in the byte of a code's variable.
-fn give(marks: &mut [u8], k: usize, n: u8)
+fn set_value(marks: &mut [u8], k: usize, n: u8)
     requires { ⌜ HasByte (now marks) k ⌝ }
     requires { ⌜ n ≤ 2 ⌝ }
-    ensures { λ r. ⌜ now (marks .exit) ≡ valued (now (marks .entry)) k n ⌝ }
+    ensures { λ r. ⌜ now (marks .exit) ≡ withValue (now (marks .entry)) k n ⌝ }
 {
     let x = k / 2 - 1;
     marks[x] = marks[x] % 2 + n * 2;
@@ -46,40 +46,40 @@ fn make_true(trail: &[i32], marks: &mut [u8], i: usize)
     ensures { λ r. ⌜ now (marks .exit) ≡ madeTrue (now (trail .entry)) (now (marks .entry)) i ⌝ }
 {
     let k = code_at(trail, i);
-    give(marks, k, 1 + (k % 2) as u8);
+    set_value(marks, k, 1 + (k % 2) as u8);
 }
 
 // Uses the entry at a place: its literal is made true, and it is marked. Its variable's byte may be its own, so that is written first.
-pub fn enter(trail: &[i32], marks: &mut [u8], i: usize, mark: u8)
+pub fn assign(trail: &[i32], marks: &mut [u8], i: usize, mark: u8)
     requires { ⌜ (i < length (now trail)) × (i < length (now marks)) × (mark ≤ 1) ⌝ }
     requires { ⌜ HasByte (now marks) (codeOf (getD (now trail) i (pos 0))) ⌝ }
-    ensures { λ r. ⌜ now (marks .exit) ≡ entered (now (trail .entry)) (now (marks .entry)) i mark ⌝ }
+    ensures { λ r. ⌜ now (marks .exit) ≡ assigned (now (trail .entry)) (now (marks .entry)) i mark ⌝ }
 {
     make_true(trail, marks, i);
     marks[i] = marks[i] / 2 * 2 + mark;
 }
 
 // Takes the values of the entries from `to` on away again.
-pub fn forget(trail: &[i32], marks: &mut [u8], used: usize, to: usize)
-    requires { ⌜ Running (length (now marks)) (now trail) (now marks) used ⌝ }
+pub fn unassign(trail: &[i32], marks: &mut [u8], used: usize, to: usize)
+    requires { ⌜ Packed (length (now marks)) (now trail) (now marks) used ⌝ }
     requires { ⌜ to ≤ used ⌝ }
-    ensures { λ r. ⌜ lows (now (marks .exit)) ≡ lows (now (marks .entry)) ⌝ }
-    ensures { λ r. ⌜ Running (length (now (marks .entry))) (now (trail .entry)) (now (marks .exit)) to ⌝ }
+    ensures { λ r. ⌜ bareMarks (now (marks .exit)) ≡ bareMarks (now (marks .entry)) ⌝ }
+    ensures { λ r. ⌜ Packed (length (now (marks .entry))) (now (trail .entry)) (now (marks .exit)) to ⌝ }
 {
     let mut i = used;
     while i > to {
         i -= 1;
         let k = code_at(trail, i);
-        give(marks, k, 0);
+        set_value(marks, k, 0);
     }
 }
 
 // Puts the values that the used entries give above the marks.
-pub fn load(trail: &[i32], marks: &mut [u8], used: usize)
-    requires { ⌜ Running (length (now marks)) (now trail) (now marks) 0 ⌝ }
-    requires { ⌜ Legal (length (now marks)) (heldTrail (now trail) (now marks) used) ⌝ }
-    ensures { λ r. ⌜ lows (now (marks .exit)) ≡ lows (now (marks .entry)) ⌝ }
-    ensures { λ r. ⌜ Running (length (now (marks .entry))) (now (trail .entry)) (now (marks .exit)) used ⌝ }
+pub fn pack_values(trail: &[i32], marks: &mut [u8], used: usize)
+    requires { ⌜ Packed (length (now marks)) (now trail) (now marks) 0 ⌝ }
+    requires { ⌜ Legal (length (now marks)) (packedTrail (now trail) (now marks) used) ⌝ }
+    ensures { λ r. ⌜ bareMarks (now (marks .exit)) ≡ bareMarks (now (marks .entry)) ⌝ }
+    ensures { λ r. ⌜ Packed (length (now (marks .entry))) (now (trail .entry)) (now (marks .exit)) used ⌝ }
 {
     let mut i: usize = 0;
     while i < used {
@@ -113,7 +113,7 @@ fn cleared(byte: u8, i: usize, used: usize) -> u8
 // Takes the values away from the used marks, and writes 0 from there on.
 pub fn clear_marks(marks: &mut [u8], used: usize)
     requires { ⌜ used ≤ length (now marks) ⌝ }
-    ensures { λ r. ⌜ now (marks .exit) ≡ take used (lows (now (marks .entry))) ++ replicate (length (now (marks .entry)) - used) 0 ⌝ }
+    ensures { λ r. ⌜ now (marks .exit) ≡ take used (bareMarks (now (marks .entry))) ++ replicate (length (now (marks .entry)) - used) 0 ⌝ }
 {
     let mut i: usize = 0;
     while i < marks.len() {

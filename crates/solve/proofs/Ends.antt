@@ -9,29 +9,29 @@ use borrow.Author.Tests.{le-ltb}
 use mathlib.Core.Path.{_≡_, refl, sym, _∙_, ap}
 use mathlib.Core.Bool.{Bool, true, false, cond}
 use mathlib.Core.List.{List}
-use Rattle.answers.specs.declared.Told.{Told}
-use Rattle.answers.specs.Told.{turnedDown}
+use Rattle.answers.specs.declared.Outcome.{Outcome}
+use Rattle.answers.specs.Outcome.{firstRefusal}
 use Rattle.answers.specs.Lent.{Wrote, filled}
 use Rattle.answers.proofs.Lent.{wrote-recast}
 use Rattle.answers.proofs.Rows.{Clear, answered-clear, clear-answered}
-use Rattle.rules.specs.Record.{sides, size, mostCells, Held}
+use Rattle.rules.specs.Record.{sides, size, mostCells, RecordFits}
 use Rattle.rules.specs.Board.{boardOf}
-use Rattle.rules.proofs.Records.{accepted-held, refusal-number}
+use Rattle.rules.proofs.Records.{accepted-fits, refusal-number}
 use Rattle.encoder.specs.Variables.{variableCount}
 use Rattle.encoder.specs.Clauses.{clauseList}
 use Rattle.encoder.proofs.Lists.{made-long}
-use Rattle.search.specs.Run.{Ending, Found, None, Halted, endingNumber, toldDone}
+use Rattle.search.specs.Run.{Ending, Found, None, Halted, endingNumber, doneOutcome}
 use Rattle.search.proofs.Endings.{same-ending}
-use Rattle.solver.specs.Solving.{Lent, roomRows, solverRows, atFound, written, solverAnswer, solverLeaves}
+use Rattle.solver.specs.SolverCall.{Lent, roomRows, solverRows, atFound, written, solverAnswer, solverLeaves}
 use Rattle.search_call.specs.declared.Count.{Count}
-use Rattle.solver_call.specs.declared.Unsolved.{Unsolved}
-use Rattle.solver_call.specs.declared.Unsolved.the-variants.{Record, TooShort}
+use Rattle.solver_call.specs.declared.SolveRefusal.{SolveRefusal}
+use Rattle.solver_call.specs.declared.SolveRefusal.the-variants.{Record, TooShort}
 use Rattle.solver_call.specs.declared.Solved.{Solved}
 use Rattle.solver_call.specs.declared.Solved.the-variants.{Found as Solution, None as NoSolution, Halted as Stopped, Refused}
-use Rattle.solver_call.specs.Answer.{toldUnsolved, toldSolved}
+use Rattle.solver_call.specs.Answer.{solveRefusalOutcome, solvedOutcome}
 use Rattle.program_text.specs.Lines.{refusedLine, noneLine, haltedLine, drawingText}
 use Rattle.program_text.specs.Programs.{mostElements, mostHeld, needsMore, programNumber, budget, searched, endText, drawingAt, printedSolution}
-use Rattle.program_text.proofs.Putting.{drawing-length}
+use Rattle.program_text.proofs.Lines.{drawing-length}
 use Rattle.program_text.proofs.Limits.{limited, clear-parts, clear-accepted, unrefused, same-number, printed-refused, printed-text, printed-fits}
 
 -- the buffers that the program lends
@@ -47,21 +47,21 @@ lent =
 
 -- what the solver's call tells, and leaves of the drawing
 pub record Solves (s : List ℕ) (r : Solved) (drawing : List ℕ) : Type 0 where
-  pub told : toldSolved r ≡ solverAnswer s budget lent
+  pub outcome : solvedOutcome r ≡ solverAnswer s budget lent
   pub left : drawing ≡ solverLeaves s budget lent .drawing
 
-unsolved-number : (u : Unsolved) → toldUnsolved u .number ≡ 0 → ⊥
+unsolved-number : (u : SolveRefusal) → solveRefusalOutcome u .number ≡ 0 → ⊥
 unsolved-number (Record r) e = refusal-number r e
 unsolved-number (TooShort n) e = omega arith
 
 -- the solver's refusal is the program's
 same-refusal : (s : List ℕ) → solverAnswer s budget lent .number ≡ programNumber s
 same-refusal s =
-    same-number s (roomRows (boardOf s) lent) (toldDone (searched (boardOf s)))
-    (λ c. by (ltb mostElements (length (clauseList (boardOf s)))) refl (ltb mostHeld (variableCount (boardOf s))) refl (le-ltb mostCells (size (sides s)) (accepted-held s (clear-accepted s c) .sides .few)))
+    same-number s (roomRows (boardOf s) lent) (doneOutcome (searched (boardOf s)))
+    (λ c. by (ltb mostElements (length (clauseList (boardOf s)))) refl (ltb mostHeld (variableCount (boardOf s))) refl (le-ltb mostCells (size (sides s)) (accepted-fits s (clear-accepted s c) .sides .few)))
   where
     by : (l : Bool) → ltb mostElements (length (clauseList (boardOf s))) ≡ l → (v : Bool) → ltb mostHeld (variableCount (boardOf s)) ≡ v → ltb mostCells (size (sides s)) ≡ false
-        → turnedDown (roomRows (boardOf s) lent) (toldDone (searched (boardOf s))) .number ≡ limited (needsMore (boardOf s))
+        → firstRefusal (roomRows (boardOf s) lent) (doneOutcome (searched (boardOf s))) .number ≡ limited (needsMore (boardOf s))
     by true h v k n = rw h
     by false h true k n = rw (h, k)
     by false h false k n = rw (h, k, n)
@@ -75,51 +75,51 @@ cells-long : (s : List ℕ) → length (cells s) ≡ size (sides s)
 cells-long s = made-long _ (size (sides s))
 
 module _ {s : List ℕ} {r : Solved} {drawing : List ℕ} (w : Solves s r drawing) where
-  number-is : toldSolved r .number ≡ programNumber s
-  number-is = ap (λ (t : Told). t .number) (w .told) ∙ same-refusal s
+  number-is : solvedOutcome r .number ≡ programNumber s
+  number-is = ap (λ (t : Outcome). t .number) (w .outcome) ∙ same-refusal s
 
-  pub ends-refused : {u : Unsolved} {t : Told} {buf out : List ℕ} {n : ℕ} → r ≡ Refused u → t ≡ toldSolved r → Wrote buf 0 (refusedLine (t .number)) out n → Wrote buf 0 (printedSolution s) out n
+  pub ends-refused : {u : SolveRefusal} {t : Outcome} {buf out : List ℕ} {n : ℕ} → r ≡ Refused u → t ≡ solvedOutcome r → Wrote buf 0 (refusedLine (t .number)) out n → Wrote buf 0 (printedSolution s) out n
   ends-refused {u} q t p =
-      let n = ap (λ (t : Told). t .number) t ∙ number-is in
-      wrote-recast (printed-refused _ n (λ z. unsolved-number u (sym (ap (λ r. toldSolved r .number) q) ∙ number-is ∙ z))) p
+      let n = ap (λ (t : Outcome). t .number) t ∙ number-is in
+      wrote-recast (printed-refused _ n (λ z. unsolved-number u (sym (ap (λ r. solvedOutcome r .number) q) ∙ number-is ∙ z))) p
 
   -- answered: the search ends as told
-  module _ (x : Ending) (e : toldSolved r .number ≡ 0) (h : toldSolved r .first ≡ endingNumber x) where
+  module _ (x : Ending) (e : solvedOutcome r .number ≡ 0) (h : solvedOutcome r .first ≡ endingNumber x) where
     clear : Clear (solverRows s lent)
-    clear = answered-clear (solverRows s lent) (toldDone (searched (boardOf s))) refl (sym (ap (λ (t : Told). t .number) (w .told)) ∙ e)
+    clear = answered-clear (solverRows s lent) (doneOutcome (searched (boardOf s))) refl (sym (ap (λ (t : Outcome). t .number) (w .outcome)) ∙ e)
 
-    held : Held (sides s) s
-    held = accepted-held s (clear-accepted s (clear-parts s (roomRows (boardOf s) lent) clear .0))
+    recordFits : RecordFits (sides s) s
+    recordFits = accepted-fits s (clear-accepted s (clear-parts s (roomRows (boardOf s) lent) clear .0))
 
     ending : x ≡ searched (boardOf s) .ending
     ending =
-        let a = w .told ∙ clear-answered (solverRows s lent) (toldDone (searched (boardOf s))) clear in
-        same-ending x (searched (boardOf s) .ending) (sym h ∙ ap (λ (t : Told). t .first) a)
+        let a = w .outcome ∙ clear-answered (solverRows s lent) (doneOutcome (searched (boardOf s))) clear in
+        same-ending x (searched (boardOf s) .ending) (sym h ∙ ap (λ (t : Outcome). t .first) a)
 
     ends : {text buf out : List ℕ} {n : ℕ} → text ≡ endText x (drawingText (sides s .columns) (cells s)) → Wrote buf 0 text out n → Wrote buf 0 (printedSolution s) out n
     ends q p = wrote-recast (q ∙ ap (λ x. endText x (drawingText (sides s .columns) (cells s))) ending ∙ printed-text _ (sym number-is ∙ e)) p
 
   pub ends-none : {c : Count} {buf out : List ℕ} {n : ℕ} → r ≡ NoSolution c → Wrote buf 0 noneLine out n → Wrote buf 0 (printedSolution s) out n
-  ends-none q p = ends None (ap (λ r. toldSolved r .number) q) (ap (λ r. toldSolved r .first) q) refl p
+  ends-none q p = ends None (ap (λ r. solvedOutcome r .number) q) (ap (λ r. solvedOutcome r .first) q) refl p
 
   pub ends-halted : {c : Count} {buf out : List ℕ} {n : ℕ} → r ≡ Stopped c → Wrote buf 0 haltedLine out n → Wrote buf 0 (printedSolution s) out n
-  ends-halted q p = ends Halted (ap (λ r. toldSolved r .number) q) (ap (λ r. toldSolved r .first) q) refl p
+  ends-halted q p = ends Halted (ap (λ r. solvedOutcome r .number) q) (ap (λ r. solvedOutcome r .first) q) refl p
 
   module _ {c : Count} (q : r ≡ Solution c) where
-    e : toldSolved r .number ≡ 0
-    e = ap (λ r. toldSolved r .number) q
+    e : solvedOutcome r .number ≡ 0
+    e = ap (λ r. solvedOutcome r .number) q
 
-    h : toldSolved r .first ≡ 1
-    h = ap (λ r. toldSolved r .first) q
+    h : solvedOutcome r .first ≡ 1
+    h = ap (λ r. solvedOutcome r .first) q
 
     drawn : drawing ≡ filled (lent .drawing) (cells s)
     drawn =
         w .left ∙
-        ap (λ n. cond (eqb n 0) (written (boardOf s) (searched (boardOf s)) lent) lent .drawing) (sym (ap (λ (t : Told). t .number) (w .told)) ∙ e) ∙
+        ap (λ n. cond (eqb n 0) (written (boardOf s) (searched (boardOf s)) lent) lent .drawing) (sym (ap (λ (t : Outcome). t .number) (w .outcome)) ∙ e) ∙
         ap (λ x. atFound x (lent .drawing) (filled (lent .drawing) (cells s))) (sym (ending Found e h))
 
-    pub found-held : Held (sides s) s
-    found-held = held Found e h
+    pub found-held : RecordFits (sides s) s
+    found-held = recordFits Found e h
 
     pub found-inside : size (sides s) ≤ length drawing
     found-inside = omega (arith, cells-long s, simp length-append at (ap length drawn))
@@ -129,7 +129,7 @@ module _ {s : List ℕ} {r : Solved} {drawing : List ℕ} (w : Solves s r drawin
 
 -- what the program prints fits 4,096 bytes
 pub solution-fits : (s : List ℕ) → length (printedSolution s) ≤ 4096
-solution-fits s = printed-fits s _ 4096 (omega arith) (λ e. by (searched (boardOf s) .ending) (accepted-held s (unrefused s e .0) .sides .few))
+solution-fits s = printed-fits s _ 4096 (omega arith) (λ e. by (searched (boardOf s) .ending) (accepted-fits s (unrefused s e .0) .sides .few))
   where
     by : (x : Ending) → size (sides s) ≤ mostCells → length (endText x (drawingText (sides s .columns) (cells s))) ≤ 4096
     by Found h = omega (arith, drawing-length (sides s .columns) 0 (cells s), cells-long s)

@@ -3,7 +3,7 @@
 ghost use Prim.Native.Nat.{_≤_};
 ghost use lib.ListN.{length, take};
 ghost use Rattle.answers.specs.Lent.{Wrote};
-ghost use Rattle.rules.specs.Record.{sides, size, Held};
+ghost use Rattle.rules.specs.Record.{sides, size, RecordFits};
 ghost use Rattle.program_text.specs.Lines.{drawingText};
 ghost use Rattle.program_text.specs.Programs.{printedSolution};
 use program_text::put_drawing;
@@ -24,7 +24,7 @@ const BUDGET: u64 = 1000000;
 
 // The drawing of a record's grid, a row a line.
 fn put_cells(text: &mut [u8], record: &[u8], drawing: &[u8]) -> usize
-    requires { ⌜ Held (sides (now «record»)) (now «record») ⌝ }
+    requires { ⌜ RecordFits (sides (now «record»)) (now «record») ⌝ }
     requires { ⌜ size (sides (now «record»)) ≤ length (now drawing) ⌝ }
     ensures { λ r. ⌜ Wrote (now (text .entry)) 0 (drawingText (sides (now («record» .entry)) .columns) (take (size (sides (now («record» .entry)))) (now (drawing .entry)))) (now (text .exit)) r ⌝ }
 {
@@ -56,7 +56,7 @@ fn solution_text(record: &[u8], text: &mut [u8]) -> usize
         Solved::Found(_) => put_cells(text, record, &drawing),
         Solved::None(_) => put_word(text, 0, b"none\n"),
         Solved::Halted(_) => put_word(text, 0, b"halted\n"),
-        Solved::Refused(_) => put_refused(text, answer.told().number as usize),
+        Solved::Refused(_) => put_refused(text, answer.outcome().number as usize),
     }
 }
 

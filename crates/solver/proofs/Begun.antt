@@ -5,8 +5,8 @@ use lib.ListN.{length, replicate, length-replicate}
 use mathlib.Core.Path.{_≡_, refl, sym, _∙_, ap, subst}
 use mathlib.Core.Logic.{_↔_}
 use mathlib.Core.List.{List}
-use Rattle.answers.specs.declared.Told.{Told}
-use Rattle.answers.specs.Lent.{leaves}
+use Rattle.answers.specs.declared.Outcome.{Outcome}
+use Rattle.answers.specs.Lent.{unlessRefused}
 use Rattle.rules.specs.Record.{IsAccepted}
 use Rattle.rules.specs.Board.{boardOf}
 use Rattle.rules.specs.Drawing.{SolutionBytes}
@@ -15,13 +15,13 @@ use Rattle.encoder.specs.Variables.{variableCount}
 use Rattle.encoder.specs.Clauses.{clauseList}
 use Rattle.encoder.specs.Decoding.{decoded, decoderAnswer, DecodesTo}
 use Rattle.search.specs.Trail.{trailImage, marksImage, trailOf, valuesOf}
-use Rattle.search.specs.Run.{Found, None, Halted, Done, IsAccepted as IsTaken, endingNumber, toldDone, searched}
+use Rattle.search.specs.Run.{Found, None, Halted, Done, IsAccepted as IsTaken, endingNumber, doneOutcome, searched}
 use Rattle.search_theory.specs.Calls.{Searching}
 use Rattle.search_theory.proofs.Theorems as search
 use Rattle.demands.specs.Searches.{Search, bySearch, endsAt, BegunOn}
 use Rattle.demands.proofs.Calling.{at-end}
 use Rattle.demands.proofs.Searching as searching
-use Rattle.solver.specs.Solving.{solved, trailBytes}
+use Rattle.solver.specs.SolverCall.{solved, trailBytes}
 
 -- 1. The call, in trail and marks of V elements
 
@@ -40,14 +40,14 @@ module _ (s : List ℕ) (acc : IsAccepted s) (budget : ℕ) (ts : List ℤ) (ms 
   unfolding trailOf
   comes-to = refl
 
-  pub tells : bySearch (call s budget ts ms) .told ≡ toldDone (solved (boardOf s) budget)
-  tells = search.told taken budget ∙ ap toldDone comes-to
+  pub tells : bySearch (call s budget ts ms) .outcome ≡ doneOutcome (solved (boardOf s) budget)
+  tells = search.outcome taken budget ∙ ap doneOutcome comes-to
 
   pub trail-left : bySearch (call s budget ts ms) .trail ≡ trailImage (variableCount (boardOf s)) (solved (boardOf s) budget .trail)
-  trail-left = (λ i. leaves (tells i) ts (trailImage (variableCount (boardOf s)) (comes-to i .trail)))
+  trail-left = (λ i. unlessRefused (tells i) ts (trailImage (variableCount (boardOf s)) (comes-to i .trail)))
 
   pub marks-left : bySearch (call s budget ts ms) .marks ≡ marksImage (variableCount (boardOf s)) (solved (boardOf s) budget .trail)
-  marks-left = (λ i. leaves (tells i) ms (marksImage (variableCount (boardOf s)) (comes-to i .trail)))
+  marks-left = (λ i. unlessRefused (tells i) ms (marksImage (variableCount (boardOf s)) (comes-to i .trail)))
 
   ends-at : endsAt (bySearch (call s budget ts ms)) ≡ solved (boardOf s) budget .trail
   ends-at = at-end Searching (call s budget ts ms) (searching.begun-taken s _ begun) ∙ ap (λ (d : Done). d .trail) comes-to
@@ -79,16 +79,16 @@ module _ (s : List ℕ) (acc : IsAccepted s) (budget : ℕ) where
   pub zeros-begun : BegunOn s zeros
   zeros-begun = begun s acc budget ts ms ts-long ms-long
 
-  pub zeros-tell : bySearch zeros .told ≡ toldDone done
+  pub zeros-tell : bySearch zeros .outcome ≡ doneOutcome done
   zeros-tell = tells s acc budget ts ms ts-long ms-long
 
   pub zeros-end : endsAt (bySearch zeros) ≡ done .trail
   zeros-end = ends-at s acc budget ts ms ts-long ms-long
 
   -- not halted, it says "none" exactly when the grid has no solution
-  pub none-exactly : (toldDone done .first ≡ endingNumber Halted → ⊥) → toldDone done .first ≡ endingNumber None ↔ ((ds : List ℕ) → SolutionBytes (boardOf s) ds → ⊥)
+  pub none-exactly : (doneOutcome done .first ≡ endingNumber Halted → ⊥) → doneOutcome done .first ≡ endingNumber None ↔ ((ds : List ℕ) → SolutionBytes (boardOf s) ds → ⊥)
   none-exactly =
-      subst (λ (t : Told). (t .first ≡ endingNumber Halted → ⊥) → t .first ≡ endingNumber None ↔ ((ds : List ℕ) → SolutionBytes (boardOf s) ds → ⊥)) zeros-tell
+      subst (λ (t : Outcome). (t .first ≡ endingNumber Halted → ⊥) → t .first ≡ endingNumber None ↔ ((ds : List ℕ) → SolutionBytes (boardOf s) ds → ⊥)) zeros-tell
       (searching.none-exactly s _ zeros-begun)
 
   -- at "found" the trail's bytes decode to a solution
@@ -97,7 +97,7 @@ module _ (s : List ℕ) (acc : IsAccepted s) (budget : ℕ) where
     drawn =
         subst (λ t. (ds : List ℕ) × DecodesTo s (valuesOf v t) ds × SolutionBytes (boardOf s) ds)
         zeros-end
-        (searching.found-decodes s _ zeros-begun (ap (λ (t : Told). t .first) zeros-tell ∙ ap endingNumber found))
+        (searching.found-decodes s _ zeros-begun (ap (λ (t : Outcome). t .first) zeros-tell ∙ ap endingNumber found))
 
     pub decoder-says : (lent : List ℕ) → length lent ≡ boardOf s .size → decoderAnswer s (trailBytes v (done .trail)) lent ≡ saysYes
     decoder-says = drawn .1 .says

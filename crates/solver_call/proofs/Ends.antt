@@ -6,26 +6,26 @@ use lib.ListN.{length, take, drop, length-append}
 use lib.Seq.{take-at}
 use mathlib.Core.Path.{_≡_, refl, sym, _∙_, ap}
 use mathlib.Core.List.{List, [], _∷_}
-use Rattle.answers.specs.declared.Told.{Told}
-use Rattle.answers.specs.Told.{refusal, answer, row, turnedDown}
-use Rattle.answers.specs.Lent.{tooShort, filled, leaves}
-use Rattle.answers.proofs.Rows.{Clear, answered-clear, clear-answered, turned-append}
+use Rattle.answers.specs.declared.Outcome.{Outcome}
+use Rattle.answers.specs.Outcome.{refusal, answer, row, firstRefusal}
+use Rattle.answers.specs.Lent.{tooShort, filled, unlessRefused}
+use Rattle.answers.proofs.Rows.{Clear, answered-clear, clear-answered, refusals-append}
 use Rattle.answers.proofs.Settled.{untouched, enough}
 use Rattle.rules.specs.declared.Grid.{Grid}
 use Rattle.rules.specs.declared.Parsed.{Parsed}
 use Rattle.rules.specs.declared.Parsed.the-variants.{Accepted, Refused as NotRead}
-use Rattle.rules.specs.declared.Refusal.{Refusal}
-use Rattle.rules.specs.Record.{recordRows, recordAnswer, toldParsed}
+use Rattle.rules.specs.declared.RecordRefusal.{RecordRefusal}
+use Rattle.rules.specs.Record.{recordRows, recordAnswer, parsedOutcome}
 use Rattle.rules.specs.Board.{gridBoard, boardOf}
 use Rattle.rules.proofs.Records.{accepted-clear, refusal-number, passes-up, is-accepted, read-sides}
 use Rattle.encoder.specs.Variables.{variableCount}
 use Rattle.encoder.specs.Clauses.{clauses, clauseList}
 use Rattle.encoder.specs.Encoding.{encoderAnswer, encoderLeaves}
-use Rattle.search.specs.Run.{Done, toldDone}
+use Rattle.search.specs.Run.{Done, doneOutcome}
 use Rattle.search_call.specs.declared.Answer.{Answer}
 use Rattle.search_call.specs.declared.Answer.the-variants.{Found, None, Halted, Lengths as WrongLengths, List as WrongList, Entry as WrongEntry, Untrue}
-use Rattle.search_call.specs.Answers.{toldAnswer}
-use Rattle.solver.specs.Solving.{Lent, solved, roomRows, solverAnswer, written, solverLeaves}
+use Rattle.search_call.specs.Answers.{answerOutcome}
+use Rattle.solver.specs.SolverCall.{Lent, solved, roomRows, solverAnswer, written, solverLeaves}
 use Rattle.solver_call.specs.declared.Lengths.{Lengths}
 use Rattle.solver_call.specs.declared.Needs.{Needs}
 use Rattle.solver_call.specs.declared.Room.{Room}
@@ -33,17 +33,17 @@ use Rattle.solver_call.specs.declared.Room.the-variants.{Enough, Short}
 use Rattle.solver_call.specs.Room.{needsOf, roomTells, shortRows}
 use Rattle.solver_call.specs.GridSearch.{Fits, Ends}
 use Rattle.solver_call.specs.declared.Solved.{Solved}
-use Rattle.solver_call.specs.Answer.{toldSolved, passedUp, endedAs, lentOf}
+use Rattle.solver_call.specs.Answer.{solvedOutcome, passedUp, endedAs, lentOf}
 
 -- a search that is not turned down
-ended-told : (a : Answer) (d : Done) → toldAnswer a ≡ toldDone d → toldSolved (endedAs a) ≡ toldDone d
-ended-told (Found c) d e = e
-ended-told (None c) d e = e
-ended-told (Halted c) d e = e
-ended-told WrongLengths d e = let z = ap (λ (t : Told). t .number) e in absurd (omega arith)
-ended-told (WrongList i) d e = let z = ap (λ (t : Told). t .number) e in absurd (omega arith)
-ended-told (WrongEntry i) d e = let z = ap (λ (t : Told). t .number) e in absurd (omega arith)
-ended-told Untrue d e = let z = ap (λ (t : Told). t .number) e in absurd (omega arith)
+ended-outcome : (a : Answer) (d : Done) → answerOutcome a ≡ doneOutcome d → solvedOutcome (endedAs a) ≡ doneOutcome d
+ended-outcome (Found c) d e = e
+ended-outcome (None c) d e = e
+ended-outcome (Halted c) d e = e
+ended-outcome WrongLengths d e = let z = ap (λ (t : Outcome). t .number) e in absurd (omega arith)
+ended-outcome (WrongList i) d e = let z = ap (λ (t : Outcome). t .number) e in absurd (omega arith)
+ended-outcome (WrongEntry i) d e = let z = ap (λ (t : Outcome). t .number) e in absurd (omega arith)
+ended-outcome Untrue d e = let z = ap (λ (t : Outcome). t .number) e in absurd (omega arith)
 
 abbrev lengthsOf : Lent → Lengths
 lengthsOf lent = record { list = length (lent .list); trail = length (lent .trail); marks = length (lent .marks); values = length (lent .values); drawing = length (lent .drawing) }
@@ -52,47 +52,47 @@ module _ (s : List ℕ) (budget : ℕ) (lent : Lent) where
   abbrev done : Done
   done = solved (boardOf s) budget
 
-  abbrev CallEnds : Told → Lent → Type 0
+  abbrev CallEnds : Outcome → Lent → Type 0
   CallEnds u left = (u ≡ solverAnswer s budget lent) × (left ≡ solverLeaves s budget lent)
 
-  turned : {u : Told} → (u .number ≡ 0 → ⊥) → u ≡ solverAnswer s budget lent → CallEnds u lent
-  turned n e = (e, sym (untouched (solverAnswer s budget lent) lent (written (boardOf s) done lent) (λ z. n (ap (λ (t : Told). t .number) e ∙ z))))
+  turned : {u : Outcome} → (u .number ≡ 0 → ⊥) → u ≡ solverAnswer s budget lent → CallEnds u lent
+  turned n e = (e, sym (untouched (solverAnswer s budget lent) lent (written (boardOf s) done lent) (λ z. n (ap (λ (t : Outcome). t .number) e ∙ z))))
 
   -- the record is refused
-  pub ends-refused : {x : Solved} {p : Parsed} {r : Refusal} → x ≡ passedUp p → p ≡ NotRead r → toldParsed p ≡ recordAnswer s → CallEnds (toldSolved x) lent
-  ends-refused {r = r} w q e = rw (w ∙ ap passedUp q) (turned (refusal-number r) (passes-up s (roomRows (boardOf s) lent) (toldDone done) q e))
+  pub ends-refused : {x : Solved} {p : Parsed} {r : RecordRefusal} → x ≡ passedUp p → p ≡ NotRead r → parsedOutcome p ≡ recordAnswer s → CallEnds (solvedOutcome x) lent
+  ends-refused {r = r} w q e = rw (w ∙ ap passedUp q) (turned (refusal-number r) (passes-up s (roomRows (boardOf s) lent) (doneOutcome done) q e))
 
   -- it is read, and room is sought
-  module _ {p : Parsed} {g : Grid} (q : p ≡ Accepted g) (e : toldParsed p ≡ recordAnswer s) {needed : Needs} (needs : needed ≡ needsOf (gridBoard g s))
-      (room : Room) (says : (t : Told) → roomTells room t ≡ turnedDown (shortRows (lengthsOf lent) needed) t) where
+  module _ {p : Parsed} {g : Grid} (q : p ≡ Accepted g) (e : parsedOutcome p ≡ recordAnswer s) {needed : Needs} (needs : needed ≡ needsOf (gridBoard g s))
+      (room : Room) (says : (t : Outcome) → roomTells room t ≡ firstRefusal (shortRows (lengthsOf lent) needed) t) where
     needed-is : needed ≡ needsOf (boardOf s)
     needed-is = needs ∙ ap (λ g. needsOf (gridBoard g s)) (read-sides s q e)
 
-    by-room : {x : Room} → room ≡ x → (t : Told) → roomTells x t ≡ turnedDown (roomRows (boardOf s) lent) t
-    by-room w t = sym (ap (λ x. roomTells x t) w) ∙ says t ∙ ap (λ z. turnedDown (shortRows (lengthsOf lent) z) t) needed-is
+    by-room : {x : Room} → room ≡ x → (t : Outcome) → roomTells x t ≡ firstRefusal (roomRows (boardOf s) lent) t
+    by-room w t = sym (ap (λ x. roomTells x t) w) ∙ says t ∙ ap (λ z. firstRefusal (shortRows (lengthsOf lent) z) t) needed-is
 
     -- the call is left to the rows after the reader's
-    goes : turnedDown (roomRows (boardOf s) lent) (toldDone done) ≡ solverAnswer s budget lent
-    goes = sym (turned-append (recordRows s) (roomRows (boardOf s) lent) (toldDone done) ∙ clear-answered (recordRows s) _ (accepted-clear s (is-accepted s q e)))
+    goes : firstRefusal (roomRows (boardOf s) lent) (doneOutcome done) ≡ solverAnswer s budget lent
+    goes = sym (refusals-append (recordRows s) (roomRows (boardOf s) lent) (doneOutcome done) ∙ clear-answered (recordRows s) _ (accepted-clear s (is-accepted s q e)))
 
     pub ends-short : {n : ℕ} → room ≡ Short n → CallEnds (refusal 6 n) lent
-    ends-short w = turned (λ z. omega arith) (by-room w (toldDone done) ∙ goes)
+    ends-short w = turned (λ z. omega arith) (by-room w (doneOutcome done) ∙ goes)
 
     module _ (w : room ≡ Enough) {ls : List ℤ} (wrote : ls ≡ encoderLeaves s (lent .list)) where
       clear : Clear (roomRows (boardOf s) lent)
-      clear = answered-clear (roomRows (boardOf s) lent) (toldDone done) refl (sym (ap (λ (t : Told). t .number) (by-room w (toldDone done))))
+      clear = answered-clear (roomRows (boardOf s) lent) (doneOutcome done) refl (sym (ap (λ (t : Outcome). t .number) (by-room w (doneOutcome done))))
 
       -- so the encoder is not turned down
       encoded : ls ≡ filled (lent .list) (clauseList (boardOf s))
-      encoded = wrote ∙ ap (λ t. leaves t (lent .list) (filled (lent .list) (clauseList (boardOf s)))) told
+      encoded = wrote ∙ ap (λ t. unlessRefused t (lent .list) (filled (lent .list) (clauseList (boardOf s)))) outcome
         where
-          t : Told
+          t : Outcome
           t = answer (length (clauseList (boardOf s))) (variableCount (boardOf s)) (length (clauses (boardOf s)))
 
-          told : encoderAnswer s (lent .list) ≡ t
-          told =
+          outcome : encoderAnswer s (lent .list) ≡ t
+          outcome =
               let rows = row 6 (tooShort (length (lent .list)) (length (clauseList (boardOf s)))) ∷ [] in
-              turned-append (recordRows s) rows t ∙ clear-answered (recordRows s) _ (accepted-clear s (is-accepted s q e)) ∙ clear-answered rows t (clear .0, tt)
+              refusals-append (recordRows s) rows t ∙ clear-answered (recordRows s) _ (accepted-clear s (is-accepted s q e)) ∙ clear-answered rows t (clear .0, tt)
 
       pub fits : Fits s needed ls (lent .trail) (lent .marks) (lent .values) (lent .drawing)
       fits =
@@ -109,8 +109,8 @@ module _ (s : List ℕ) (budget : ℕ) (lent : Lent) where
             drawing = enough _ c5;
           })
 
-      pub ends-solved : {x : Solved} {a : Answer} {us : List ℤ} {ns ws es : List ℕ} → x ≡ endedAs a → Ends s budget (lent .trail) (lent .marks) (lent .values) (lent .drawing) a us ns ws es → CallEnds (toldSolved x) (lentOf ls us ns ws es)
+      pub ends-solved : {x : Solved} {a : Answer} {us : List ℤ} {ns ws es : List ℕ} → x ≡ endedAs a → Ends s budget (lent .trail) (lent .marks) (lent .values) (lent .drawing) a us ns ws es → CallEnds (solvedOutcome x) (lentOf ls us ns ws es)
       ends-solved {a = a} {us} {ns} {ws} {es} y h =
-          let told = by-room w (toldDone done) ∙ goes in
+          let outcome = by-room w (doneOutcome done) ∙ goes in
           let left : lentOf ls us ns ws es ≡ written (boardOf s) done lent = (λ i. lentOf (encoded i) (h .trail i) (h .marks i) (h .values i) (h .drawing i)) in
-          (ap toldSolved y ∙ ended-told a done (h .told) ∙ told, left ∙ ap (λ t. leaves t lent (written (boardOf s) done lent)) told)
+          (ap solvedOutcome y ∙ ended-outcome a done (h .outcome) ∙ outcome, left ∙ ap (λ t. unlessRefused t lent (written (boardOf s) done lent)) outcome)

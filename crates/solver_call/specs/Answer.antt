@@ -2,29 +2,29 @@
 use Prim.Native.Nat.{ℕ}
 use lib.IntN.{ℤ}
 use mathlib.Core.List.{List}
-use Rattle.answers.specs.declared.Told.{Told}
-use Rattle.answers.specs.Told.{refusal, answer}
+use Rattle.answers.specs.declared.Outcome.{Outcome}
+use Rattle.answers.specs.Outcome.{refusal, answer}
 use Rattle.rules.specs.declared.Parsed.{Parsed}
 use Rattle.rules.specs.declared.Parsed.the-variants.{Accepted, Refused as NotRead}
-use Rattle.rules.specs.Record.{toldRefusal}
+use Rattle.rules.specs.Record.{recordRefusalOutcome}
 use Rattle.search_call.specs.declared.Answer.{Answer}
 use Rattle.search_call.specs.declared.Answer.the-variants.{Found as SearchFound, None as SearchNone, Halted as SearchHalted, Lengths as WrongLengths, List as WrongList, Entry as WrongEntry, Untrue}
-use Rattle.solver.specs.Solving.{Lent}
-use Rattle.solver_call.specs.declared.Unsolved.{Unsolved}
-use Rattle.solver_call.specs.declared.Unsolved.the-variants.{Record, TooShort}
+use Rattle.solver.specs.SolverCall.{Lent}
+use Rattle.solver_call.specs.declared.SolveRefusal.{SolveRefusal}
+use Rattle.solver_call.specs.declared.SolveRefusal.the-variants.{Record, TooShort}
 use Rattle.solver_call.specs.declared.Solved.{Solved}
 use Rattle.solver_call.specs.declared.Solved.the-variants.{Found, None, Halted, Refused}
 
-abbrev pub toldUnsolved : Unsolved → Told
-toldUnsolved (Record r) = toldRefusal r
-toldUnsolved (TooShort n) = refusal 6 n
+abbrev pub solveRefusalOutcome : SolveRefusal → Outcome
+solveRefusalOutcome (Record r) = recordRefusalOutcome r
+solveRefusalOutcome (TooShort n) = refusal 6 n
 
 -- found 1, none 2, halted 3, with the steps that this call made and the used count
-abbrev pub toldSolved : Solved → Told
-toldSolved (Found c) = answer 1 (c .steps) (c .used)
-toldSolved (None c) = answer 2 (c .steps) (c .used)
-toldSolved (Halted c) = answer 3 (c .steps) (c .used)
-toldSolved (Refused u) = toldUnsolved u
+abbrev pub solvedOutcome : Solved → Outcome
+solvedOutcome (Found c) = answer 1 (c .steps) (c .used)
+solvedOutcome (None c) = answer 2 (c .steps) (c .used)
+solvedOutcome (Halted c) = answer 3 (c .steps) (c .used)
+solvedOutcome (Refused u) = solveRefusalOutcome u
 
 -- a call that made no step
 abbrev unbegun : Solved

@@ -11,12 +11,12 @@ use Rattle.encoder.specs.Variables.{variableCount}
 use Rattle.encoder.specs.Clauses.{clauseList}
 use Rattle.encoder.specs.Decoding.{decoded}
 use Rattle.search.specs.Trail.{trailImage, marksImage, trailOf}
-use Rattle.search.specs.Run.{toldDone}
+use Rattle.search.specs.Run.{doneOutcome}
 use Rattle.search_theory.proofs.Lists.{Proper}
 use Rattle.search_theory.proofs.Legal.{Legal}
 use Rattle.search_call.specs.declared.Answer.{Answer}
-use Rattle.search_call.specs.Answers.{toldAnswer}
-use Rattle.solver.specs.Solving.{solved, trailBytes, atFound}
+use Rattle.search_call.specs.Answers.{answerOutcome}
+use Rattle.solver.specs.SolverCall.{solved, trailBytes, atFound}
 use Rattle.solver_call.specs.declared.Needs.{Needs}
 use Rattle.solver_call.specs.Room.{needsOf}
 
@@ -42,7 +42,7 @@ pub record Fits (s : List ℕ) (needed : Needs) (ls ts : List ℤ) (ms vs ds : L
 
 -- from trail, marks, values and drawing, what is answered and left in them
 pub record Ends (s : List ℕ) (budget : ℕ) (ts : List ℤ) (ms vs ds : List ℕ) (a : Answer) (us : List ℤ) (ns ws es : List ℕ) : Type 0 where
-  pub told : toldAnswer a ≡ toldDone (solved (boardOf s) budget)
+  pub outcome : answerOutcome a ≡ doneOutcome (solved (boardOf s) budget)
   pub trail : us ≡ filled ts (trailImage (variableCount (boardOf s)) (solved (boardOf s) budget .trail))
   pub marks : ns ≡ filled ms (marksImage (variableCount (boardOf s)) (solved (boardOf s) budget .trail))
   pub values : ws ≡ atFound (solved (boardOf s) budget .ending) vs (filled vs (trailBytes (variableCount (boardOf s)) (solved (boardOf s) budget .trail)))

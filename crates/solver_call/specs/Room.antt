@@ -1,8 +1,8 @@
 -- What a grid needs, and its rows 6 by lengths.
 use lib.ListN.{length}
 use mathlib.Core.List.{List, [], _∷_}
-use Rattle.answers.specs.declared.Told.{Told}
-use Rattle.answers.specs.Told.{refusal, Row, row}
+use Rattle.answers.specs.declared.Outcome.{Outcome}
+use Rattle.answers.specs.Outcome.{refusal, Row, row}
 use Rattle.answers.specs.Lent.{tooShort}
 use Rattle.rules.specs.Board.{Board}
 use Rattle.encoder.specs.Variables.{variableCount}
@@ -16,7 +16,7 @@ abbrev pub needsOf : Board → Needs
 needsOf b = record { elements = length (clauseList b); variables = variableCount b; cells = b .size }
 
 -- where there is room the call goes on
-abbrev pub roomTells : Room → Told → Told
+abbrev pub roomTells : Room → Outcome → Outcome
 roomTells Enough t = t
 roomTells (Short n) t = refusal 6 n
 

@@ -1,18 +1,18 @@
 // The solver: a record's bytes in; a drawing, "none" or "halted" out.
 ghost use mathlib.Core.Path.{_≡_};
-ghost use Rattle.solver.specs.Solving.{solverAnswer, solverLeaves};
-ghost use Rattle.solver_call.specs.Answer.{toldSolved, passedUp, endedAs, lentOf};
+ghost use Rattle.solver.specs.SolverCall.{solverAnswer, solverLeaves};
+ghost use Rattle.solver_call.specs.Answer.{solvedOutcome, passedUp, endedAs, lentOf};
 use encoder_call::encode;
 use grid_search::find_drawing;
 use rooms::first_short;
 use rooms::needs_of;
 use rules::Parsed;
-use rules::Refusal;
+use rules::RecordRefusal;
 use rules::record::read;
 use search_call::Answer;
 use search_call::Count;
 
-pub mod told; // what the answers tell
+pub mod outcome; // the outcomes in document 01's numbers
 mod rooms; // what a grid needs of the lent buffers
 mod grid_search; // the search on a grid's clauses, with its drawing
 
@@ -39,8 +39,8 @@ pub enum Room {
 }
 
 // Why a call is turned down: the record's refusal, else 6 with the elements needed.
-pub enum Unsolved {
-    Record(Refusal),
+pub enum SolveRefusal {
+    Record(RecordRefusal),
     TooShort(usize),
 }
 
@@ -49,7 +49,7 @@ pub enum Solved {
     Found(Count),
     None(Count),
     Halted(Count),
-    Refused(Unsolved),
+    Refused(SolveRefusal),
 }
 
 // How a search on a grid's clauses ended. It is never turned down.
@@ -74,7 +74,7 @@ fn passed_up(p: Parsed) -> Solved
     let Parsed::Refused(r) = p else {
         return Solved::Halted(Count { steps: 0, used: 0 });
     };
-    Solved::Refused(Unsolved::Record(r))
+    Solved::Refused(SolveRefusal::Record(r))
 }
 
 // Solves a record's grid, or names the first cause against it.
@@ -87,7 +87,7 @@ pub fn solve(
     drawing: &mut [u8],
     budget: u64,
 ) -> Solved
-    ensures { λ r. ⌜ toldSolved r ≡ solverAnswer (now («record» .entry)) budget (lentOf (now (list .entry)) (now (trail .entry)) (now (marks .entry)) (now (values .entry)) (now (drawing .entry))) ⌝ }
+    ensures { λ r. ⌜ solvedOutcome r ≡ solverAnswer (now («record» .entry)) budget (lentOf (now (list .entry)) (now (trail .entry)) (now (marks .entry)) (now (values .entry)) (now (drawing .entry))) ⌝ }
     ensures { λ r. ⌜ lentOf (now (list .exit)) (now (trail .exit)) (now (marks .exit)) (now (values .exit)) (now (drawing .exit)) ≡ solverLeaves (now («record» .entry)) budget (lentOf (now (list .entry)) (now (trail .entry)) (now (marks .entry)) (now (values .entry)) (now (drawing .entry))) ⌝ }
 {
     let p = read(record);
@@ -104,7 +104,7 @@ pub fn solve(
     };
     let room = first_short(lent, needed);
     if let Room::Short(n) = room {
-        return Solved::Refused(Unsolved::TooShort(n));
+        return Solved::Refused(SolveRefusal::TooShort(n));
     }
     encode(record, list);
     let answer = find_drawing(record, list, trail, marks, values, drawing, needed, budget);

@@ -1,8 +1,8 @@
 // What a grid needs of the solver's lent buffers, and whether they have it.
 ghost use mathlib.Core.Path.{_≡_};
-ghost use Rattle.answers.specs.declared.Told.{Told};
-ghost use Rattle.answers.specs.Told.{turnedDown};
-ghost use Rattle.rules.specs.Record.{Held};
+ghost use Rattle.answers.specs.declared.Outcome.{Outcome};
+ghost use Rattle.answers.specs.Outcome.{firstRefusal};
+ghost use Rattle.rules.specs.Record.{RecordFits};
 ghost use Rattle.rules.specs.Board.{gridBoard};
 ghost use Rattle.solver_call.specs.Room.{needsOf, roomTells, shortRows};
 use super::Lengths;
@@ -13,7 +13,7 @@ use rules::Grid;
 
 // What the grid of a record needs.
 pub fn needs_of(g: Grid, record: &[u8]) -> Needs
-    requires { ⌜ Held g (now «record») ⌝ }
+    requires { ⌜ RecordFits g (now «record») ⌝ }
     ensures { λ r. ⌜ r ≡ needsOf (gridBoard g (now («record» .entry))) ⌝ }
 {
     let counts = count(g, record);
@@ -26,7 +26,7 @@ pub fn needs_of(g: Grid, record: &[u8]) -> Needs
 
 // 6: the first buffer that is shorter than needed.
 pub fn first_short(lent: Lengths, needed: Needs) -> Room
-    ensures { λ r. ⌜ ((t : Told) → roomTells r t ≡ turnedDown (shortRows lent needed) t) ⌝ }
+    ensures { λ r. ⌜ ((t : Outcome) → roomTells r t ≡ firstRefusal (shortRows lent needed) t) ⌝ }
 {
     if lent.list < needed.elements {
         return Room::Short(needed.elements);

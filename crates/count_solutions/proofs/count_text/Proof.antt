@@ -4,20 +4,20 @@ use lib.ListN.{length-take}
 use mathlib.Core.Path.{_≡_, refl, sym, ap}
 use Rattle.answers.proofs.Lent.{wrote-recast}
 use Rattle.encoder_size.specs.declared.Counts.{Counts}
-use Rattle.encoder_call.specs.declared.Encoded.the-variants.{Listed}
-use Rattle.encoder_call.specs.Answer.{toldCounts, toldEncoded}
+use Rattle.encoder_call.specs.declared.Encoded.the-variants.{Written}
+use Rattle.encoder_call.specs.Answer.{countsOutcome, encodedOutcome}
 use Rattle.encoder_call.proofs.Ends.{refused-number}
-use Rattle.program_text.proofs.Encoding.{Encodes, told-as, refused-line, large-line, listed-inside, listed-long}
+use Rattle.program_text.proofs.Encoded.{Encodes, outcome-as, refused-line, large-line, listed-inside, listed-long}
 use Rattle.count_solutions.proofs.Ends.{taken, ends-counted}
 use borrow.Author.Needs.{needs}
 use Rattle.count_solutions.proofs.count_text.Statement.{statement}
 use Rattle.count_solutions.proofs.count_text.Tie as tie
 
-call : (c : tie.After-encode) → Encodes (c .before .before .before .before .args .«record» .now) (toldEncoded (c .encode .result)) (c .encode .last .1 .0)
-call c = record { told = c .encode .ensures .0; left = c .encode .ensures .1 }
+call : (c : tie.After-encode) → Encodes (c .before .before .before .before .args .«record» .now) (encodedOutcome (c .encode .result)) (c .encode .last .1 .0)
+call c = record { outcome = c .encode .ensures .0; left = c .encode .ensures .1 }
 
-answered : (c : tie.After-encode) {n : Counts} → c .encode .result ≡ Listed n → Encodes (c .before .before .before .before .args .«record» .now) (toldCounts n) (c .encode .last .1 .0)
-answered c q = told-as (ap toldEncoded q) (call c)
+answered : (c : tie.After-encode) {n : Counts} → c .encode .result ≡ Written n → Encodes (c .before .before .before .before .args .«record» .now) (countsOutcome n) (c .encode .last .1 .0)
+answered c q = outcome-as (ap encodedOutcome q) (call c)
 
 slice-aggregate-encode : tie.Need-slice-aggregate-encode
 slice-aggregate-encode c = search needs
@@ -31,8 +31,8 @@ enum-known-e c = search needs
 enum-told : tie.Need-enum-told
 enum-told c = search needs
 
-told-requires : tie.Need-told-requires
-told-requires c κs = search needs
+outcome-requires : tie.Need-outcome-requires
+outcome-requires c κs = search needs
 
 put-refused-requires : tie.Need-put-refused-requires
 put-refused-requires c κs = search needs
@@ -41,7 +41,7 @@ same-length : tie.Need-same-length
 same-length c = search needs
 
 returns : tie.Need-returns
-returns c = wrote-recast (refused-line (told-as (sym (c .before .before .before .told .ensures)) (call (c .before .before .before .before .before .before .before .before))) _ (refused-number (c .before .before .before .before .before .enum-told .given .1) (c .before .before .before .told .ensures))) (c .before .before .put-refused .ensures)
+returns c = wrote-recast (refused-line (outcome-as (sym (c .before .before .before .outcome .ensures)) (call (c .before .before .before .before .before .before .before .before))) _ (refused-number (c .before .before .before .before .before .enum-told .given .1) (c .before .before .before .outcome .ensures))) (c .before .before .put-refused .ensures)
 
 put-refused-requires-2 : tie.Need-put-refused-requires-2
 put-refused-requires-2 c κs = search needs
@@ -73,14 +73,14 @@ slice-aggregate-count-solutions-3 c = simp length-take (omega arith)
 count-solutions-requires : tie.Need-count-solutions-requires
 count-solutions-requires c κs = taken (answered (c .before .before .before .before .before .before .before .before) (c .before .before .before .before .before .e .given .1)) (omega (arith, c .before .before .before .if1 .left))
 
-put-many-requires : tie.Need-put-many-requires
-put-many-requires c κs = search needs
+put-count-requires : tie.Need-put-count-requires
+put-count-requires c κs = search needs
 
 same-length-3 : tie.Need-same-length-3
 same-length-3 c = search needs
 
 returns-3 : tie.Need-returns-3
-returns-3 c = ends-counted (answered (c .before .before .before .before .before .before .before .before .before .before .before .before .before .before .before) (c .before .before .before .before .before .before .before .before .before .before .before .before .e .given .1)) (omega (arith, c .before .before .before .before .before .before .before .before .before .before .if1 .left)) (c .before .before .before .before .before .before .count-solutions .ensures .0) (c .before .before .put-many .ensures)
+returns-3 c = ends-counted (answered (c .before .before .before .before .before .before .before .before .before .before .before .before .before .before .before) (c .before .before .before .before .before .before .before .before .before .before .before .before .e .given .1)) (omega (arith, c .before .before .before .before .before .before .before .before .before .before .if1 .left)) (c .before .before .before .before .before .before .count-solutions .ensures .0) (c .before .before .put-count .ensures)
 
 pub count-text-spec : {M : Type 1} → statement M
 count-text-spec =
@@ -90,7 +90,7 @@ count-text-spec =
     encode-requires
     enum-known-e
     enum-told
-    told-requires
+    outcome-requires
     put-refused-requires
     same-length
     returns
@@ -104,6 +104,6 @@ count-text-spec =
     array-borrow-prefix-marks
     slice-aggregate-count-solutions-3
     count-solutions-requires
-    put-many-requires
+    put-count-requires
     same-length-3
     returns-3)

@@ -8,7 +8,7 @@ use mathlib.Core.Path.{sym, _∙_, ap}
 use mathlib.Core.Bool.{not}
 use mathlib.Core.Option.{some}
 use mathlib.Core.List.{List}
-use Rattle.answers.specs.Told.{Row, cause}
+use Rattle.answers.specs.Outcome.{Row, cause}
 use Rattle.answers.proofs.First.{first-below, found-at, found-none}
 use Rattle.answers.proofs.Rows.{Left, left-all, left-next, left-turn, left-done}
 use Rattle.rules.specs.Judge.{saysYes}

@@ -4,14 +4,14 @@ use Prim.Native.Nat.{ℕ}
 use lib.ListN.{length, take}
 use mathlib.Core.Path.{_≡_, sym, _∙_, ap}
 use mathlib.Core.List.{List}
-use Rattle.answers.specs.Told.{Row, turnedDown}
+use Rattle.answers.specs.Outcome.{Row, firstRefusal}
 use Rattle.rules.specs.Record.{size}
 use Rattle.rules.specs.Board.{gridBoard}
 use Rattle.rules.specs.Judge.{judgeRows, saysYes}
 use Rattle.encoder.specs.Decoding.{decoded}
 use Rattle.encoder.proofs.Lists.{made-long}
 use Rattle.decoder.specs.Values.{byteAt}
-use Rattle.decoder.specs.Answer.{toldDecoded}
+use Rattle.decoder.specs.Answer.{decodedOutcome}
 use Rattle.decoder.proofs.Answers.{ends-refused, ends-yes, front, copied}
 use borrow.Author.Needs.{needs}
 use Rattle.decoder.proofs.judged.Statement.{statement}
@@ -30,8 +30,8 @@ long c = made-long (byteAt (gridBoard (c .args .g) (c .args .«record» .now)) (
 drawn : (c : tie.After-size) → take (c .size .result) (c .before .before .draw .last .1 .1 .1 .1 .1 .1 .0) ≡ picture (c .before .before .before .before .before .before .before .before .before)
 drawn c = front (byteAt (gridBoard (c .before .before .before .before .before .before .before .before .before .args .g) (c .before .before .before .before .before .before .before .before .before .args .«record» .now)) (c .before .before .before .before .before .before .before .before .before .args .values .now)) (size (c .before .before .before .before .before .before .before .before .before .args .g)) _ (c .size .ensures) (c .before .before .draw .ensures)
 
-told : (c : tie.After-answer) → toldDecoded (c .answer .result) ≡ turnedDown (rows (c .before .before .before .before .before .before .before .before .before .before .before .before)) saysYes
-told c = c .answer .ensures ∙ c .before .judge-grid .ensures ∙ ap (λ ds. turnedDown (judgeRows (gridBoard (c .before .before .before .before .before .before .before .before .before .before .before .before .args .g) (c .before .before .before .before .before .before .before .before .before .before .before .before .args .«record» .now)) ds) saysYes) (drawn (c .before .before .before))
+outcome : (c : tie.After-answer) → decodedOutcome (c .answer .result) ≡ firstRefusal (rows (c .before .before .before .before .before .before .before .before .before .before .before .before)) saysYes
+outcome c = c .answer .ensures ∙ c .before .judge-grid .ensures ∙ ap (λ ds. firstRefusal (judgeRows (gridBoard (c .before .before .before .before .before .before .before .before .before .before .before .before .args .g) (c .before .before .before .before .before .before .before .before .before .before .before .before .args .«record» .now)) ds) saysYes) (drawn (c .before .before .before))
 
 slice-aggregate-draw : tie.Need-slice-aggregate-draw
 slice-aggregate-draw c = search needs
@@ -61,7 +61,7 @@ enum-told-2 : tie.Need-enum-told-2
 enum-told-2 c = search needs
 
 returns : tie.Need-returns
-returns c = ends-refused (rows (c .before .before .before .before .before .before .before .before .before .before .before .before .before .before)) (c .before .before .before .before .before .before .before .before .before .before .before .before .before .before .args .drawing .now) (picture (c .before .before .before .before .before .before .before .before .before .before .before .before .before .before)) (c .enum-told2 .given .0 .0) (ap toldDecoded (c .enum-told2 .given .1)) (told (c .before .before))
+returns c = ends-refused (rows (c .before .before .before .before .before .before .before .before .before .before .before .before .before .before)) (c .before .before .before .before .before .before .before .before .before .before .before .before .before .before .args .drawing .now) (picture (c .before .before .before .before .before .before .before .before .before .before .before .before .before .before)) (c .enum-told2 .given .0 .0) (ap decodedOutcome (c .enum-told2 .given .1)) (outcome (c .before .before))
 
 array-share-prefix-own-2 : tie.Need-array-share-prefix-own-2
 array-share-prefix-own-2 c = search needs
@@ -76,7 +76,7 @@ same-length : tie.Need-same-length
 same-length c = search needs
 
 returns-2 : tie.Need-returns-2
-returns-2 c = ends-yes (rows (c .before .before .before .before .before .before .before .before .before .before .before .before .before .before .before .before .before .before .before)) (c .before .before .before .before .before .before .before .before .before .before .before .before .before .before .before .before .before .before .before .args .drawing .now) (picture (c .before .before .before .before .before .before .before .before .before .before .before .before .before .before .before .before .before .before .before)) (ap toldDecoded (c .before .before .before .before .before .enum-told .given .1)) (told (c .before .before .before .before .before .before .before)) (c .before .before .copy .ensures .1 ∙ copied (take (c .before .before .before .before .before .before .before .before .before .before .size .result) (c .before .before .before .before .before .before .before .before .before .before .before .before .draw .last .1 .1 .1 .1 .1 .1 .0)) (c .before .before .before .before .before .before .before .before .before .before .before .before .before .before .before .before .before .before .before .args .drawing .now) (c .before .before .before .before .before .before .before .before .before .before .before .before .before .before .before .before .before .before .before .pre .1 ∙ sym (ap length (drawn (c .before .before .before .before .before .before .before .before .before .before)) ∙ long (c .before .before .before .before .before .before .before .before .before .before .before .before .before .before .before .before .before .before .before))) ∙ drawn (c .before .before .before .before .before .before .before .before .before .before))
+returns-2 c = ends-yes (rows (c .before .before .before .before .before .before .before .before .before .before .before .before .before .before .before .before .before .before .before)) (c .before .before .before .before .before .before .before .before .before .before .before .before .before .before .before .before .before .before .before .args .drawing .now) (picture (c .before .before .before .before .before .before .before .before .before .before .before .before .before .before .before .before .before .before .before)) (ap decodedOutcome (c .before .before .before .before .before .enum-told .given .1)) (outcome (c .before .before .before .before .before .before .before)) (c .before .before .copy .ensures .1 ∙ copied (take (c .before .before .before .before .before .before .before .before .before .before .size .result) (c .before .before .before .before .before .before .before .before .before .before .before .before .draw .last .1 .1 .1 .1 .1 .1 .0)) (c .before .before .before .before .before .before .before .before .before .before .before .before .before .before .before .before .before .before .before .args .drawing .now) (c .before .before .before .before .before .before .before .before .before .before .before .before .before .before .before .before .before .before .before .pre .1 ∙ sym (ap length (drawn (c .before .before .before .before .before .before .before .before .before .before)) ∙ long (c .before .before .before .before .before .before .before .before .before .before .before .before .before .before .before .before .before .before .before))) ∙ drawn (c .before .before .before .before .before .before .before .before .before .before))
 
 pub judged-spec : {M : Type 1} → statement M
 judged-spec =

@@ -1,6 +1,6 @@
 -- `encoder_call::encode` meets its contract. Assumes nothing.
 use mathlib.Core.Path.{_∙_, ap}
-use Rattle.encoder_call.specs.Answer.{toldEncoded, passedUp}
+use Rattle.encoder_call.specs.Answer.{encodedOutcome, passedUp}
 use Rattle.encoder_call.proofs.Ends.{ends-refused, read-writing, ends-read}
 use borrow.Author.Needs.{needs}
 use Rattle.encoder_call.proofs.encode.Statement.{statement}
@@ -19,7 +19,7 @@ passed-up-requires : tie.Need-passed-up-requires
 passed-up-requires c κs = search needs
 
 returns : tie.Need-returns
-returns c = (ap toldEncoded (c .passed-up .ensures ∙ ap passedUp (c .before .enum-told .given .1)) ∙ ends-refused (c .before .before .before .before .before .args .«record» .now) (c .before .before .before .before .before .args .list .now) (c .before .enum-told .given .1) (c .before .before .before .read .ensures) .0, ends-refused (c .before .before .before .before .before .args .«record» .now) (c .before .before .before .before .before .args .list .now) (c .before .enum-told .given .1) (c .before .before .before .read .ensures) .1)
+returns c = (ap encodedOutcome (c .passed-up .ensures ∙ ap passedUp (c .before .enum-told .given .1)) ∙ ends-refused (c .before .before .before .before .before .args .«record» .now) (c .before .before .before .before .before .args .list .now) (c .before .enum-told .given .1) (c .before .before .before .read .ensures) .0, ends-refused (c .before .before .before .before .before .args .«record» .now) (c .before .before .before .before .before .args .list .now) (c .before .enum-told .given .1) (c .before .before .before .read .ensures) .1)
 
 encode-grid-requires : tie.Need-encode-grid-requires
 encode-grid-requires c κs = read-writing (c .before .before .before .before .before .before .args .«record» .now) (c .before .before .before .before .before .before .args .list .now) (c .before .before .p .given .1) (c .before .before .before .before .read .ensures)

@@ -10,11 +10,11 @@ slice-aggregate-fill-ranks c = search needs
 fill-ranks-requires : tie.Need-fill-ranks-requires
 fill-ranks-requires c κs = search needs
 
-slice-aggregate-fill-ways : tie.Need-slice-aggregate-fill-ways
-slice-aggregate-fill-ways c = search needs
+slice-aggregate-fill-first-links : tie.Need-slice-aggregate-fill-first-links
+slice-aggregate-fill-first-links c = search needs
 
-fill-ways-requires : tie.Need-fill-ways-requires
-fill-ways-requires c κs = search needs
+fill-first-links-requires : tie.Need-fill-first-links-requires
+fill-first-links-requires c κs = search needs
 
 slice-aggregate-all-families : tie.Need-slice-aggregate-all-families
 slice-aggregate-all-families c = search needs
@@ -23,7 +23,7 @@ slice-aggregate-all-families-2 : tie.Need-slice-aggregate-all-families-2
 slice-aggregate-all-families-2 c = search needs
 
 all-families-requires : tie.Need-all-families-requires
-all-families-requires c κs = (writable (c .before .before .before .before .before .before .before .before .before .before .pre), tables-filled (c .before .before .before .before .before .before .before .before .before .before .pre) (c .before .before .before .before .before .before .before .fill-ranks .ensures .0) (c .before .before .before .before .before .before .before .fill-ranks .ensures .1) (c .before .before .before .before .fill-ways .ensures .0) (c .before .before .before .before .fill-ways .ensures .1))
+all-families-requires c κs = (writable (c .before .before .before .before .before .before .before .before .before .before .pre), tables-filled (c .before .before .before .before .before .before .before .before .before .before .pre) (c .before .before .before .before .before .before .before .fill-ranks .ensures .0) (c .before .before .before .before .before .before .before .fill-ranks .ensures .1) (c .before .before .before .before .fill-first-links .ensures .0) (c .before .before .before .before .fill-first-links .ensures .1))
 
 same-length : tie.Need-same-length
 same-length c = search needs
@@ -37,8 +37,8 @@ write-list-spec =
     (tie.spec
     slice-aggregate-fill-ranks
     fill-ranks-requires
-    slice-aggregate-fill-ways
-    fill-ways-requires
+    slice-aggregate-fill-first-links
+    fill-first-links-requires
     slice-aggregate-all-families
     slice-aggregate-all-families-2
     all-families-requires

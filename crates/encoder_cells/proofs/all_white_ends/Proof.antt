@@ -1,7 +1,7 @@
 -- `encoder_cells::all_white_ends` meets its contract. Assumes nothing.
 use borrow.Author.Needs.{needs}
 use Rattle.answers.proofs.Lent.{wrote-nothing, wrote-after}
-use Rattle.encoder_shapes.proofs.Writing.{in-parts, first-part, next-parts}
+use Rattle.encoder_shapes.proofs.Written.{in-parts, first-part, next-parts}
 use Rattle.encoder_cells.specs.Cell.{whiteParts}
 use Rattle.encoder_cells.proofs.all_white_ends.Statement.{statement}
 use Rattle.encoder_cells.proofs.all_white_ends.Tie as tie

@@ -1,7 +1,7 @@
 -- `encoder_cells::any_four` meets its contract. Assumes nothing.
 use borrow.Author.Needs.{needs}
 use Rattle.answers.proofs.Lent.{wrote-nothing, wrote-after}
-use Rattle.encoder_shapes.proofs.Writing.{put-needs, in-parts, first-part, next-parts}
+use Rattle.encoder_shapes.proofs.Written.{put-needs, in-parts, first-part, next-parts}
 use Rattle.encoder_cells.specs.Cell.{anyParts}
 use Rattle.encoder_cells.proofs.any_four.Statement.{statement}
 use Rattle.encoder_cells.proofs.any_four.Tie as tie

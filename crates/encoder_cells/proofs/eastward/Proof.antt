@@ -1,7 +1,7 @@
 -- `encoder_cells::eastward` meets its contract. Assumes nothing.
 use borrow.Author.Needs.{needs}
 use Rattle.answers.proofs.Lent.{wrote-nothing, wrote-after}
-use Rattle.encoder_shapes.proofs.Writing.{put-needs, not-needs, in-parts, first-part, next-parts}
+use Rattle.encoder_shapes.proofs.Written.{put-needs, not-needs, in-parts, first-part, next-parts}
 use Rattle.encoder_cells.specs.Cell.{eastwardParts}
 use Rattle.encoder_cells.proofs.eastward.Statement.{statement}
 use Rattle.encoder_cells.proofs.eastward.Tie as tie

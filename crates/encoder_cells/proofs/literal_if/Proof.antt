@@ -2,7 +2,7 @@
 use borrow.Author.Needs.{needs}
 use mathlib.Core.List.{[], _∷_}
 use lib.IntN.{pos}
-use Rattle.encoder_shapes.proofs.Writing.{put-needs}
+use Rattle.encoder_shapes.proofs.Written.{put-needs}
 use Rattle.encoder_cells.proofs.Optional.{absent-wrote, there-wrote, there-writable}
 use Rattle.encoder_cells.proofs.literal_if.Statement.{statement}
 use Rattle.encoder_cells.proofs.literal_if.Tie as tie

@@ -1,7 +1,7 @@
 -- `encoder_cells::pairs_four` meets its contract. Assumes nothing.
 use borrow.Author.Needs.{needs}
 use Rattle.answers.proofs.Lent.{wrote-nothing, wrote-after}
-use Rattle.encoder_shapes.proofs.Writing.{in-parts, first-part, next-parts}
+use Rattle.encoder_shapes.proofs.Written.{in-parts, first-part, next-parts}
 use Rattle.encoder_cells.specs.Cell.{pairParts}
 use Rattle.encoder_cells.proofs.pairs_four.Statement.{statement}
 use Rattle.encoder_cells.proofs.pairs_four.Tie as tie

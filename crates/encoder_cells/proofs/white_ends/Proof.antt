@@ -3,7 +3,7 @@ use borrow.Author.Needs.{needs}
 use mathlib.Core.List.{[], _∷_, _++_}
 use Rattle.answers.proofs.Lent.{wrote-after}
 use Rattle.encoder_shapes.specs.Shapes.{notBoth}
-use Rattle.encoder_shapes.proofs.Writing.{in-parts, first-part, next-parts}
+use Rattle.encoder_shapes.proofs.Written.{in-parts, first-part, next-parts}
 use Rattle.encoder_cells.proofs.Optional.{absent-wrote, there-wrote, there-writable}
 use Rattle.encoder_cells.proofs.white_ends.Statement.{statement}
 use Rattle.encoder_cells.proofs.white_ends.Tie as tie

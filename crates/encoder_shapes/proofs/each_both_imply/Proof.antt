@@ -3,7 +3,7 @@ use Prim.Native.Nat.{_+_, _-_}
 use native.Mathlib.Omega.{arith}
 use borrow.Author.Needs.{needs}
 use Rattle.encoder_shapes.specs.Shapes.{bothImply}
-use Rattle.encoder_shapes.proofs.Writing.{Writing, write-start, write-needs, write-on, write-end, write-kept, no-small}
+use Rattle.encoder_shapes.proofs.Written.{Writing, write-start, write-needs, write-on, write-end, write-kept, no-small}
 use Rattle.encoder_shapes.proofs.each_both_imply.Statement.{statement}
 use Rattle.encoder_shapes.proofs.each_both_imply.Tie as tie
 

@@ -3,7 +3,7 @@ use Prim.Native.Nat.{_+_, _-_}
 use native.Mathlib.Omega.{arith}
 use borrow.Author.Needs.{needs}
 use Rattle.encoder_shapes.specs.Shapes.{implies}
-use Rattle.encoder_shapes.proofs.Writing.{Writing, write-start, write-needs, write-on, write-end, write-kept}
+use Rattle.encoder_shapes.proofs.Written.{Writing, write-start, write-needs, write-on, write-end, write-kept}
 use Rattle.encoder_shapes.proofs.each_implies.Statement.{statement}
 use Rattle.encoder_shapes.proofs.each_implies.Tie as tie
 

@@ -1,7 +1,7 @@
 -- `encoder_shapes::implies_either` meets its contract. Assumes nothing.
 use borrow.Author.Needs.{needs}
 use Rattle.answers.proofs.Lent.{wrote-after}
-use Rattle.encoder_shapes.proofs.Writing.{not-needs, put-needs, writable-next}
+use Rattle.encoder_shapes.proofs.Written.{not-needs, put-needs, writable-next}
 use Rattle.encoder_shapes.proofs.implies_either.Statement.{statement}
 use Rattle.encoder_shapes.proofs.implies_either.Tie as tie
 

@@ -4,7 +4,7 @@ use native.Mathlib.Omega.{arith}
 use borrow.Author.Needs.{needs}
 use lib.IntN.{pos}
 use mathlib.Core.List.{[], _∷_}
-use Rattle.encoder_shapes.proofs.Writing.{Writing, write-start, write-needs, write-on, write-end, write-kept, put-needs}
+use Rattle.encoder_shapes.proofs.Written.{Writing, write-start, write-needs, write-on, write-end, write-kept, put-needs}
 use Rattle.encoder_shapes.proofs.literals.Statement.{statement}
 use Rattle.encoder_shapes.proofs.literals.Tie as tie
 

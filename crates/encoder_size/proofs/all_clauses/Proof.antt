@@ -16,28 +16,28 @@ abbrev μ-loop : tie.MeasureT-loop
 μ-loop g «record» f ranks n clauses₀ elements₀ x₀ clauses elements x = n - x
 
 size-requires : tie.Need-size-requires Inv-loop μ-loop
-size-requires c κs = c .before .before .pre .0 .held .sides
+size-requires c κs = c .before .before .pre .0 .recordFits .sides
 
 add-elements : tie.Need-add-elements Inv-loop μ-loop
-add-elements c = omega (arith, c .before .before .before .pre .1, rank-few (gridBoard (c .before .before .before .args .g) (c .before .before .before .args .«record» .now)) (size (c .before .before .before .args .g)), c .before .before .before .pre .0 .held .sides .few)
+add-elements c = omega (arith, c .before .before .before .pre .1, rank-few (gridBoard (c .before .before .before .args .g) (c .before .before .before .args .«record» .now)) (size (c .before .before .before .args .g)), c .before .before .before .pre .0 .recordFits .sides .few)
 
 loop-holds : tie.Need-loop-holds Inv-loop μ-loop
 loop-holds c = adding-start (c .before .before .before .pre .1)
 
 mul-at-cell : tie.Need-mul-at-cell Inv-loop μ-loop
-mul-at-cell c = omega (arith, c .before .before .size .ensures, c .before .before .before .before .before .pre .0 .held .sides .few)
+mul-at-cell c = omega (arith, c .before .before .size .ensures, c .before .before .before .before .before .pre .0 .recordFits .sides .few)
 
 shared-slice-read-at-cell : tie.Need-shared-slice-read-at-cell Inv-loop μ-loop
 shared-slice-read-at-cell c = omega (arith, c .before .before .before .size .ensures, c .before .before .before .before .before .before .pre .0 .table .long)
 
 at-cell-requires : tie.Need-at-cell-requires Inv-loop μ-loop
-at-cell-requires c κs = (c .before .before .before .before .before .before .pre .0 .held, (omega (arith, c .before .before .before .size .ensures), (c .before .before .before .before .before .before .pre .1, c .before .before .before .before .before .before .pre .0 .table .holds (c .before .before .loop .x) (omega (arith, c .before .before .before .size .ensures)))))
+at-cell-requires c κs = (c .before .before .before .before .before .before .pre .0 .recordFits, (omega (arith, c .before .before .before .size .ensures), (c .before .before .before .before .before .before .pre .1, c .before .before .before .before .before .before .pre .0 .table .holds (c .before .before .loop .x) (omega (arith, c .before .before .before .size .ensures)))))
 
 add-clauses : tie.Need-add-clauses Inv-loop μ-loop
-add-clauses c = omega (arith, adding-few (c .before .before .before .before .before .before .before .before .pre .0 .held) (c .before .before .before .before .loop .inv), c .before .at-cell .ensures .few, c .before .before .before .before .before .size .ensures, c .before .before .before .before .before .before .before .before .pre .0 .held .sides .few)
+add-clauses c = omega (arith, adding-few (c .before .before .before .before .before .before .before .before .pre .0 .recordFits) (c .before .before .before .before .loop .inv), c .before .at-cell .ensures .few, c .before .before .before .before .before .size .ensures, c .before .before .before .before .before .before .before .before .pre .0 .recordFits .sides .few)
 
 add-elements-2 : tie.Need-add-elements-2 Inv-loop μ-loop
-add-elements-2 c = omega (arith, adding-few (c .before .before .before .before .before .before .before .before .before .pre .0 .held) (c .before .before .before .before .before .loop .inv), c .before .before .at-cell .ensures .short, c .before .before .before .before .before .before .size .ensures, c .before .before .before .before .before .before .before .before .before .pre .0 .held .sides .few, rank-few (gridBoard (c .before .before .before .before .before .before .before .before .before .args .g) (c .before .before .before .before .before .before .before .before .before .args .«record» .now)) (size (c .before .before .before .before .before .before .before .before .before .args .g)))
+add-elements-2 c = omega (arith, adding-few (c .before .before .before .before .before .before .before .before .before .pre .0 .recordFits) (c .before .before .before .before .before .loop .inv), c .before .before .at-cell .ensures .short, c .before .before .before .before .before .before .size .ensures, c .before .before .before .before .before .before .before .before .before .pre .0 .recordFits .sides .few, rank-few (gridBoard (c .before .before .before .before .before .before .before .before .before .args .g) (c .before .before .before .before .before .before .before .before .before .args .«record» .now)) (size (c .before .before .before .before .before .before .before .before .before .args .g)))
 
 add-x : tie.Need-add-x Inv-loop μ-loop
 add-x c = search needs
@@ -46,10 +46,10 @@ loop-less : tie.Need-loop-less Inv-loop μ-loop
 loop-less c = search needs
 
 loop-again : tie.Need-loop-again Inv-loop μ-loop
-loop-again c = adding-on (c .before .before .before .before .before .before .before .before .before .pre .0 .held) (c .before .before .before .before .before .loop .inv) (omega (arith, c .before .before .before .before .before .before .size .ensures)) (c .before .before .at-cell .ensures)
+loop-again c = adding-on (c .before .before .before .before .before .before .before .before .before .pre .0 .recordFits) (c .before .before .before .before .before .loop .inv) (omega (arith, c .before .before .before .before .before .before .size .ensures)) (c .before .before .at-cell .ensures)
 
 returns : tie.Need-returns Inv-loop μ-loop
-returns c = adding-end (c .before .before .before .before .before .pre .0 .held) (c .before .loop .inv) (omega (arith, c .before .before .size .ensures))
+returns c = adding-end (c .before .before .before .before .before .pre .0 .recordFits) (c .before .loop .inv) (omega (arith, c .before .before .size .ensures))
 
 pub all-clauses-spec : {M : Type 1} → statement M
 all-clauses-spec =

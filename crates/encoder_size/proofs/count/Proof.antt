@@ -3,7 +3,7 @@ use lib.ListN.{replicate}
 use Rattle.rules.specs.Record.{size, mostCells}
 use Rattle.rules.specs.Board.{gridBoard}
 use Rattle.encoder.proofs.Places.{rank}
-use Rattle.encoder_numbers.proofs.Filling.{table-filled}
+use Rattle.encoder_numbers.proofs.FilledTables.{table-filled}
 use Rattle.encoder_size.proofs.All.{counted}
 use borrow.Author.Needs.{needs}
 use Rattle.encoder_size.proofs.count.Statement.{statement}
@@ -15,11 +15,11 @@ slice-aggregate-fill-ranks c = search needs
 fill-ranks-requires : tie.Need-fill-ranks-requires
 fill-ranks-requires c κs = search needs
 
-slice-aggregate-fill-ways : tie.Need-slice-aggregate-fill-ways
-slice-aggregate-fill-ways c = search needs
+slice-aggregate-fill-first-links : tie.Need-slice-aggregate-fill-first-links
+slice-aggregate-fill-first-links c = search needs
 
-fill-ways-requires : tie.Need-fill-ways-requires
-fill-ways-requires c κs = search needs
+fill-first-links-requires : tie.Need-fill-first-links-requires
+fill-first-links-requires c κs = search needs
 
 variable-count-requires : tie.Need-variable-count-requires
 variable-count-requires c κs = search needs
@@ -28,7 +28,7 @@ slice-aggregate-all-clauses : tie.Need-slice-aggregate-all-clauses
 slice-aggregate-all-clauses c = search needs
 
 all-clauses-requires : tie.Need-all-clauses-requires
-all-clauses-requires c κs = (record { held = c .before .before .before .before .before .before .before .before .before .pre; table = table-filled (rank (gridBoard (c .before .before .before .before .before .before .before .before .before .args .g) (c .before .before .before .before .before .before .before .before .before .args .«record» .now))) (size (c .before .before .before .before .before .before .before .before .before .args .g)) (replicate mostCells 0) (c .before .before .before .before .before .before .before .before .before .pre .sides .few) (c .before .before .before .before .before .before .fill-ranks .ensures .1) }, c .before .before .before .before .before .before .fill-ranks .ensures .0)
+all-clauses-requires c κs = (record { recordFits = c .before .before .before .before .before .before .before .before .before .pre; table = table-filled (rank (gridBoard (c .before .before .before .before .before .before .before .before .before .args .g) (c .before .before .before .before .before .before .before .before .before .args .«record» .now))) (size (c .before .before .before .before .before .before .before .before .before .args .g)) (replicate mostCells 0) (c .before .before .before .before .before .before .before .before .before .pre .sides .few) (c .before .before .before .before .before .before .fill-ranks .ensures .1) }, c .before .before .before .before .before .before .fill-ranks .ensures .0)
 
 returns : tie.Need-returns
 returns c = counted (gridBoard (c .before .before .before .before .before .before .before .before .before .before .args .g) (c .before .before .before .before .before .before .before .before .before .before .args .«record» .now)) (c .all-clauses .ensures) (c .before .before .variable-count .ensures)
@@ -39,8 +39,8 @@ count-spec =
     (tie.spec
     slice-aggregate-fill-ranks
     fill-ranks-requires
-    slice-aggregate-fill-ways
-    fill-ways-requires
+    slice-aggregate-fill-first-links
+    fill-first-links-requires
     variable-count-requires
     slice-aggregate-all-clauses
     all-clauses-requires

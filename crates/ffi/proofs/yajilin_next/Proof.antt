@@ -1,7 +1,7 @@
 -- `ffi::yajilin_next` meets its contract. Assumes nothing.
 use mathlib.Core.Path.{_∙_, ap}
-use Rattle.answers.specs.declared.Told.{Told}
-use Rattle.answers.specs.Told.{words}
+use Rattle.answers.specs.declared.Outcome.{Outcome}
+use Rattle.answers.specs.Outcome.{words}
 use borrow.Author.Needs.{needs}
 use Rattle.ffi.proofs.yajilin_next.Statement.{statement}
 use Rattle.ffi.proofs.yajilin_next.Tie as tie
@@ -9,8 +9,8 @@ use Rattle.ffi.proofs.yajilin_next.Tie as tie
 next-requires : tie.Need-next-requires
 next-requires c κs = search needs
 
-told-requires : tie.Need-told-requires
-told-requires c κs = search needs
+outcome-requires : tie.Need-outcome-requires
+outcome-requires c κs = search needs
 
 write-requires : tie.Need-write-requires
 write-requires c κs = search needs
@@ -22,9 +22,9 @@ same-length-2 : tie.Need-same-length-2
 same-length-2 c = search needs
 
 returns : tie.Need-returns
-returns c = let e = c .before .before .told .ensures ∙ c .before .before .before .before .before .before .next .ensures .0 in (c .write .ensures .0 ∙ ap (λ (t : Told). t .number) e, (c .before .before .before .before .before .before .next .ensures .1 .0, (c .before .before .before .before .before .before .next .ensures .1 .1, c .write .ensures .1 ∙ ap words e)))
+returns c = let e = c .before .before .outcome .ensures ∙ c .before .before .before .before .before .before .next .ensures .0 in (c .write .ensures .0 ∙ ap (λ (t : Outcome). t .number) e, (c .before .before .before .before .before .before .next .ensures .1 .0, (c .before .before .before .before .before .before .next .ensures .1 .1, c .write .ensures .1 ∙ ap words e)))
 
 pub yajilin-next-spec : {M : Type 1} → statement M
 yajilin-next-spec =
     tie.close
-    (tie.spec next-requires told-requires write-requires same-length same-length-2 returns)
+    (tie.spec next-requires outcome-requires write-requires same-length same-length-2 returns)

@@ -11,7 +11,7 @@ first-requires : tie.Need-first-requires
 first-requires c κs = search needs
 
 returns : tie.Need-returns
-returns c = c .first .ensures ∙ unmet-first (puzzle (c .before .before .before .args .g) (c .before .before .before .args .«record» .now)) (c .before .before .before .args .drawing .now) (held-filled (c .before .before .before .pre .held))
+returns c = c .first .ensures ∙ unmet-first (puzzle (c .before .before .before .args .g) (c .before .before .before .args .«record» .now)) (c .before .before .before .args .drawing .now) (held-filled (c .before .before .before .pre .recordFits))
 
 pub clue-not-met-spec : {M : Type 1} → statement M
 clue-not-met-spec = tie.close (tie.spec first-requires returns)

@@ -3,7 +3,7 @@ use borrow.Author.Needs.{needs}
 use Prim.Native.Nat.{_-_}
 use Rattle.answers.proofs.First.{Seeking, seek-start, seek-on, seek-found, seek-none}
 use Rattle.rules.specs.Board.{gridBoard}
-use Rattle.judge.specs.Walking.{unseenAt}
+use Rattle.judge.specs.WalkMarks.{unseenAt}
 use mathlib.Core.Path.{sym, _∙_}
 use Rattle.judge.proofs.first_unseen.Statement.{statement}
 use Rattle.judge.proofs.first_unseen.Tie as tie

@@ -4,14 +4,14 @@ use borrow.Author.Needs.{needs}
 use lib.ListN.{drop}
 use mathlib.Core.Path.{sym, _∙_, ap}
 use mathlib.Core.List.{List}
-use Rattle.answers.specs.Told.{cause}
+use Rattle.answers.specs.Outcome.{cause}
 use Rattle.answers.proofs.First.{found-at, found-none}
 use Rattle.answers.proofs.Rows.{Left, left-all, left-next, left-turn, left-done}
 use Rattle.rules.specs.declared.Grid.{Grid}
-use Rattle.rules.specs.Record.{Drawn}
+use Rattle.rules.specs.Record.{DrawingFits}
 use Rattle.rules.specs.Board.{gridBoard}
 use Rattle.rules.specs.Judge.{judgeRows, saysYes}
-use Rattle.judge.proofs.Joining.{right-drawing}
+use Rattle.judge.proofs.JudgeRows.{right-drawing}
 use Rattle.judge.proofs.judge_grid.Statement.{statement}
 use Rattle.judge.proofs.judge_grid.Tie as tie
 
@@ -40,7 +40,7 @@ past6 c = left-next (past5 (c .before .before .before)) (found-none (c .enum-tol
 past7 : (c : tie.After-enum-told6) → Past (c .before .before .before .before .before .before .before .before .before .before .before .before .before .before .before .before .before .before .before .before .before .before .args .g) (c .before .before .before .before .before .before .before .before .before .before .before .before .before .before .before .before .before .before .before .before .before .before .args .«record» .now) (c .before .before .before .before .before .before .before .before .before .before .before .before .before .before .before .before .before .before .before .before .before .before .args .drawing .now) 7
 past7 c = left-next (past6 (c .before .before .before)) (found-none (c .enum-told6 .given .1) (c .before .before .not-one-loop .ensures))
 
-drawn : (c : tie.Else1) → Drawn (c .before .before .before .before .args .g) (c .before .before .before .before .args .«record» .now) (c .before .before .before .before .args .drawing .now)
+drawn : (c : tie.Else1) → DrawingFits (c .before .before .before .before .args .g) (c .before .before .before .before .args .«record» .now) (c .before .before .before .before .args .drawing .now)
 drawn c = right-drawing (c .before .before .before .before .args .drawing .now) (c .before .before .before .before .pre) (sym (ap cause (c .if1 .left)) ∙ c .before .wrong-length .ensures)
 
 wrong-length-requires : tie.Need-wrong-length-requires

@@ -4,8 +4,8 @@ use Rattle.answers.proofs.First.{found-at, found-none, first-below}
 use Rattle.rules.specs.Record.{size}
 use Rattle.rules.specs.Board.{gridBoard}
 use Rattle.rules.specs.Judge.{whiteAt}
-use Rattle.judge.proofs.Tracing.{unseen-off}
-use Rattle.judge.proofs.Joining.{no-white, from-white}
+use Rattle.judge.proofs.TraceMarks.{unseen-off}
+use Rattle.judge.proofs.JudgeRows.{no-white, from-white}
 use borrow.Author.Needs.{needs}
 use Rattle.judge.proofs.not_one_loop.Statement.{statement}
 use Rattle.judge.proofs.not_one_loop.Tie as tie
@@ -26,7 +26,7 @@ slice-aggregate-trace : tie.Need-slice-aggregate-trace
 slice-aggregate-trace c = search needs
 
 trace-requires : tie.Need-trace-requires
-trace-requires c κs = (record { sides = c .before .before .before .before .before .before .before .pre .held .sides; inside = first-below (whiteAt (gridBoard (c .before .before .before .before .before .before .before .args .g) (c .before .before .before .before .before .before .before .args .«record» .now)) (c .before .before .before .before .before .before .before .args .drawing .now)) (size (c .before .before .before .before .before .before .before .args .g)) (found-at (c .before .before .p .given .1) (c .before .before .before .before .first .ensures)) }, (c .before .before .before .before .before .before .before .pre .drawn, c .before .before .before .before .before .before .before .pre .held .sides .few))
+trace-requires c κs = (record { sides = c .before .before .before .before .before .before .before .pre .recordFits .sides; inside = first-below (whiteAt (gridBoard (c .before .before .before .before .before .before .before .args .g) (c .before .before .before .before .before .before .before .args .«record» .now)) (c .before .before .before .before .before .before .before .args .drawing .now)) (size (c .before .before .before .before .before .before .before .args .g)) (found-at (c .before .before .p .given .1) (c .before .before .before .before .first .ensures)) }, (c .before .before .before .before .before .before .before .pre .drawn, c .before .before .before .before .before .before .before .pre .recordFits .sides .few))
 
 slice-aggregate-first-unseen : tie.Need-slice-aggregate-first-unseen
 slice-aggregate-first-unseen c = search needs
@@ -35,7 +35,7 @@ first-unseen-requires : tie.Need-first-unseen-requires
 first-unseen-requires c κs = search needs
 
 returns-2 : tie.Need-returns-2
-returns-2 c = from-white (gridBoard (c .before .before .before .before .before .before .before .before .before .before .before .args .g) (c .before .before .before .before .before .before .before .before .before .before .before .args .«record» .now)) (c .before .before .before .before .before .before .before .before .before .before .before .args .drawing .now) (found-at (c .before .before .before .before .before .before .p .given .1) (c .before .before .before .before .before .before .before .before .first .ensures)) (c .first-unseen .ensures ∙ unseen-off (gridBoard (c .before .before .before .before .before .before .before .before .before .before .before .args .g) (c .before .before .before .before .before .before .before .before .before .before .before .args .«record» .now)) (c .before .before .before .before .before .before .before .before .before .before .before .args .drawing .now) (c .before .before .before .before .before .before .p .given .0 .0) (c .before .before .before .before .before .before .before .before .before .before .before .pre .held .sides .few) (c .before .before .before .trace .ensures))
+returns-2 c = from-white (gridBoard (c .before .before .before .before .before .before .before .before .before .before .before .args .g) (c .before .before .before .before .before .before .before .before .before .before .before .args .«record» .now)) (c .before .before .before .before .before .before .before .before .before .before .before .args .drawing .now) (found-at (c .before .before .before .before .before .before .p .given .1) (c .before .before .before .before .before .before .before .before .first .ensures)) (c .first-unseen .ensures ∙ unseen-off (gridBoard (c .before .before .before .before .before .before .before .before .before .before .before .args .g) (c .before .before .before .before .before .before .before .before .before .before .before .args .«record» .now)) (c .before .before .before .before .before .before .before .before .before .before .before .args .drawing .now) (c .before .before .before .before .before .before .p .given .0 .0) (c .before .before .before .before .before .before .before .before .before .before .before .pre .recordFits .sides .few) (c .before .before .before .trace .ensures))
 
 pub not-one-loop-spec : {M : Type 1} → statement M
 not-one-loop-spec =

@@ -1,6 +1,6 @@
 -- `judge::passed_up` meets its contract. Assumes nothing.
 use mathlib.Core.Path.{sym, ap}
-use Rattle.judge.specs.Walking.{passedUp}
+use Rattle.judge.specs.WalkMarks.{passedUp}
 use borrow.Author.Needs.{needs}
 use Rattle.judge.proofs.passed_up.Statement.{statement}
 use Rattle.judge.proofs.passed_up.Tie as tie

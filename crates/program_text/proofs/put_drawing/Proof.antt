@@ -4,7 +4,7 @@ use native.Mathlib.Omega.{arith}
 use lib.ListN.{length}
 use Rattle.answers.proofs.Lent.{wrote-length}
 use Rattle.program_text.specs.Lines.{drawingText}
-use Rattle.program_text.proofs.Putting.{Putting, put-start, put-room, put-end, cellsFrom, cell-more, cells-end, drawing-length}
+use Rattle.program_text.proofs.Lines.{Putting, put-start, put-room, put-end, cellsFrom, cell-more, cells-end, drawing-length}
 use Rattle.program_text.proofs.put_drawing.Statement.{statement}
 use Rattle.program_text.proofs.put_drawing.Tie as tie
 

@@ -3,7 +3,7 @@ use Prim.Native.Nat.{_≤_, _-_}
 use native.Mathlib.Omega.{arith}
 use lib.ListN.{length, drop, length-drop}
 use Rattle.answers.proofs.Lent.{wrote-length}
-use Rattle.program_text.proofs.Putting.{Putting, put-start, put-room, put-more, put-end, word-from, word-end}
+use Rattle.program_text.proofs.Lines.{Putting, put-start, put-room, put-more, put-end, word-from, word-end}
 use Rattle.program_text.proofs.put_word.Statement.{statement}
 use Rattle.program_text.proofs.put_word.Tie as tie
 

@@ -4,12 +4,12 @@ use borrow.Author.Needs.{needs}
 use lib.ListN.{drop}
 use mathlib.Core.Path.{sym, _∙_, ap}
 use mathlib.Core.List.{List}
-use Rattle.answers.specs.declared.Told.{Told}
-use Rattle.answers.specs.Told.{Row, cause}
+use Rattle.answers.specs.declared.Outcome.{Outcome}
+use Rattle.answers.specs.Outcome.{Row, cause}
 use Rattle.answers.proofs.First.{found-at, found-none}
 use Rattle.answers.proofs.Rows.{Left, left-all, left-next, left-turn, left-done}
 use Rattle.search.specs.Run.{searchRows}
-use Rattle.search_call.proofs.Calling.{Sized, sized}
+use Rattle.search_call.proofs.Calls.{Sized, sized}
 use Rattle.search_call.proofs.check.Statement.{statement}
 use Rattle.search_call.proofs.check.Tie as tie
 
@@ -19,10 +19,10 @@ rows c = searchRows (c .args .variables) (c .args .list .now) (c .args .trail .n
 lengths : (c : tie.Else1) → Sized (c .before .before .before .args .variables) (c .before .before .before .args .trail .now) (c .before .before .before .args .marks .now) (c .before .before .before .args .used)
 lengths c = sized (c .before .before .before .args .trail .now) (c .before .before .before .args .marks .now) (sym (c .before .wrong-lengths .ensures) ∙ c .if1 .left)
 
-past-lengths : (c : tie.Else1) (t : Told) → Left (rows (c .before .before .before)) t (drop 1 (rows (c .before .before .before)))
+past-lengths : (c : tie.Else1) (t : Outcome) → Left (rows (c .before .before .before)) t (drop 1 (rows (c .before .before .before)))
 past-lengths c t = left-next (left-all (rows (c .before .before .before)) t) (sym (ap cause (c .if1 .left)) ∙ ap cause (c .before .wrong-lengths .ensures))
 
-past-list : (c : tie.After-enum-told) (t : Told) → Left (rows (c .before .before .before .before .before .before)) t (drop 2 (rows (c .before .before .before .before .before .before)))
+past-list : (c : tie.After-enum-told) (t : Outcome) → Left (rows (c .before .before .before .before .before .before)) t (drop 2 (rows (c .before .before .before .before .before .before)))
 past-list c t = left-next (past-lengths (c .before .before .before) t) (found-none (c .enum-told .given .1) (c .before .before .wrong-list .ensures))
 
 wrong-lengths-requires : tie.Need-wrong-lengths-requires

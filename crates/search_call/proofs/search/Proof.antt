@@ -1,6 +1,6 @@
 -- `search_call::search` meets its contract. Assumes nothing.
 use borrow.Author.Needs.{needs}
-use Rattle.search_call.proofs.Calling.{Said, check-accepted, search-turned, search-answered}
+use Rattle.search_call.proofs.Calls.{Said, check-accepted, search-refused, search-answered}
 use Rattle.search_call.proofs.search.Statement.{statement}
 use Rattle.search_call.proofs.search.Tie as tie
 
@@ -20,7 +20,7 @@ same-length-2 : tie.Need-same-length-2
 same-length-2 c = search needs
 
 returns : tie.Need-returns
-returns c = search-turned (said (c .before .before .before)) (c .before .before .before .before .before .before .before .args .budget) (c .before .c .given .1)
+returns c = search-refused (said (c .before .before .before)) (c .before .before .before .before .before .before .before .args .budget) (c .before .c .given .1)
 
 enum-told : tie.Need-enum-told
 enum-told c = search needs

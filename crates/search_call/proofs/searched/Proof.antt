@@ -1,6 +1,6 @@
 -- `search_call::searched` meets its contract. Assumes nothing.
 use native.Mathlib.Omega.{arith}
-use Rattle.search_call.proofs.Calling.{Cleared, Loaded, accepted-sized, cleared-running, cleared-legal, loaded-running, loaded-listed, ended-inside, ended-literals, ended-bytes, ended}
+use Rattle.search_call.proofs.Calls.{Cleared, Loaded, accepted-sized, cleared-running, cleared-legal, loaded-running, loaded-listed, ended-inside, ended-literals, ended-bytes, ended}
 use borrow.Author.Needs.{needs}
 use Rattle.search_call.proofs.searched.Statement.{statement}
 use Rattle.search_call.proofs.searched.Tie as tie
@@ -8,14 +8,14 @@ use Rattle.search_call.proofs.searched.Tie as tie
 cleared : (c : tie.After-clear-marks) → Cleared (c .before .before .before .args .list .now) (c .before .before .before .args .trail .now) (c .before .before .before .args .marks .now) (c .before .before .before .args .used) (c .clear-marks .last .0)
 cleared c = record { accepted = c .before .before .before .pre; clears = c .clear-marks .ensures }
 
-loaded : (c : tie.After-load) → Loaded (c .before .before .before .before .before .before .before .before .args .list .now) (c .before .before .before .before .before .before .before .before .args .trail .now) (c .before .before .before .before .before .before .before .before .args .marks .now) (c .before .before .before .before .before .before .before .before .args .used) (c .before .before .before .before .before .clear-marks .last .0) (c .load .last .1 .0)
-loaded c = record { cleared = cleared (c .before .before .before .before .before); same = c .load .ensures .0; running = c .load .ensures .1 }
+loaded : (c : tie.After-pack-values) → Loaded (c .before .before .before .before .before .before .before .before .args .list .now) (c .before .before .before .before .before .before .before .before .args .trail .now) (c .before .before .before .before .before .before .before .before .args .marks .now) (c .before .before .before .before .before .before .before .before .args .used) (c .before .before .before .before .before .clear-marks .last .0) (c .pack-values .last .1 .0)
+loaded c = record { cleared = cleared (c .before .before .before .before .before); same = c .pack-values .ensures .0; running = c .pack-values .ensures .1 }
 
 clear-marks-requires : tie.Need-clear-marks-requires
 clear-marks-requires c κs = accepted-sized (c .before .before .pre) .inside
 
-load-requires : tie.Need-load-requires
-load-requires c κs = (cleared-running (cleared (c .before .before .before .before)), cleared-legal (cleared (c .before .before .before .before)))
+pack-values-requires : tie.Need-pack-values-requires
+pack-values-requires c κs = (cleared-running (cleared (c .before .before .before .before)), cleared-legal (cleared (c .before .before .before .before)))
 
 run-requires : tie.Need-run-requires
 run-requires c κs = (loaded-running (loaded (c .before .before .before .before)), loaded-listed (loaded (c .before .before .before .before)))
@@ -43,7 +43,7 @@ searched-spec =
     tie.close
     (tie.spec
     clear-marks-requires
-    load-requires
+    pack-values-requires
     run-requires
     used-requires
     clear-trail-requires

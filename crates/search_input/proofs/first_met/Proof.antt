@@ -4,7 +4,7 @@ use native.Mathlib.Omega.{arith}
 use Prim.Native.Nat.{_-_}
 use mathlib.Core.Path.{sym, _∙_}
 use lib.ListN.{length}
-use Rattle.search_input.proofs.Meeting.{Meeting, meeting-start, meeting-none, meeting-found, meeting-on}
+use Rattle.search_input.proofs.Flags.{Meeting, meeting-start, meeting-none, meeting-found, meeting-on}
 use Rattle.search_input.proofs.first_met.Statement.{statement}
 use Rattle.search_input.proofs.first_met.Tie as tie
 

@@ -3,7 +3,7 @@ use native.Mathlib.Omega.{arith}
 use Rattle.search.specs.Run.{wrongEntryAt}
 use Rattle.search_input.specs.Entries.{Until}
 use Rattle.search_input.proofs.Bounds.{until-found, until-none}
-use Rattle.search_input.proofs.Entering.{faulty-inside, wrong-entries}
+use Rattle.search_input.proofs.Entries.{faulty-inside, wrong-entries}
 use borrow.Author.Needs.{needs}
 use Rattle.search_input.proofs.first_wrong_entry.Statement.{statement}
 use Rattle.search_input.proofs.first_wrong_entry.Tie as tie

@@ -1,5 +1,5 @@
 -- `search_input::in_few` meets its contract. Assumes nothing.
-use Rattle.search_input.proofs.Meeting.{no-flags}
+use Rattle.search_input.proofs.Flags.{no-flags}
 use borrow.Author.Needs.{needs}
 use Rattle.search_input.proofs.in_few.Statement.{statement}
 use Rattle.search_input.proofs.in_few.Tie as tie

@@ -1,5 +1,5 @@
 -- `search_input::is_faulty` meets its contract. Assumes nothing.
-use Rattle.search_input.proofs.Entering.{faulty-zero, faulty-beyond, faulty-mark}
+use Rattle.search_input.proofs.Entries.{faulty-zero, faulty-beyond, faulty-mark}
 use borrow.Author.Needs.{needs}
 use Rattle.search_input.proofs.is_faulty.Statement.{statement}
 use Rattle.search_input.proofs.is_faulty.Tie as tie

@@ -1,5 +1,5 @@
 -- `search_input::meet` meets its contract. Assumes nothing.
-use Rattle.search_input.proofs.Meeting.{meet-below, meet-above, meet-inside}
+use Rattle.search_input.proofs.Flags.{meet-below, meet-above, meet-inside}
 use borrow.Author.Needs.{needs}
 use Rattle.search_input.proofs.meet.Statement.{statement}
 use Rattle.search_input.proofs.meet.Tie as tie

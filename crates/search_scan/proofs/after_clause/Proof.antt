@@ -4,7 +4,7 @@ use native.Mathlib.Omega.{arith}
 use borrow.Author.Needs.{needs}
 use lib.ListN.{length}
 use mathlib.Core.Path.{sym, _∙_}
-use Rattle.search_scan.proofs.Scanning.{Passing, pass-start, pass-none, pass-end, pass-on}
+use Rattle.search_scan.proofs.Scans.{Passing, pass-start, pass-none, pass-end, pass-on}
 use Rattle.search_scan.proofs.after_clause.Statement.{statement}
 use Rattle.search_scan.proofs.after_clause.Tie as tie
 

@@ -7,20 +7,20 @@ use lib.ListN.{getD, length}
 use mathlib.Core.Path.{_≡_, refl}
 use mathlib.Core.Bool.{false}
 use Rattle.cnf.specs.Literals.{closes}
-use Rattle.search_scan.specs.Held.{held}
+use Rattle.search_scan.specs.PackedValues.{packedValues}
 use Rattle.search_scan.proofs.Literals.{Read, code-two, code-within, code-not, code-zero, read-fails, read-stands}
-use Rattle.search_scan.proofs.Scanning.{Failing, fail-start, fail-none, fail-found, fail-false, fail-other}
+use Rattle.search_scan.proofs.Scans.{Failing, fail-start, fail-none, fail-found, fail-false, fail-other}
 use Rattle.search_scan.proofs.first_failed.Statement.{statement}
 use Rattle.search_scan.proofs.first_failed.Tie as tie
 
 abbrev Inv-loop : tie.InvT-loop
-Inv-loop list marks start₀ i₀ start i = (start ≡ i₀) × (start ≤ i) × Failing (held marks) list start i
+Inv-loop list marks start₀ i₀ start i = (start ≡ i₀) × (start ≤ i) × Failing (packedValues marks) list start i
 
 abbrev μ-loop : tie.MeasureT-loop
 μ-loop list marks start₀ i₀ start i = length list - i
 
 abbrev Inv-clauses : tie.InvT-clauses
-Inv-clauses list marks start₀ start = Failing (held marks) list start start
+Inv-clauses list marks start₀ start = Failing (packedValues marks) list start start
 
 abbrev μ-clauses : tie.MeasureT-clauses
 μ-clauses list marks start₀ start = length list - start

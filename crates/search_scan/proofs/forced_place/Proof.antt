@@ -6,13 +6,13 @@ use Rattle.search_scan.proofs.Literals.{Read, code-two, code-within, co
 use borrow.Author.Needs.{needs}
 use native.Mathlib.Omega.{arith}
 use Prim.Native.Nat.{_-_}
-use Rattle.search_scan.specs.Held.{held}
-use Rattle.search_scan.proofs.Scanning.{Forcing, force-start, force-none, force-found, force-next, force-on}
+use Rattle.search_scan.specs.PackedValues.{packedValues}
+use Rattle.search_scan.proofs.Scans.{Forcing, force-start, force-none, force-found, force-next, force-on}
 use Rattle.search_scan.proofs.forced_place.Statement.{statement}
 use Rattle.search_scan.proofs.forced_place.Tie as tie
 
 abbrev Inv-loop : tie.InvT-loop
-Inv-loop list marks clause₀ i₀ clause i = Forcing (held marks) list i clause
+Inv-loop list marks clause₀ i₀ clause i = Forcing (packedValues marks) list i clause
 
 abbrev μ-loop : tie.MeasureT-loop
 μ-loop list marks clause₀ i₀ clause i = length list - i

@@ -7,12 +7,12 @@ use lib.ListN.{length}
 use Rattle.answers.proofs.First.{Seeking, seek-start, seek-on, seek-found, seek-none}
 use Rattle.search.specs.Trail.{isUnassigned}
 use Rattle.search.specs.Step.{lowestUnassigned}
-use Rattle.search_scan.specs.Held.{held}
+use Rattle.search_scan.specs.PackedValues.{packedValues}
 use Rattle.search_scan.proofs.lowest_unassigned.Statement.{statement}
 use Rattle.search_scan.proofs.lowest_unassigned.Tie as tie
 
 abbrev Inv-loop : tie.InvT-loop
-Inv-loop marks i₀ i = Seeking (λ n. isUnassigned (held marks (suc n))) (length marks) i
+Inv-loop marks i₀ i = Seeking (λ n. isUnassigned (packedValues marks (suc n))) (length marks) i
 
 abbrev μ-loop : tie.MeasureT-loop
 μ-loop marks i₀ i = length marks - i

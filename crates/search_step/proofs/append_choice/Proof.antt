@@ -1,6 +1,6 @@
 -- `search_step::append_choice` meets its contract. Assumes nothing.
 use native.Mathlib.Omega.{arith}
-use Rattle.search_step.proofs.Appending.{choice-small, choice-wrote, append-room, append-enter, append-steps}
+use Rattle.search_step.proofs.Append.{choice-small, choice-wrote, append-room, append-enter, append-steps}
 use borrow.Author.Needs.{needs}
 use Rattle.search_step.proofs.append_choice.Statement.{statement}
 use Rattle.search_step.proofs.append_choice.Tie as tie
@@ -11,8 +11,8 @@ add-put-not c = let h = choice-small (c .before .before .pre .0) (c .before .bef
 put-not-requires : tie.Need-put-not-requires
 put-not-requires c κs = let r = append-room (c .before .before .pre .0) (c .before .before .pre .1) in let f = c .before .before .pre .0 .few in (choice-small (c .before .before .pre .0) (c .before .before .pre .1), omega arith)
 
-enter-requires : tie.Need-enter-requires
-enter-requires c κs = let h = append-enter (c .before .before .before .before .before .before .pre .0) (c .before .before .before .before .before .before .pre .1) (choice-wrote (c .before .before .before .before .before .before .args .index) (c .before .before .before .put-not .ensures)) in ((h .0, h .1, omega arith), h .2)
+assign-requires : tie.Need-assign-requires
+assign-requires c κs = let h = append-enter (c .before .before .before .before .before .before .pre .0) (c .before .before .before .before .before .before .pre .1) (choice-wrote (c .before .before .before .before .before .before .args .index) (c .before .before .before .put-not .ensures)) in ((h .0, h .1, omega arith), h .2)
 
 add-t5 : tie.Need-add-t5
 add-t5 c = search needs
@@ -24,9 +24,9 @@ same-length-2 : tie.Need-same-length-2
 same-length-2 c = search needs
 
 returns : tie.Need-returns
-returns c = append-steps (c .before .before .before .before .before .before .before .before .before .pre .0) (c .before .before .before .before .before .before .before .before .before .pre .1) (choice-wrote (c .before .before .before .before .before .before .before .before .before .args .index) (c .before .before .before .before .before .before .put-not .ensures)) (omega arith) (c .before .before .enter .ensures)
+returns c = append-steps (c .before .before .before .before .before .before .before .before .before .pre .0) (c .before .before .before .before .before .before .before .before .before .pre .1) (choice-wrote (c .before .before .before .before .before .before .before .before .before .args .index) (c .before .before .before .before .before .before .put-not .ensures)) (omega arith) (c .before .before .assign .ensures)
 
 pub append-choice-spec : {M : Type 1} → statement M
 append-choice-spec =
     tie.close
-    (tie.spec add-put-not put-not-requires enter-requires add-t5 same-length same-length-2 returns)
+    (tie.spec add-put-not put-not-requires assign-requires add-t5 same-length same-length-2 returns)

@@ -5,11 +5,11 @@ use mathlib.Core.Path.{_≡_}
 use mathlib.Core.Option.{none}
 use Rattle.search.specs.Trail.{entry}
 use Rattle.search.specs.Step.{failedClause, forcedPlace, step}
-use Rattle.search_scan.specs.Held.{held}
-use Rattle.search_trail.specs.Running.{heldTrail}
-use Rattle.search_step.specs.Stepping.{appends}
+use Rattle.search_scan.specs.PackedValues.{packedValues}
+use Rattle.search_trail.specs.Packed.{packedTrail}
+use Rattle.search_step.specs.Steps.{appends}
 use Rattle.answers.proofs.First.{found-at, found-none}
-use Rattle.search_step.proofs.Choosing.{Standing, by-choice, choice-allowed, on-failed, on-forced, on-free, on-full}
+use Rattle.search_step.proofs.Chosen.{Standing, by-choice, choice-allowed, on-failed, on-forced, on-free, on-full}
 use borrow.Author.Needs.{needs}
 use Rattle.search_step.proofs.step.Statement.{statement}
 use Rattle.search_step.proofs.step.Tie as tie
@@ -18,16 +18,16 @@ standing : (c : tie.Start) → Standing (c .args .list .now) (c .args .trail .no
 standing c = record { running = c .pre .0; listed = c .pre .1 }
 
 -- what was chosen, and what was not
-no-failed : (c : tie.After-enum-told2) → none ≡ failedClause (held (c .before .before .before .before .before .args .marks .now)) (c .before .before .before .before .before .args .list .now)
+no-failed : (c : tie.After-enum-told2) → none ≡ failedClause (packedValues (c .before .before .before .before .before .args .marks .now)) (c .before .before .before .before .before .args .list .now)
 no-failed c = found-none (c .enum-told2 .given .1) (c .before .before .first-failed .ensures)
 
-no-forced : (c : tie.After-enum-told3) → none ≡ forcedPlace (held (c .before .before .before .before .before .before .before .before .before .args .marks .now)) (c .before .before .before .before .before .before .before .before .before .args .list .now)
+no-forced : (c : tie.After-enum-told3) → none ≡ forcedPlace (packedValues (c .before .before .before .before .before .before .before .before .before .args .marks .now)) (c .before .before .before .before .before .before .before .before .before .args .list .now)
 no-forced c = found-none (c .enum-told3 .given .1) (c .before .before .forced-place .ensures)
 
-forced : (c : tie.After-forced) → step (length (c .before .before .before .before .before .before .before .before .before .args .marks .now)) (c .before .before .before .before .before .before .before .before .before .args .list .now) (heldTrail (c .before .before .before .before .before .before .before .before .before .args .trail .now) (c .before .before .before .before .before .before .before .before .before .args .marks .now) (c .before .before .before .before .before .before .before .before .before .args .used)) ≡ appends (entry (getD (c .before .before .before .before .before .before .before .before .before .args .list .now) (c .forced .given .0 .0) (pos 0)) 0) (heldTrail (c .before .before .before .before .before .before .before .before .before .args .trail .now) (c .before .before .before .before .before .before .before .before .before .args .marks .now) (c .before .before .before .before .before .before .before .before .before .args .used))
+forced : (c : tie.After-forced) → step (length (c .before .before .before .before .before .before .before .before .before .args .marks .now)) (c .before .before .before .before .before .before .before .before .before .args .list .now) (packedTrail (c .before .before .before .before .before .before .before .before .before .args .trail .now) (c .before .before .before .before .before .before .before .before .before .args .marks .now) (c .before .before .before .before .before .before .before .before .before .args .used)) ≡ appends (entry (getD (c .before .before .before .before .before .before .before .before .before .args .list .now) (c .forced .given .0 .0) (pos 0)) 0) (packedTrail (c .before .before .before .before .before .before .before .before .before .args .trail .now) (c .before .before .before .before .before .before .before .before .before .args .marks .now) (c .before .before .before .before .before .before .before .before .before .args .used))
 forced c = on-forced (standing (c .before .before .before .before .before .before .before .before .before)) (no-failed (c .before .before .before .before)) (found-at (c .forced .given .1) (c .before .before .forced-place .ensures))
 
-free : (c : tie.After-free) → step (length (c .before .before .before .before .before .before .before .before .before .before .before .before .before .args .marks .now)) (c .before .before .before .before .before .before .before .before .before .before .before .before .before .args .list .now) (heldTrail (c .before .before .before .before .before .before .before .before .before .before .before .before .before .args .trail .now) (c .before .before .before .before .before .before .before .before .before .before .before .before .before .args .marks .now) (c .before .before .before .before .before .before .before .before .before .before .before .before .before .args .used)) ≡ appends (entry (negsuc (c .free .given .0 .0)) 1) (heldTrail (c .before .before .before .before .before .before .before .before .before .before .before .before .before .args .trail .now) (c .before .before .before .before .before .before .before .before .before .before .before .before .before .args .marks .now) (c .before .before .before .before .before .before .before .before .before .before .before .before .before .args .used))
+free : (c : tie.After-free) → step (length (c .before .before .before .before .before .before .before .before .before .before .before .before .before .args .marks .now)) (c .before .before .before .before .before .before .before .before .before .before .before .before .before .args .list .now) (packedTrail (c .before .before .before .before .before .before .before .before .before .before .before .before .before .args .trail .now) (c .before .before .before .before .before .before .before .before .before .before .before .before .before .args .marks .now) (c .before .before .before .before .before .before .before .before .before .before .before .before .before .args .used)) ≡ appends (entry (negsuc (c .free .given .0 .0)) 1) (packedTrail (c .before .before .before .before .before .before .before .before .before .before .before .before .before .args .trail .now) (c .before .before .before .before .before .before .before .before .before .before .before .before .before .args .marks .now) (c .before .before .before .before .before .before .before .before .before .before .before .before .before .args .used))
 free c = on-free (standing (c .before .before .before .before .before .before .before .before .before .before .before .before .before)) (no-failed (c .before .before .before .before .before .before .before .before)) (no-forced (c .before .before .before .before)) (found-at (c .free .given .1) (c .before .before .lowest-unassigned .ensures))
 
 first-failed-requires : tie.Need-first-failed-requires

@@ -1,15 +1,15 @@
 -- `search_trail::clear_marks` meets its contract: the loop keeps `Clearing`. Assumes nothing.
-use Rattle.search_trail.proofs.Clearing.{clear-byte, Clearing, clear-start, clear-end}
+use Rattle.search_trail.proofs.ClearedSlices.{clear-byte, Clearing, clear-start, clear-end}
 use borrow.Author.Needs.{needs}
 use native.Mathlib.Omega.{arith}
 use Prim.Native.Nat.{_-_}
 use lib.ListN.{length, length-map}
-use Rattle.search_scan.specs.Held.{lows}
+use Rattle.search_scan.specs.PackedValues.{bareMarks}
 use Rattle.search_trail.proofs.clear_marks.Statement.{statement}
 use Rattle.search_trail.proofs.clear_marks.Tie as tie
 
 abbrev Inv-loop : tie.InvT-loop
-Inv-loop marks₀ used i₀ marks i = Clearing 0 (lows marks₀) used marks₀ marks i
+Inv-loop marks₀ used i₀ marks i = Clearing 0 (bareMarks marks₀) used marks₀ marks i
 
 abbrev μ-loop : tie.MeasureT-loop
 μ-loop marks₀ used i₀ marks i = length marks₀ - i

@@ -6,7 +6,7 @@ use lib.IntN.{pos}
 use lib.ListN.{length}
 use borrow.Author.Tests.{le-ltb}
 use mathlib.Core.Path.{refl}
-use Rattle.search_trail.proofs.Clearing.{Clearing, clear-from, clear-on, clear-end}
+use Rattle.search_trail.proofs.ClearedSlices.{Clearing, clear-from, clear-on, clear-end}
 use Rattle.search_trail.proofs.clear_trail.Statement.{statement}
 use Rattle.search_trail.proofs.clear_trail.Tie as tie
 

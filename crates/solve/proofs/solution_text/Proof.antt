@@ -1,13 +1,13 @@
 -- `solve::solution_text` meets its contract. Assumes nothing.
 use mathlib.Core.Path.{refl, ap}
-use Rattle.solver.specs.Solving.{Lent}
+use Rattle.solver.specs.SolverCall.{Lent}
 use Rattle.solve.proofs.Ends.{Solves, ends-refused, ends-none, ends-halted, found-held, found-inside, ends-found}
 use borrow.Author.Needs.{needs}
 use Rattle.solve.proofs.solution_text.Statement.{statement}
 use Rattle.solve.proofs.solution_text.Tie as tie
 
 call : (c : tie.After-solve) → Solves (c .before .before .before .before .before .before .before .before .args .«record» .now) (c .solve .result) (c .solve .last .1 .1 .1 .1 .1 .0)
-call c = record { told = c .solve .ensures .0; left = ap (λ (l : Lent). l .drawing) (c .solve .ensures .1) }
+call c = record { outcome = c .solve .ensures .0; left = ap (λ (l : Lent). l .drawing) (c .solve .ensures .1) }
 
 slice-aggregate-solve : tie.Need-slice-aggregate-solve
 slice-aggregate-solve c = refl
@@ -57,8 +57,8 @@ put-word-requires-2 c κs = search needs
 enum-told-4 : tie.Need-enum-told-4
 enum-told-4 c = search needs
 
-told-requires : tie.Need-told-requires
-told-requires c κs = search needs
+outcome-requires : tie.Need-outcome-requires
+outcome-requires c κs = search needs
 
 put-refused-requires : tie.Need-put-refused-requires
 put-refused-requires c κs = search needs
@@ -85,7 +85,7 @@ same-length-4 : tie.Need-same-length-4
 same-length-4 c = search needs
 
 returns-4 : tie.Need-returns-4
-returns-4 c = ends-refused (call (c .before .before .before .before .before .before .before .before .before .before .before .before)) (c .before .before .before .before .before .enum-told4 .given .1) (c .before .before .before .told .ensures) (c .before .before .put-refused .ensures)
+returns-4 c = ends-refused (call (c .before .before .before .before .before .before .before .before .before .before .before .before)) (c .before .before .before .before .before .enum-told4 .given .1) (c .before .before .before .outcome .ensures) (c .before .before .put-refused .ensures)
 
 pub solution-text-spec : {M : Type 1} → statement M
 solution-text-spec =
@@ -107,7 +107,7 @@ solution-text-spec =
     slice-aggregate-put-word-2
     put-word-requires-2
     enum-told-4
-    told-requires
+    outcome-requires
     put-refused-requires
     same-length
     returns

@@ -1,6 +1,6 @@
 -- `solver_call::solve` meets its contract. Assumes nothing.
-use Rattle.rules.proofs.Records.{read-held}
-use Rattle.solver.specs.Solving.{Lent}
+use Rattle.rules.proofs.Records.{read-fits}
+use Rattle.solver.specs.SolverCall.{Lent}
 use Rattle.solver_call.specs.Answer.{lentOf}
 use Rattle.solver_call.proofs.Ends.{ends-refused, ends-short, fits, ends-solved}
 use borrow.Author.Needs.{needs}
@@ -26,7 +26,7 @@ returns : tie.Need-returns
 returns c = ends-refused (c .before .before .before .before .before .before .before .before .args .«record» .now) (c .before .before .before .before .before .before .before .before .args .budget) (lent (c .before .before .before .before .before .before .before .before)) (c .passed-up .ensures) (c .before .enum-told .given .1) (c .before .before .before .read .ensures)
 
 needs-of-requires : tie.Need-needs-of-requires
-needs-of-requires c κs = read-held (c .before .before .before .before .before .before .before .before .args .«record» .now) (c .before .p .given .1) (c .before .before .before .read .ensures)
+needs-of-requires c κs = read-fits (c .before .before .before .before .before .before .before .before .args .«record» .now) (c .before .p .given .1) (c .before .before .before .read .ensures)
 
 first-short-requires : tie.Need-first-short-requires
 first-short-requires c κs = search needs

@@ -3,7 +3,7 @@ use Prim.Native.Nat.{_-_}
 use native.Mathlib.Omega.{arith}
 use borrow.Author.Needs.{needs}
 use Rattle.rules.specs.Board.{gridBoard}
-use Rattle.encoder_numbers.proofs.Filling.{Filling, fill-start, fill-inside, fill-on, fill-long, fill-end}
+use Rattle.encoder_numbers.proofs.FilledTables.{Filling, fill-start, fill-inside, fill-on, fill-long, fill-end}
 use Rattle.decoder.specs.Values.{byteAt}
 use Rattle.decoder.proofs.drawing.draw.Statement.{statement}
 use Rattle.decoder.proofs.drawing.draw.Tie as tie
@@ -15,7 +15,7 @@ abbrev μ-loop : tie.MeasureT-loop
 μ-loop g «record» values «open» ranks firsts drawing₀ n x₀ drawing x = n - x
 
 size-requires : tie.Need-size-requires Inv-loop μ-loop
-size-requires c κs = c .before .before .before .before .before .pre .0 .valued .ways .held .sides
+size-requires c κs = c .before .before .before .before .before .pre .0 .valued .linkVariables .recordFits .sides
 
 loop-holds : tie.Need-loop-holds Inv-loop μ-loop
 loop-holds c = fill-start (byteAt (gridBoard (c .before .before .before .before .before .before .args .g) (c .before .before .before .before .before .before .args .«record» .now)) (c .before .before .before .before .before .before .args .values .now)) (c .before .before .before .before .before .before .args .drawing .now) (c .size .ensures) (c .before .before .before .before .before .before .pre .1)

@@ -10,7 +10,7 @@ use Rattle.rules.proofs.Boards.{wired}
 use Rattle.encoder.specs.Variables.{E, variables, place}
 use Rattle.encoder.specs.Decoding.{valueOf}
 use Rattle.encoder.proofs.Known.{Known}
-use Rattle.encoder_numbers.specs.Tables.{wayPlace}
+use Rattle.encoder_numbers.specs.Tables.{linkPlace}
 use Rattle.encoder_numbers.proofs.Numbers.{bit-off, bit-on}
 use Rattle.decoder.proofs.Values.{link-some, link-out, open-inside, known-inside, value-true, value-false, at-e, back-known, link-nowhere, link-clue}
 use borrow.Author.Needs.{needs}
@@ -29,20 +29,20 @@ leads c = found-at (c .p .given .1) (c .before .before .neighbour .ensures)
 opened : (c : tie.Else1) → b (c .before .before .before .before .before .before .before .before .before) .isOpen (y (c .before .before .before)) ≡ true
 opened c = bit-on _ (λ e. c .if1 .left (c .before .open-bit .ensures ∙ e))
 
-out : (c : tie.After-way-place) → Known (b (c .before .before .before .before .before .before .before .before .before .before)) (E (c .before .before .before .before .before .before .before .before .before .before .args .x) (c .before .before .before .before .before .before .before .before .before .before .args .d))
+out : (c : tie.After-link-place) → Known (b (c .before .before .before .before .before .before .before .before .before .before)) (E (c .before .before .before .before .before .before .before .before .before .before .args .x) (c .before .before .before .before .before .before .before .before .before .before .args .d))
 out c = (c .before .before .before .before .before .before .before .before .before .before .pre .1, (y (c .before .before .before .before), sym (leads (c .before .before .before .before)), opened (c .before)))
 
-out-at : (c : tie.After-way-place) → c .way-place .result ≡ place (E (c .before .before .before .before .before .before .before .before .before .before .args .x) (c .before .before .before .before .before .before .before .before .before .before .args .d)) (variables (b (c .before .before .before .before .before .before .before .before .before .before)))
-out-at c = at-e (c .before .before .before .before .before .before .before .before .before .before .pre .0) (c .before .before .before .before .before .before .before .before .before .before .args .x) (c .before .before .before .before .before .before .before .before .before .before .args .d) (out c) (c .way-place .ensures)
+out-at : (c : tie.After-link-place) → c .link-place .result ≡ place (E (c .before .before .before .before .before .before .before .before .before .before .args .x) (c .before .before .before .before .before .before .before .before .before .before .args .d)) (variables (b (c .before .before .before .before .before .before .before .before .before .before)))
+out-at c = at-e (c .before .before .before .before .before .before .before .before .before .before .pre .0) (c .before .before .before .before .before .before .before .before .before .before .args .x) (c .before .before .before .before .before .before .before .before .before .before .args .d) (out c) (c .link-place .ensures)
 
-into : (c : tie.After-way-place2) → Known (b (c .before .before .before .before .before .before .before .before .before .before .before .before .before .before)) (E (y (c .before .before .before .before .before .before .before .before)) (opposite (c .before .before .before .before .before .before .before .before .before .before .before .before .before .before .args .d)))
+into : (c : tie.After-link-place2) → Known (b (c .before .before .before .before .before .before .before .before .before .before .before .before .before .before)) (E (y (c .before .before .before .before .before .before .before .before)) (opposite (c .before .before .before .before .before .before .before .before .before .before .before .before .before .before .args .d)))
 into c = back-known (c .before .before .before .before .before .before .before .before .before .before .before .before .before .before .pre .0) (c .before .before .before .before .before .before .before .before .before .before .before .before .before .before .args .x) (y (c .before .before .before .before .before .before .before .before)) (c .before .before .before .before .before .before .before .before .before .before .before .before .before .before .args .d) (c .before .before .before .before .before .before .before .before .before .before .before .before .before .before .pre .1) (leads (c .before .before .before .before .before .before .before .before)) (opened (c .before .before .before .before .before))
 
-into-at : (c : tie.After-way-place2) → c .way-place2 .result ≡ place (E (y (c .before .before .before .before .before .before .before .before)) (opposite (c .before .before .before .before .before .before .before .before .before .before .before .before .before .before .args .d))) (variables (b (c .before .before .before .before .before .before .before .before .before .before .before .before .before .before)))
-into-at c = at-e (c .before .before .before .before .before .before .before .before .before .before .before .before .before .before .pre .0) (y (c .before .before .before .before .before .before .before .before)) (opposite (c .before .before .before .before .before .before .before .before .before .before .before .before .before .before .args .d)) (into c) (c .way-place2 .ensures ∙ ap (wayPlace (b (c .before .before .before .before .before .before .before .before .before .before .before .before .before .before)) (y (c .before .before .before .before .before .before .before .before))) (c .before .opposite .ensures))
+into-at : (c : tie.After-link-place2) → c .link-place2 .result ≡ place (E (y (c .before .before .before .before .before .before .before .before)) (opposite (c .before .before .before .before .before .before .before .before .before .before .before .before .before .before .args .d))) (variables (b (c .before .before .before .before .before .before .before .before .before .before .before .before .before .before)))
+into-at c = at-e (c .before .before .before .before .before .before .before .before .before .before .before .before .before .before .pre .0) (y (c .before .before .before .before .before .before .before .before)) (opposite (c .before .before .before .before .before .before .before .before .before .before .before .before .before .before .args .d)) (into c) (c .link-place2 .ensures ∙ ap (linkPlace (b (c .before .before .before .before .before .before .before .before .before .before .before .before .before .before)) (y (c .before .before .before .before .before .before .before .before))) (c .before .opposite .ensures))
 
 neighbour-requires : tie.Need-neighbour-requires
-neighbour-requires c κs = record { sides = c .before .before .before .pre .0 .ways .held .sides; inside = open-inside (c .before .before .before .pre .0) (c .before .before .before .pre .1) }
+neighbour-requires c κs = record { sides = c .before .before .before .pre .0 .linkVariables .recordFits .sides; inside = open-inside (c .before .before .before .pre .0) (c .before .before .before .pre .1) }
 
 enum-known-p : tie.Need-enum-known-p
 enum-known-p c = search needs
@@ -54,13 +54,13 @@ returns : tie.Need-returns
 returns c = link-nowhere (c .before .before .before .before .before .before .pre .0) (c .before .before .before .before .before .before .args .x) (c .before .before .before .before .before .before .args .d) (found-none (c .enum-told .given .1) (c .before .before .neighbour .ensures))
 
 open-bit-requires : tie.Need-open-bit-requires
-open-bit-requires c κs = (c .before .before .before .before .before .before .before .pre .0 .ways .held, wired (c .before .before .before .before .before .before .before .args .g) .inside (c .before .before .before .before .before .before .before .args .d) (c .before .before .before .before .before .before .before .args .x) _ (sym (leads (c .before))) .1)
+open-bit-requires c κs = (c .before .before .before .before .before .before .before .pre .0 .linkVariables .recordFits, wired (c .before .before .before .before .before .before .before .args .g) .inside (c .before .before .before .before .before .before .before .args .d) (c .before .before .before .before .before .before .before .args .x) _ (sym (leads (c .before))) .1)
 
 returns-2 : tie.Need-returns-2
 returns-2 c = link-clue (c .before .before .before .before .before .before .before .before .before .pre .0) (c .before .before .before .before .before .before .before .before .before .args .x) (y (c .before .before .before)) (c .before .before .before .before .before .before .before .before .before .args .d) (leads (c .before .before .before)) (bit-off _ (sym (c .before .open-bit .ensures) ∙ c .if1 .taken))
 
-way-place-requires : tie.Need-way-place-requires
-way-place-requires c κs = (c .before .before .before .before .before .before .before .before .before .pre .0 .ways, open-inside (c .before .before .before .before .before .before .before .before .before .pre .0) (c .before .before .before .before .before .before .before .before .before .pre .1))
+link-place-requires : tie.Need-link-place-requires
+link-place-requires c κs = (c .before .before .before .before .before .before .before .before .before .pre .0 .linkVariables, open-inside (c .before .before .before .before .before .before .before .before .before .pre .0) (c .before .before .before .before .before .before .before .before .before .pre .1))
 
 shared-slice-read-if2 : tie.Need-shared-slice-read-if2
 shared-slice-read-if2 c = known-inside (c .before .before .before .before .before .before .before .before .before .before .before .pre .0) (E (c .before .before .before .before .before .before .before .before .before .before .before .args .x) (c .before .before .before .before .before .before .before .before .before .before .before .args .d)) (out (c .before)) (out-at (c .before))
@@ -71,8 +71,8 @@ returns-3 c = link-out (b (c .before .before .before .before .before .before .be
 opposite-requires : tie.Need-opposite-requires
 opposite-requires c κs = search needs
 
-way-place-requires-2 : tie.Need-way-place-requires-2
-way-place-requires-2 c κs = (c .before .before .before .before .before .before .before .before .before .before .before .before .before .pre .0 .ways, open-inside (c .before .before .before .before .before .before .before .before .before .before .before .before .before .pre .0) (opened (c .before .before .before .before)))
+link-place-requires-2 : tie.Need-link-place-requires-2
+link-place-requires-2 c κs = (c .before .before .before .before .before .before .before .before .before .before .before .before .before .pre .0 .linkVariables, open-inside (c .before .before .before .before .before .before .before .before .before .before .before .before .before .pre .0) (opened (c .before .before .before .before)))
 
 shared-slice-read-if3 : tie.Need-shared-slice-read-if3
 shared-slice-read-if3 c = known-inside (c .before .before .before .before .before .before .before .before .before .before .before .before .before .before .before .pre .0) (E (y (c .before .before .before .before .before .before .before .before .before)) (opposite (c .before .before .before .before .before .before .before .before .before .before .before .before .before .before .before .args .d))) (into (c .before)) (into-at (c .before))
@@ -93,11 +93,11 @@ link-bit-spec =
     returns
     open-bit-requires
     returns-2
-    way-place-requires
+    link-place-requires
     shared-slice-read-if2
     returns-3
     opposite-requires
-    way-place-requires-2
+    link-place-requires-2
     shared-slice-read-if3
     returns-4
     returns-5)

@@ -6,9 +6,9 @@ use mathlib.Core.List.{map}
 use Rattle.answers.proofs.Lent.{wrote-nothing, wrote-after, wrote-recast}
 use Rattle.rules.specs.Board.{gridBoard}
 use Rattle.encoder.specs.Clauses.{families}
-use Rattle.encoder.proofs.Emitting.{listOf, list-families}
-use Rattle.encoder_shapes.proofs.Writing.{writable-recast, in-parts, first-part, next-parts}
-use Rattle.encoder_numbers.proofs.Sides.{f-few, a-few}
+use Rattle.encoder.proofs.ClauseLists.{listOf, list-families}
+use Rattle.encoder_shapes.proofs.Written.{writable-recast, in-parts, first-part, next-parts}
+use Rattle.encoder_numbers.proofs.Neighbours.{f-few, a-few}
 use Rattle.encoder_call.proofs.EachCell.{first-count, square-few}
 use Rattle.encoder_call.proofs.families.all_families.Statement.{statement}
 use Rattle.encoder_call.proofs.families.all_families.Tie as tie

@@ -5,8 +5,8 @@ use Prim.Native.Nat.{_-_}
 use mathlib.Core.Path.{sym}
 use Rattle.answers.proofs.Lent.{wrote-recast}
 use Rattle.rules.specs.Board.{gridBoard}
-use Rattle.encoder.proofs.Emitting.{listOf, atCell}
-use Rattle.encoder_shapes.proofs.Writing.{writable-recast, Writing, write-start, write-needs, write-on, write-end, write-kept}
+use Rattle.encoder.proofs.ClauseLists.{listOf, atCell}
+use Rattle.encoder_shapes.proofs.Written.{writable-recast, Writing, write-start, write-needs, write-on, write-end, write-kept}
 use Rattle.encoder_call.specs.Families.{familyAt}
 use Rattle.encoder_call.proofs.EachCell.{cells-each}
 use Rattle.encoder_call.proofs.families.cells.Statement.{statement}
@@ -19,7 +19,7 @@ abbrev μ-loop : tie.MeasureT-loop
 μ-loop family list₀ at g «record» f a ranks firsts n i₀ k₀ list i k = n - k
 
 size-requires : tie.Need-size-requires Inv-loop μ-loop
-size-requires c κs = (c .before .before .before .pre .1) .ranked .held .sides
+size-requires c κs = (c .before .before .before .pre .1) .ranked .recordFits .sides
 
 loop-holds : tie.Need-loop-holds Inv-loop μ-loop
 loop-holds c = write-start (writable-recast (cells-each (gridBoard (c .before .before .before .before .args .g) (c .before .before .before .before .args .«record» .now)) (familyAt (c .before .before .before .before .args .«family») (gridBoard (c .before .before .before .before .args .g) (c .before .before .before .before .args .«record» .now))) (c .size .ensures)) (c .before .before .before .before .pre .0))

@@ -3,7 +3,7 @@ use borrow.Author.Needs.{needs}
 use mathlib.Core.Path.{sym, ap}
 use Rattle.answers.proofs.Lent.{wrote-recast}
 use Rattle.encoder.specs.Lists.{joined}
-use Rattle.encoder_shapes.proofs.Writing.{writable-recast}
+use Rattle.encoder_shapes.proofs.Written.{writable-recast}
 use Rattle.encoder_call.specs.Families.{familyParts}
 use Rattle.encoder_call.proofs.families.open_cell.Statement.{statement}
 use Rattle.encoder_call.proofs.families.open_cell.Tie as tie

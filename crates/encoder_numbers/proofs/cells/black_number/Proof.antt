@@ -1,7 +1,7 @@
 -- `encoder_numbers::cells::black_number` meets its contract. Assumes nothing.
 use native.Mathlib.Omega.{arith}
 use borrow.Author.Needs.{needs}
-use Rattle.encoder_numbers.proofs.Sides.{black-clue, black-open, rank-small}
+use Rattle.encoder_numbers.proofs.Neighbours.{black-clue, black-open, rank-small}
 use Rattle.encoder_numbers.proofs.cells.black_number.Statement.{statement}
 use Rattle.encoder_numbers.proofs.cells.black_number.Tie as tie
 

@@ -5,7 +5,7 @@ use borrow.Author.Needs.{needs}
 use mathlib.Core.Path.{refl}
 use Rattle.rules.specs.Board.{Board, gridBoard}
 use Rattle.encoder.proofs.Places.{rank}
-use Rattle.encoder_numbers.proofs.Filling.{fill-start, fill-long, fill-inside, Adding, add-on, add-end}
+use Rattle.encoder_numbers.proofs.FilledTables.{fill-start, fill-long, fill-inside, Adding, add-on, add-end}
 use Rattle.encoder_numbers.proofs.Numbers.{rank-on, rank-few}
 use Rattle.encoder_numbers.proofs.tables.fill_ranks.Statement.{statement}
 use Rattle.encoder_numbers.proofs.tables.fill_ranks.Tie as tie

@@ -13,8 +13,8 @@ bad-byte-at-requires c κs = search needs
 enum-told-2 : tie.Need-enum-told-2
 enum-told-2 c = search needs
 
-touching-at-requires : tie.Need-touching-at-requires
-touching-at-requires c κs = search needs
+touches-at-requires : tie.Need-touches-at-requires
+touches-at-requires c κs = search needs
 
 enum-told-3 : tie.Need-enum-told-3
 enum-told-3 c = search needs
@@ -25,8 +25,8 @@ unmet-at-requires c κs = search needs
 enum-told-4 : tie.Need-enum-told-4
 enum-told-4 c = search needs
 
-loose-at-requires : tie.Need-loose-at-requires
-loose-at-requires c κs = search needs
+unmatched-link-at-requires : tie.Need-unmatched-link-at-requires
+unmatched-link-at-requires c κs = search needs
 
 enum-told-5 : tie.Need-enum-told-5
 enum-told-5 c = search needs
@@ -44,13 +44,13 @@ returns : tie.Need-returns
 returns c = c .bad-byte-at .ensures ∙ rw (c .before .enum-told .given .1)
 
 returns-2 : tie.Need-returns-2
-returns-2 c = c .touching-at .ensures ∙ rw (c .before .enum-told2 .given .1)
+returns-2 c = c .touches-at .ensures ∙ rw (c .before .enum-told2 .given .1)
 
 returns-3 : tie.Need-returns-3
 returns-3 c = c .unmet-at .ensures ∙ rw (c .before .enum-told3 .given .1)
 
 returns-4 : tie.Need-returns-4
-returns-4 c = c .loose-at .ensures ∙ rw (c .before .enum-told4 .given .1)
+returns-4 c = c .unmatched-link-at .ensures ∙ rw (c .before .enum-told4 .given .1)
 
 returns-5 : tie.Need-returns-5
 returns-5 c = c .not-two-at .ensures ∙ rw (c .before .enum-told5 .given .1)
@@ -65,11 +65,11 @@ holds-spec =
     enum-told
     bad-byte-at-requires
     enum-told-2
-    touching-at-requires
+    touches-at-requires
     enum-told-3
     unmet-at-requires
     enum-told-4
-    loose-at-requires
+    unmatched-link-at-requires
     enum-told-5
     not-two-at-requires
     enum-told-6

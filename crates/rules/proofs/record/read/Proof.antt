@@ -63,16 +63,16 @@ returns-5 : tie.Need-returns-5
 returns-5 c = columns-wrong (past-kind (c .before .before .before .before .before .before)) (sym (c .before .is-side2 .ensures) ∙ not-true _ (c .if5 .taken))
 
 mul-if6 : tie.Need-mul-if6
-mul-if6 c = omega (arith, past-sides c .held .few)
+mul-if6 c = omega (arith, past-sides c .recordFits .few)
 
 add-if6 : tie.Need-add-if6
-add-if6 c = omega (arith, past-sides c .held .few)
+add-if6 c = omega (arith, past-sides c .recordFits .few)
 
 returns-6 : tie.Need-returns-6
 returns-6 c = other-size (past-sides (c .before)) (c .if6 .taken)
 
 wrong-cell-requires : tie.Need-wrong-cell-requires
-wrong-cell-requires c κs = record { sides = past-sides (c .before) .held; long = c .if6 .left }
+wrong-cell-requires c κs = record { sides = past-sides (c .before) .recordFits; long = c .if6 .left }
 
 enum-known-p : tie.Need-enum-known-p
 enum-known-p c = search needs

@@ -1,0 +1,73 @@
+-- The two calls where no row turns them down. Assumes nothing.
+use Prim.Native.Nat.{ℕ, suc, _≤_, _<_, _^_}
+use native.Mathlib.Omega.{arith}
+use borrow.Author.Tests.{le-ltb, ltb-false}
+use lib.Dec.{ltb}
+use lib.IntN.{ℤ}
+use lib.ListN.{length, take}
+use lib.Seq.{take-append-seam}
+use mathlib.Core.Path.{_≡_, refl, _∙_, ap}
+use mathlib.Core.Bool.{Bool, true, false}
+use mathlib.Core.Option.{Option, none, some}
+use mathlib.Core.List.{List, [], _∷_}
+use Rattle.answers.specs.declared.Outcome.{Outcome}
+use Rattle.answers.specs.Outcome.{answer, cause, unless}
+use Rattle.answers.specs.Lists.{tally}
+use Rattle.answers.specs.Lent.{tooShort, filled, unlessRefused}
+use Rattle.answers.proofs.Rows.{no-cause}
+use Rattle.answers.proofs.Settled.{enough}
+use Rattle.cnf.specs.Literals.{closes, mostVariables, tooManyVariables, wrongList}
+use Rattle.cnf.specs.Clauses.{clauseCount}
+use Rattle.dimacs.specs.Text.{textOf, Writable}
+use Rattle.dimacs.specs.Reader.{refusedAt, listOf}
+use Rattle.dimacs.specs.Calls.{writerAnswer, readerAnswer}
+use Rattle.dimacs_theory.specs.Reading.{ReadAs, Writes, Reads, written, elementsRead}
+
+-- a row that did not turn the call down
+past : (n : ℕ) (o : Option ℕ) (t : Outcome) → (n ≡ 0 → ⊥) → unless n o t .number ≡ 0 → (o ≡ none) × (t .number ≡ 0)
+past n none t z e = (refl, e)
+past n (some v) t z e = absurd (z e)
+
+module _ (v : ℕ) (ls : List ℤ) (buf : List ℕ) where
+  pub writer-passed : clauseCount ls < 2 ^ 64 → writerAnswer v ls buf .number ≡ 0 → Writable v ls × (length (textOf v ls) ≤ length buf)
+  writer-passed c e =
+      let a = past 17 (cause (tooManyVariables v)) _ (omega arith) e in
+      let b = past 16 (wrongList v ls) _ (omega arith) (a .1) in
+      let d = past 6 (tooShort (length buf) (length (textOf v ls))) _ (omega arith) (b .1) in
+      (record { few = ltb-false mostVariables v (no-cause _ (a .0)); right = b .0; counted = c }, enough (length buf) (d .0))
+
+  module _ (w : Writable v ls) (h : length (textOf v ls) ≤ length buf) where
+    pub writer-answers : Writes v ls buf (textOf v ls)
+    writer-answers = record { outcome = outcome; left = ap (λ t. unlessRefused t buf (filled buf (textOf v ls))) outcome }
+      where
+        outcome : writerAnswer v ls buf ≡ answer (length (textOf v ls)) 0 0
+        outcome = rw (le-ltb mostVariables v (w .few), w .right, le-ltb (length buf) (length (textOf v ls)) h)
+
+    pub writer-hands : written v ls buf ≡ textOf v ls
+    writer-hands = let a = writer-answers in (λ i. take (a .outcome i .first) (a .left i)) ∙ take-append-seam (textOf v ls) _
+
+module _ (text : List ℕ) (buf : List ℤ) where
+  pub reader-passed : readerAnswer text buf .number ≡ 0 → (refusedAt text ≡ none) × (length (listOf text) ≤ length buf)
+  reader-passed e =
+      let a = past 19 (refusedAt text) _ (omega arith) e in
+      let b = past 6 (tooShort (length buf) (length (listOf text))) _ (omega arith) (a .1) in
+      (a .0, enough (length buf) (b .0))
+
+  module _ {v : ℕ} {ls : List ℤ} (r : ReadAs text v ls) (h : length ls ≤ length buf) where
+    pub reader-answers : Reads text buf v ls
+    reader-answers = record { outcome = outcome; left = λ i. unlessRefused (outcome i) buf (filled buf (r .list i)) }
+      where
+        outcome : readerAnswer text buf ≡ answer (length ls) v (clauseCount ls)
+        outcome = rw (r .taken, r .list, r .variables, r .clauses, le-ltb (length buf) (length ls) h)
+
+    pub reader-hands : elementsRead text buf ≡ ls
+    reader-hands = let a = reader-answers in (λ i. take (a .outcome i .first) (a .left i)) ∙ take-append-seam ls _
+
+-- a list has no more clauses than elements
+pub count-few : (ls : List ℤ) → clauseCount ls ≤ length ls
+count-few [] = omega arith
+count-few (l ∷ ls) = by (closes l) (count-few ls)
+  where
+    by : (t : Bool) → clauseCount ls ≤ length ls → tally t (clauseCount ls) ≤ suc (length ls)
+    by true h = omega arith
+    by false h = omega arith

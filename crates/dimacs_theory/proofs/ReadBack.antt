@@ -1,0 +1,214 @@
+-- Every byte keeps what was read; so a text that the reader runs through to the end is an accepted text. Assumes nothing.
+use Prim.Native.Nat.{ℕ, suc, _*_, _+_, _-_, _≤_, _<_}
+use native.Mathlib.Omega.{arith}
+use borrow.Author.Tests.{eqb-true, eqb-false, ltb-true, leb-true, not-true}
+use lib.Dec.{eqb, leb, ltb}
+use lib.IntN.{ℤ}
+use mathlib.Core.Path.{_≡_, refl, sym, _∙_, ap, subst}
+use mathlib.Core.Bool.{Bool, true, false, not, _&&_, _||_, cond}
+use mathlib.Core.Option.{none, some, Option·some-injective, Option·none-ne-some}
+use mathlib.Core.List.{List, [], _∷_, _++_, append-assoc, append-nil}
+use Rattle.answers.specs.Lists.{tally, All}
+use Rattle.answers.proofs.Bools.{clash, and-both}
+use Rattle.dimacs.specs.Text.{lineFeed, space, minus, digit, decimal, signed, behind, lines, preamble, headerLine, CommentByte, commentLine, commentLines, Narrow, Accepted}
+use Rattle.dimacs.specs.Reader.{Header, Number, State, ofClauses, element, line, comment, first, digits, clause, when, most, zeroAllowed, isDigit, firstDigit, nextDigit, afterWord, wordStep, afterNumber, afterElement, clauseStep, stepByte, accepts, readElement, ended}
+use Rattle.dimacs_theory.proofs.Decimals.{decimal-one, decimal-more}
+use Rattle.dimacs_theory.proofs.Closings.{done, closing-right}
+use Rattle.dimacs_theory.proofs.Runs.{Fits, Runs, stay, byte}
+use Rattle.dimacs_theory.proofs.Shapes.{Opened, Listed, listed-more, sign, Head, variables, clauses, literal, literalOf, spelt, Shape, nothing, remark, letters, before, inside, list, Before}
+
+-- a byte that is taken where a test holds
+taken : (P : State → Type 0) (c : Bool) (s : State) {t : State} → when c s ≡ some t → (c ≡ true → P s) → P t
+taken P true s {t} e f = subst P (Option·some-injective s t e) (f refl)
+taken P false s {t} e f = absurd (Option·none-ne-some t e)
+
+-- the byte of a digit
+record Digit (b : ℕ) : Type 0 where
+  low : b - 48 < 10
+  is : b ≡ digit (b - 48)
+
+digit-of : (b : ℕ) → isDigit b ≡ true → Digit b
+digit-of b e =
+    let t = and-both (leb 48 b) (leb b 57) e in
+    let l = leb-true 48 b (t .0) in
+    let u = leb-true b 57 (t .1) in
+    record { low = omega arith; is = omega arith }
+
+header-line : (p v c : List ℕ) → p ++ (v ++ (space ∷ [])) ++ c ++ (lineFeed ∷ []) ≡ p ++ (v ++ (space ∷ c ++ (lineFeed ∷ []))) ++ []
+header-line p v c = simp (append-assoc, append-nil)
+
+-- a byte more, where it is no end of a comment line
+module _ (b : ℕ) {t : State} where
+  -- the bytes of `p cnf `
+  word-kept : (ws part : List ℕ) → part ++ ws ≡ preamble → wordStep ws b ≡ some t → Shape t (part ++ (b ∷ [])) []
+  word-kept [] part p e = absurd (Option·none-ne-some t e)
+  word-kept (w ∷ ws) part p e =
+      taken (λ t. Shape t (part ++ (b ∷ [])) []) (eqb b w) (afterWord ws) e (λ c. on ws (append-assoc part (b ∷ []) ws ∙ ap (λ x. part ++ x ∷ ws) (eqb-true b w c) ∙ p))
+    where
+      on : (ws : List ℕ) → part ++ (b ∷ []) ++ ws ≡ preamble → Shape (afterWord ws) (part ++ (b ∷ [])) []
+      on [] q = before (variables (sym (append-nil _) ∙ q))
+      on (v ∷ vs) q = letters q
+
+  -- the first byte of a line
+  line-kept : stepByte line b ≡ some t → Shape t (b ∷ []) []
+  line-kept e = by (eqb b 99) refl e
+    where
+      by : (c : Bool) → eqb b 99 ≡ c → cond c (some comment) (wordStep preamble b) ≡ some t → Shape t (b ∷ []) []
+      by true q e = subst (λ t. Shape t (b ∷ []) []) (Option·some-injective comment t e) (rw (eqb-true b 99 q) (remark tt))
+      by false q e = word-kept preamble [] refl e
+
+  -- a number's first digit
+  first-kept : {n : Number} {part : List ℕ} {ls : List ℤ} → Head n part ls → firstDigit n b ≡ some t → Shape t (part ++ (b ∷ [])) ls
+  first-kept {n} {part} {ls} p e =
+      taken (λ t. Shape t (part ++ (b ∷ [])) ls) (isDigit b && (zeroAllowed n || not (eqb b 48)) && leb (b - 48) (most n)) (digits n (b - 48)) e
+      (λ c.
+      let two = and-both (isDigit b && (zeroAllowed n || not (eqb b 48))) (leb (b - 48) (most n)) c in
+      let one = and-both (isDigit b) (zeroAllowed n || not (eqb b 48)) (two .0) in
+      let d = digit-of b (one .0) in
+      let spelling : b ∷ [] ≡ decimal (b - 48) = ap (λ x. x ∷ []) (d .is) ∙ sym (decimal-one (b - 48) (d .low)) in
+      subst (λ ds. Shape (digits n (b - 48)) (part ++ ds) ls) (sym spelling) (inside p (record { few = leb-true (b - 48) (most n) (two .1); nonzero = nonzero (zeroAllowed n) (one .1) d })))
+    where
+      nonzero : (z : Bool) → z || not (eqb b 48) ≡ true → Digit b → z ≡ false → b - 48 ≡ 0 → ⊥
+      nonzero true o d h e = clash refl h
+      nonzero false o d h e = let i = d .is in eqb-false b 48 (not-true (eqb b 48) o) (omega arith)
+
+  -- a digit more
+  next-kept : {n : Number} (x : ℕ) {part : List ℕ} {ls : List ℤ} → Head n part ls → isDigit b ≡ true → nextDigit n x b ≡ some t → Shape t (part ++ decimal x ++ (b ∷ [])) ls
+  next-kept {n} x {part} {ls} p i e =
+      taken (λ t. Shape t (part ++ decimal x ++ (b ∷ [])) ls) (not (eqb x 0) && leb (x * 10 + (b - 48)) (most n)) (digits n (x * 10 + (b - 48))) e
+      (λ c.
+      let both = and-both (not (eqb x 0)) (leb (x * 10 + (b - 48)) (most n)) c in
+      let z = eqb-false x 0 (not-true (eqb x 0) (both .0)) in
+      let d = digit-of b i in
+      let spelling : decimal x ++ (b ∷ []) ≡ decimal (x * 10 + (b - 48)) = ap (λ y. decimal x ++ (y ∷ [])) (d .is) ∙ sym (decimal-more x (b - 48) z (d .low)) in
+      subst (λ ds. Shape (digits n (x * 10 + (b - 48))) ds ls) (sym (append-assoc part (decimal x) (b ∷ []) ∙ ap (λ ds. part ++ ds) spelling))
+      (inside p (record { few = leb-true (x * 10 + (b - 48)) (most n) (both .1); nonzero = λ _ y. z (omega arith) })))
+
+  -- the byte behind an element
+  behind-kept : {h : Header} (k : ℕ) (closed : Bool) → afterElement h k closed b ≡ some t → (clause h (tally closed k) (not closed) ≡ t) × (b ≡ cond closed lineFeed space)
+  behind-kept {h} k true e = taken (λ t. (clause h (suc k) false ≡ t) × (b ≡ lineFeed)) (eqb b lineFeed) (clause h (suc k) false) e (λ c. (refl, eqb-true b lineFeed c))
+  behind-kept {h} k false e = taken (λ t. (clause h k true ≡ t) × (b ≡ space)) (eqb b space) (clause h k true) e (λ c. (refl, eqb-true b space c))
+
+  -- the byte behind a number
+  after-kept : {n : Number} {x : ℕ} {part : List ℕ} {ls : List ℤ} → Head n part ls → Fits n x → afterNumber n x b ≡ some t → Shape t (part ++ decimal x ++ (b ∷ [])) (ls ++ readElement n x)
+  unfolding lines
+  after-kept {x = x} {part = part} (variables p) f e =
+      taken (λ t. Shape t (part ++ decimal x ++ (b ∷ [])) []) (eqb b space) (first (ofClauses x)) e
+      (λ c. before (clauses (f .few) (append-assoc part (decimal x) (b ∷ []) ∙ (λ i. p i ++ (decimal x ++ (eqb-true b space c i ∷ []))))))
+  after-kept {x = x} {part = part} (clauses {v = v} few p) f e =
+      taken (λ t. Shape t (part ++ decimal x ++ (b ∷ [])) []) (eqb b lineFeed) (clause (record { variables = v; clauses = x }) 0 false) e
+      (λ c. list (record {
+        few = few;
+        counted = let w = f .few in omega arith;
+        is = rw (p, eqb-true b lineFeed c) (header-line preamble (decimal v) (decimal x));
+        count = refl;
+        right = λ ms d. d;
+        room = omega arith;
+      }))
+  after-kept {x = x} {ls = ls} (literal {h = h} {k = k} {negative = negative} {part = part} p room z) f e =
+      let l = literalOf negative x in
+      let s = spelt negative x (f .nonzero) in
+      let w = s .size in
+      let u = f .few in
+      let r = behind-kept k (eqb x 0) e in
+      let text : part ++ sign negative ++ decimal x ++ (b ∷ []) ≡ part ++ (signed l ++ (behind l ∷ [])) = rw (s .text, s .zero, r .1) (simp append-assoc) in
+      subst (λ t. Shape t (part ++ sign negative ++ decimal x ++ (b ∷ [])) (ls ++ (l ∷ []))) (ap (λ c. clause h (tally c k) (not c)) (s .zero) ∙ r .0)
+      (rw text (list (listed-more l p room (omega arith))))
+
+  -- the first byte of an element
+  clause-kept : {h : Header} {k : ℕ} {begun : Bool} {part : List ℕ} {ls : List ℤ} → Listed h k begun part ls → clauseStep h k b ≡ some t → Shape t (part ++ (b ∷ [])) ls
+  clause-kept {h} {k} {begun} {part} {ls} p e = by (eqb k (h .clauses)) refl (eqb b minus) refl e
+    where
+      room : (begun : Bool) → tally begun k ≤ h .clauses → (k ≡ h .clauses → ⊥) → k < h .clauses
+      room true l z = l
+      room false l z = omega arith
+
+      by : (full : Bool) → eqb k (h .clauses) ≡ full → (dash : Bool) → eqb b minus ≡ dash
+          → cond full none (cond dash (when (not (eqb (h .variables) 0)) (first (element h k true))) (firstDigit (element h k false) b)) ≡ some t
+          → Shape t (part ++ (b ∷ [])) ls
+      by true q dash r e = absurd (Option·none-ne-some t e)
+      by false q true r e =
+          taken (λ t. Shape t (part ++ (b ∷ [])) ls) (not (eqb (h .variables) 0)) (first (element h k true)) e
+          (λ c. rw (eqb-true b minus r) (before (literal p (room begun (p .room) (eqb-false k (h .clauses) q)) (λ _. eqb-false (h .variables) 0 (not-true (eqb (h .variables) 0) c)))))
+      by false q false r e =
+          rw (append-nil part) at (first-kept (literal p (room begun (p .room) (eqb-false k (h .clauses) q)) (λ d. clash d refl)) e)
+
+-- a comment line more
+comments-more : (cs : List (List ℕ)) (bs : List ℕ) → commentLines (cs ++ (bs ∷ [])) ≡ commentLines cs ++ commentLine bs
+comments-more [] bs = append-nil (commentLine bs)
+comments-more (c ∷ cs) bs = rw (comments-more cs bs) (sym (append-assoc (commentLine c) (commentLines cs) (commentLine bs)))
+
+all-more : {A : Type 0} (P : A → Type 0) (xs : List A) {x : A} → All P xs → P x → All P (xs ++ (x ∷ []))
+all-more P [] a p = (p, tt)
+all-more P (y ∷ xs) a p = (a .0, all-more P xs (a .1) p)
+
+-- a byte more
+module _ {text : List ℕ} (b : ℕ) {t : State} where
+  with-byte : {part : List ℕ} {ls : List ℤ} → Opened text part → Shape t (part ++ (b ∷ [])) ls → Before t (text ++ (b ∷ [])) ls
+  with-byte {part} o p =
+      record {
+        part = part ++ (b ∷ []);
+        opened = record { comments = o .comments; bytes = o .bytes; is = rw (o .is) (append-assoc (commentLines (o .comments)) part (b ∷ [])) };
+        shape = p;
+      }
+
+  shape-kept : {s : State} {part : List ℕ} {ls : List ℤ} → Opened text part → Shape s part ls → stepByte s b ≡ some t → Before t (text ++ (b ∷ [])) (ls ++ ended s b)
+  shape-kept o nothing e = with-byte o (line-kept b e)
+  shape-kept o (remark {bs = bs} a) e = by (eqb b lineFeed) refl e
+    where
+      closed : b ≡ lineFeed → Opened (text ++ (b ∷ [])) []
+      closed q =
+          record {
+            comments = o .comments ++ (bs ∷ []);
+            bytes = all-more (All CommentByte) (o .comments) (o .bytes) a;
+            is = rw (o .is, q, append-nil, comments-more) (append-assoc (commentLines (o .comments)) (99 ∷ bs) (lineFeed ∷ []));
+          }
+
+      by : (c : Bool) → eqb b lineFeed ≡ c → cond c (some line) (when (ltb b 256) comment) ≡ some t → Before t (text ++ (b ∷ [])) []
+      by true q e = subst (λ t. Before t (text ++ (b ∷ [])) []) (Option·some-injective line t e) (record { part = []; opened = closed (eqb-true b lineFeed q); shape = nothing })
+      by false q e = with-byte o (taken (λ t. Shape t (99 ∷ bs ++ (b ∷ [])) []) (ltb b 256) comment e (λ c. remark (all-more CommentByte bs a (ltb-true b 256 c, eqb-false b lineFeed q))))
+  shape-kept o (letters {w = w} {ws = ws} {part = part} p) e = with-byte o (word-kept b (w ∷ ws) part p e)
+  shape-kept o (before {ls = ls} p) e = rw (append-nil ls) (with-byte o (first-kept b p e))
+  shape-kept o (inside {n = n} {x = x} {part = part} {ls = ls} p f) e = by (isDigit b) refl e
+    where
+      by : (d : Bool) → isDigit b ≡ d → cond d (nextDigit n x b) (afterNumber n x b) ≡ some t → Before t (text ++ (b ∷ [])) (ls ++ cond d [] (readElement n x))
+      by true q e = rw (append-nil ls) (with-byte o (next-kept b x p q e))
+      by false q e = with-byte o (after-kept b p f e)
+  shape-kept o (list {ls = ls} p) e = rw (append-nil ls) (with-byte o (clause-kept b p e))
+
+pub kept : {s t : State} {text : List ℕ} {ls : List ℤ} (b : ℕ) → Before s text ls → stepByte s b ≡ some t → Before t (text ++ (b ∷ [])) (ls ++ ended s b)
+kept b r e = shape-kept b (r .opened) (r .shape) e
+
+pub start : Before line [] []
+start = record { part = []; opened = record { comments = []; bytes = tt; is = refl }; shape = nothing }
+
+read : {s t : State} {text rest : List ℕ} {ls ms : List ℤ} → Before s text ls → Runs s rest t ms → Before t (text ++ rest) (ls ++ ms)
+read {text = text} {ls = ls} r stay = rw (append-nil text, append-nil ls) r
+read {text = text} {ls = ls} r (byte {b = b} {bs = bs} {es = es} {ls = ms} e f q) =
+    rw (← append-assoc text (b ∷ []) bs, ← append-assoc ls es ms) (read (rw f at (kept b r e)) q)
+
+-- C clauses and none begun: the text of the list
+complete : {h : Header} {k : ℕ} {part : List ℕ} {ls : List ℤ} → Listed h k false part ls → k ≡ h .clauses → Narrow part
+complete {h} {k} {ls = ls} p e =
+    let n = p .count in
+    let c = p .counted in
+    record {
+      variables = h .variables;
+      list = ls;
+      writable = record { few = p .few; right = closing-right (h .variables) ls (rw append-nil at (p .right [] done)); counted = omega arith };
+      is = p .is ∙ ap (λ m. headerLine (h .variables) m ++ lines ls) (sym (n ∙ e));
+    }
+
+-- a text that the reader runs through to the end is accepted
+finished : {s : State} {text part : List ℕ} {ls : List ℤ} → Opened text part → Shape s part ls → accepts s ≡ true → Accepted text
+finished o nothing e = clash e refl
+finished o (remark a) e = clash e refl
+finished o (letters p) e = clash e refl
+finished o (before p) e = clash e refl
+finished o (inside p f) e = clash e refl
+finished o (list {begun = true} p) e = clash e refl
+finished o (list {h = h} {k = k} {begun = false} {part = part} p) e =
+    record { comments = o .comments; bytes = o .bytes; rest = part; narrow = complete p (eqb-true k (h .clauses) e); is = o .is }
+
+pub run-accepted : {t : State} {text : List ℕ} {ls : List ℤ} → Runs line text t ls → accepts t ≡ true → Accepted text
+run-accepted r e = let b = read start r in finished (b .opened) (b .shape) e

@@ -1,0 +1,84 @@
+-- The loop along a line that writes. Assumes nothing.
+use Prim.Native.Nat.{ℕ, zero, suc, _+_, _≤_, _<_}
+use native.Mathlib.Omega.{arith}
+use native.Mathlib.Numerals.{add-one}
+use lib.IntN.{ℤ}
+use lib.ListN.{length, getD, drop, drop-of-length-le}
+use lib.Seq.{drop-cons}
+use mathlib.Core.Path.{_≡_, refl, sym, _∙_, ap}
+use mathlib.Core.List.{List, [], _∷_, _++_, map, append-assoc, append-nil}
+use Rattle.answers.specs.Lent.{Wrote}
+use Rattle.answers.proofs.Lent.{wrote-nothing, wrote-after, wrote-recast, wrote-length}
+use Rattle.rules.specs.declared.Direction.{Direction}
+use Rattle.rules.specs.Directions.{opposite}
+use Rattle.rules.specs.Record.{Puzzle, size}
+use Rattle.rules.specs.Board.{neighbour, line, nearest}
+use Rattle.rules.specs.Walk.{go}
+use Rattle.rules.proofs.Lines.{line-first, line-inside, line-go}
+use Rattle.cnf.specs.Literals.{mostVariables}
+use Rattle.encoder.specs.Lists.{joined}
+use Rattle.encoder.proofs.Lists.{all-right}
+use Rattle.encoder_shapes.specs.Writable.{Right, Writable}
+use Rattle.encoder_shapes.specs.Shapes.{notBoth, impliesEither}
+use Rattle.encoder_shapes.proofs.Written.{in-parts, first-part, next-parts, no-small, writable-recast}
+use Rattle.encoder_lines.specs.Line.{countStepClue, countStepBelow, countStepRow, countStepParts, countStepEach}
+
+-- a row that can be written begins at a variable's number
+row-few : (row z n : ℕ) {at : ℕ} → Writable at (joined (countStepParts row z n)) → row ≤ mostVariables
+row-few row z n w = by z (first-part (in-parts (countStepParts row z n) w))
+  where
+    by : (z : ℕ) {at : ℕ} → Writable at (countStepRow z row (row + (n + 1)) n) → row ≤ mostVariables
+    by zero w = let v = writable-recast (ap (countStepClue row (row + (n + 1))) (add-one n)) w in omega (arith, no-small (row + 0) (v .right .0))
+    by (suc z) w =
+        let next = row + (n + 1) in
+        let r = all-right Right (countStepBelow row next (suc z) n) (joined (impliesEither (row + n) (suc z) (next + n) ∷ notBoth (row + n) (suc z) ∷ [])) (w .right) in
+        omega (arith, no-small (row + n) (r .0))
+
+-- after j cells from the edge: y comes next; what is written, and what is left
+pub record Lining (p : Puzzle) (d : Direction) (x : ℕ) (black : ℕ → ℕ) (first n : ℕ) (buf : List ℤ) (at : ℕ) (new : List ℤ) (y row i j : ℕ) : Type 0 where
+  pub here : y ≡ getD (line p d x) j x
+  pub done : List ℤ
+  pub whole : countStepEach first n (map black (line p d x)) ≡ done ++ countStepEach row n (map black (drop j (line p d x)))
+  pub wrote : Wrote buf at done new i
+  pub writable : Writable at (countStepEach first n (map black (line p d x)))
+
+pub line-start : {at first n y : ℕ} {buf : List ℤ} (p : Puzzle) (d : Direction) (x : ℕ) (black : ℕ → ℕ) → y ≡ nearest (line p d x) x
+    → Writable at (countStepEach first n (map black (line p d x))) → Lining p d x black first n buf at buf y first at 0
+line-start {at} {buf = buf} p d x black e w = record { here = e ∙ line-first p d x; done = []; whole = refl; wrote = wrote-nothing buf at; writable = w }
+
+module _ {p : Puzzle} {d : Direction} {x : ℕ} {black : ℕ → ℕ} {first n : ℕ} {buf : List ℤ} {at : ℕ} {new : List ℤ} {y row i j : ℕ} (w : Lining p d x black first n buf at new y row i j) where
+  pub line-end : length (line p d x) ≤ j → Wrote buf at (countStepEach first n (map black (line p d x))) new i
+  line-end h = wrote-recast (sym (w .whole ∙ ap (λ l. w .done ++ countStepEach row n (map black l)) (drop-of-length-le (line p d x) h) ∙ append-nil (w .done))) (w .wrote)
+
+  pub line-kept : length new ≡ length buf
+  line-kept = wrote-length (w .wrote)
+
+  module _ (h : j < length (line p d x)) where
+    pub line-there : y < size (p .grid)
+    line-there = rw (w .here) (line-inside p d x h)
+
+    module _ {z : ℕ} (e : z ≡ black y) where
+      rest : List ℤ
+      rest = countStepEach (row + (n + 1)) n (map black (drop (suc j) (line p d x)))
+
+      split : countStepEach first n (map black (line p d x)) ≡ w .done ++ (joined (countStepParts row z n) ++ rest)
+      unfolding rest
+      split = w .whole ∙ ap (λ l. w .done ++ countStepEach row n (map black l)) (drop-cons (line p d x) j x h) ∙ ap (λ z. w .done ++ (joined (countStepParts row z n) ++ rest)) (ap black (sym (w .here)) ∙ sym e)
+
+      pub line-needs : Writable i (joined (countStepParts row z n))
+      line-needs =
+          let a : w .done ++ (joined (countStepParts row z n) ++ rest) ≡ joined (w .done ∷ joined (countStepParts row z n) ∷ rest ∷ []) = ap (λ l. w .done ++ (joined (countStepParts row z n) ++ l)) (sym (append-nil rest)) in
+          first-part (next-parts (in-parts (w .done ∷ joined (countStepParts row z n) ∷ rest ∷ []) (writable-recast (split ∙ a) (w .writable))) (w .wrote))
+
+      pub line-row : row ≤ mostVariables
+      line-row = row-few row z n line-needs
+
+      pub line-on : {new₂ : List ℤ} {i₂ y₂ : ℕ} {back : Direction} → Wrote new i (joined (countStepParts row z n)) new₂ i₂ → back ≡ opposite d → y₂ ≡ go (neighbour (p .grid)) back y → Lining p d x black first n buf at new₂ y₂ (row + (n + 1)) i₂ (j + 1)
+      unfolding rest
+      line-on v o q = rw (add-one j) (record {
+        here = line-go p d x h (w .here) o q;
+        done = w .done ++ joined (countStepParts row z n);
+        whole = split ∙ sym (append-assoc (w .done) (joined (countStepParts row z n)) rest);
+        wrote = wrote-after (w .wrote) v;
+        writable = w .writable;
+      })

@@ -1,0 +1,91 @@
+-- What is writable, part by part, and the turn of a loop that writes. Assumes nothing.
+use Prim.Native.Nat.{ℕ, zero, suc, _+_, _-_, _≤_, _<_}
+use native.Mathlib.Omega.{arith}
+use lib.IntN.{ℤ, pos}
+use lib.ListN.{length, length-append}
+use mathlib.Core.Path.{_≡_, sym, _∙_, ap}
+use mathlib.Core.List.{List, [], _∷_, _++_}
+use Rattle.answers.specs.Lent.{Wrote}
+use Rattle.answers.proofs.Lent.{wrote-nothing, wrote-after, wrote-recast, wrote-length}
+use Rattle.cnf.specs.Literals.{mostVariables}
+use Rattle.encoder.specs.Lists.{from, upTo, each, joined}
+use Rattle.encoder.proofs.Lists.{all-left, all-right, each-append, from-append}
+use Rattle.encoder.proofs.ClauseLists.{each-next}
+use Rattle.encoder_shapes.specs.Writable.{Right, Writable}
+use Rattle.encoder_shapes.specs.Shapes.{no}
+
+-- a list in two parts
+module _ {at : ℕ} (xs ys : List ℤ) (w : Writable at (xs ++ ys)) where
+  writable-left : Writable at xs
+  writable-left = let r = w .room in record { room = omega (arith, length-append xs ys); right = all-left Right xs ys (w .right) }
+
+  writable-right : {buf new : List ℤ} {next : ℕ} → Wrote buf at xs new next → Writable next ys
+  writable-right p = let r = w .room in let e = p .place in record { room = omega (arith, length-append xs ys); right = all-right Right xs ys (w .right) }
+
+-- after one element
+pub writable-next : {at next : ℕ} {x : ℤ} {xs buf new : List ℤ} → Writable at (x ∷ xs) → Wrote buf at (x ∷ []) new next → Writable next xs
+writable-next {x = x} {xs = xs} w p = writable-right (x ∷ []) xs w p
+
+-- a list in parts
+pub record Parts (at : ℕ) (ps : List (List ℤ)) : Type 0 where
+  pub writable : Writable at (joined ps)
+
+pub in-parts : {at : ℕ} (ps : List (List ℤ)) → Writable at (joined ps) → Parts at ps
+in-parts ps w = record { writable = w }
+
+module _ {at : ℕ} {p : List ℤ} {ps : List (List ℤ)} (w : Parts at (p ∷ ps)) where
+  pub first-part : Writable at p
+  first-part = writable-left p (joined ps) (w .writable)
+
+  pub next-parts : {buf new : List ℤ} {next : ℕ} → Wrote buf at p new next → Parts next ps
+  next-parts h = record { writable = writable-right p (joined ps) (w .writable) h }
+
+pub writable-recast : {at : ℕ} {xs ys : List ℤ} → xs ≡ ys → Writable at xs → Writable at ys
+writable-recast e w = rw (← e) w
+
+-- what the functions that write one element require
+abbrev pub Puts : ℕ → ℕ → Type 0
+Puts at v = (v ≤ mostVariables) × (at < 18446744073709551615)
+
+pub put-needs : {at v : ℕ} {xs : List ℤ} → Writable at (pos v ∷ xs) → Puts at v
+put-needs w = let r = w .room in (w .right .0, omega arith)
+
+pub no-small : (v : ℕ) → Right (no v) → v ≤ mostVariables
+no-small zero h = omega arith
+no-small (suc v) h = h
+
+pub not-needs : {at v : ℕ} {xs : List ℤ} → Writable at (no v ∷ xs) → Puts at v
+not-needs {v = v} w = let r = w .room in (no-small v (w .right .0), omega arith)
+
+-- at the head of a loop over k below n that writes f k: what the numbers before k give is written
+pub record Writing (buf : List ℤ) (at : ℕ) (f : ℕ → List ℤ) (n : ℕ) (new : List ℤ) (next k : ℕ) : Type 0 where
+  pub within : k ≤ n
+  pub writable : Writable at (each (upTo n) f)
+  pub wrote : Wrote buf at (each (upTo k) f) new next
+
+pub write-start : {buf : List ℤ} {at n : ℕ} {f : ℕ → List ℤ} → Writable at (each (upTo n) f) → Writing buf at f n buf at 0
+write-start {buf} {at} w = record { within = omega arith; writable = w; wrote = wrote-nothing buf at }
+
+module _ {buf new : List ℤ} {at n next k : ℕ} {f : ℕ → List ℤ} (w : Writing buf at f n new next k) where
+  so-far : each (upTo (k + 1)) f ≡ each (upTo k) f ++ f k
+  so-far = let e : 0 + k ≡ k = omega arith in each-next f 0 k ∙ ap (λ i. each (upTo k) f ++ f i) e
+
+  whole : k < n → each (upTo n) f ≡ (each (upTo k) f ++ f k) ++ each (from (0 + (k + 1)) (n - (k + 1))) f
+  whole h =
+      let e : n ≡ (k + 1) + (n - (k + 1)) = omega arith in
+      ap (λ m. each (upTo m) f) e ∙ ap (λ l. each l f) (from-append 0 (k + 1) (n - (k + 1))) ∙ each-append f (upTo (k + 1)) (from (0 + (k + 1)) (n - (k + 1)))
+      ∙ ap (λ l. l ++ each (from (0 + (k + 1)) (n - (k + 1))) f) so-far
+
+  pub write-needs : k < n → Writable next (f k)
+  write-needs h =
+      let rest = each (from (0 + (k + 1)) (n - (k + 1))) f in
+      writable-right (each (upTo k) f) (f k) (writable-left (each (upTo k) f ++ f k) rest (writable-recast (whole h) (w .writable))) (w .wrote)
+
+  pub write-on : {next₂ : ℕ} {new₂ : List ℤ} → k < n → Wrote new next (f k) new₂ next₂ → Writing buf at f n new₂ next₂ (k + 1)
+  write-on h p = record { within = omega arith; writable = w .writable; wrote = wrote-recast (sym so-far) (wrote-after (w .wrote) p) }
+
+  pub write-end : n ≤ k → Wrote buf at (each (upTo n) f) new next
+  write-end h = let i = w .within in let e : k ≡ n = omega arith in wrote-recast (ap (λ m. each (upTo m) f) e) (w .wrote)
+
+  pub write-kept : length new ≡ length buf
+  write-kept = wrote-length (w .wrote)

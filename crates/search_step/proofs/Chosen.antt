@@ -1,0 +1,74 @@
+-- A step in code makes the choices of the step as it is defined. Assumes nothing.
+use Prim.Native.Nat.{ℕ}
+use native.Mathlib.Omega.{arith}
+use lib.IntN.{ℤ, pos, negsuc}
+use lib.ListN.{length, getD}
+use mathlib.Core.Path.{_≡_, refl, sym, _∙_, ap, subst, fun-ext}
+use mathlib.Core.Option.{Option, none, some}
+use mathlib.Core.List.{List}
+use Rattle.search.specs.Trail.{Entry, entry, Trail, Values, variableValue}
+use Rattle.search.specs.Step.{failedClause, forcedPlace, lowestUnassigned, Next, Moved, undoes, step}
+use Rattle.search_theory.proofs.Lists.{proper-clauses}
+use Rattle.search_theory.proofs.Legal.{Legal}
+use Rattle.search_theory.proofs.Choices.{choice-laws}
+use Rattle.search_theory.proofs.Steps.{Stepped, moved, exhausted, full, stepped}
+use Rattle.search_scan.specs.PackedValues.{packedValues}
+use Rattle.search_trail.specs.Packed.{packedTrail, Packed}
+use Rattle.search_step.specs.declared.Stepped.{Stepped as Answered}
+use Rattle.search_step.specs.declared.Stepped.the-variants.{Found}
+use Rattle.search_step.specs.Steps.{ListFits, Allows, appends, Steps}
+
+-- a trail that a step moves to is legal
+moved-legal : {v : ℕ} {ls : List ℤ} {t u : Trail} {x : Next} → Stepped v ls t x → x ≡ Moved u → Legal v u
+moved-legal {v = v} {u = u} (moved {u = w} l f o) e = let q : w ≡ u = cc in subst (Legal v) q l
+moved-legal (exhausted h) e = let z : _≡_ {A = ℕ} 0 1 = cc in absurd (omega arith)
+moved-legal (full h s) e = let z : _≡_ {A = ℕ} 0 1 = cc in absurd (omega arith)
+
+-- where a step stands
+pub record Standing (ls ts : List ℤ) (ms : List ℕ) (used : ℕ) : Type 0 where
+  pub running : Packed (length ms) ts ms used
+  pub listed : ListFits (length ms) ls
+
+module _ {ls ts : List ℤ} {ms : List ℕ} {used : ℕ} (s : Standing ls ts ms used) where
+  abbrev t : Trail
+  t = packedTrail ts ms used
+
+  same : packedValues ms ≡ variableValue t
+  same = fun-ext (s .running .values)
+
+  pub choice-allowed : {e : Entry} → step (length ms) ls t ≡ appends e t → Allows ts ms used e
+  choice-allowed {e} q =
+      moved-legal (stepped t (choice-laws (length ms) ls (variableValue t) (s .listed .closed)) (proper-clauses (length ms) ls (s .listed .within .each)) (s .running .legal)) q
+
+  -- what comes of an answer to a choice
+  pub by-choice : {next : Trail → Next} {r : Answered} {us : List ℤ} {ns : List ℕ} → step (length ms) ls t ≡ next t → Steps ts ms used next r us ns → Steps ts ms used (step (length ms) ls) r us ns
+  by-choice q h = record { says = h .says ∙ sym q; running = h .running; stays = h .stays }
+
+  -- the choices, by the values above the marks
+  module _ {o : Option ℕ} where
+    failed-as : o ≡ failedClause (packedValues ms) ls → failedClause (variableValue t) ls ≡ o
+    failed-as f = sym (f ∙ ap (λ (w : Values). failedClause w ls) same)
+
+    forced-as : o ≡ forcedPlace (packedValues ms) ls → forcedPlace (variableValue t) ls ≡ o
+    forced-as f = sym (f ∙ ap (λ (w : Values). forcedPlace w ls) same)
+
+    free-as : o ≡ lowestUnassigned (length ms) (packedValues ms) → lowestUnassigned (length ms) (variableValue t) ≡ o
+    free-as f = sym (f ∙ ap (λ (w : Values). lowestUnassigned (length ms) w) same)
+
+  pub on-failed : {i : ℕ} → some i ≡ failedClause (packedValues ms) ls → step (length ms) ls t ≡ undoes t
+  unfolding step
+  on-failed f = rw (failed-as f)
+
+  module _ (f : none ≡ failedClause (packedValues ms) ls) where
+    pub on-forced : {p : ℕ} → some p ≡ forcedPlace (packedValues ms) ls → step (length ms) ls t ≡ appends (entry (getD ls p (pos 0)) 0) t
+    unfolding step
+    on-forced g = rw (failed-as f, forced-as g)
+
+    module _ (g : none ≡ forcedPlace (packedValues ms) ls) where
+      pub on-free : {n : ℕ} → some n ≡ lowestUnassigned (length ms) (packedValues ms) → step (length ms) ls t ≡ appends (entry (negsuc n) 1) t
+      unfolding step
+      on-free h = rw (failed-as f, forced-as g, free-as h)
+
+      pub on-full : none ≡ lowestUnassigned (length ms) (packedValues ms) → Steps ts ms used (step (length ms) ls) Found ts ms
+      unfolding step
+      on-full h = record { says = rw (failed-as f, forced-as g, free-as h); running = s .running; stays = refl }

@@ -1,0 +1,42 @@
+-- `search_trail::enter` meets its contract. Assumes nothing.
+use Prim.Native.Nat.{ℕ}
+use native.Mathlib.Omega.{arith}
+use mathlib.Core.Path.{ap}
+use mathlib.Core.List.{List}
+use Rattle.search_trail.specs.Packed.{marked}
+use borrow.Author.Needs.{needs}
+use Rattle.search_trail.proofs.assign.Statement.{statement}
+use Rattle.search_trail.proofs.assign.Tie as tie
+
+make-true-requires : tie.Need-make-true-requires
+make-true-requires c κs = search needs
+
+slice-read-marks : tie.Need-slice-read-marks
+slice-read-marks c = search needs
+
+mul-marks : tie.Need-mul-marks
+mul-marks c = omega (arith, c .slice-known3 .given (c .before .before .before .before .before .before .args .i))
+
+add-marks : tie.Need-add-marks
+add-marks c = omega (arith, c .slice-known3 .given (c .before .before .before .before .before .before .args .i))
+
+slice-write-marks : tie.Need-slice-write-marks
+slice-write-marks c = search needs
+
+same-length : tie.Need-same-length
+same-length c = search needs
+
+returns : tie.Need-returns
+returns c = ap (λ (ms : List ℕ). marked ms (c .before .before .before .before .before .before .args .i) (c .before .before .before .before .before .before .args .mark)) (c .before .before .before .make-true .ensures)
+
+pub assign-spec : {M : Type 1} → statement M
+assign-spec =
+    tie.close
+    (tie.spec
+    make-true-requires
+    slice-read-marks
+    mul-marks
+    add-marks
+    slice-write-marks
+    same-length
+    returns)

@@ -1,0 +1,69 @@
+-- The solver's call: the search begun empty on a grid's clauses, and at "found" the drawing to which its trail decodes.
+use Prim.Native.Nat.{ℕ}
+use lib.IntN.{ℤ}
+use lib.ListN.{length}
+use mathlib.Core.List.{List, [], _∷_, _++_}
+use Rattle.answers.specs.declared.Outcome.{Outcome}
+use Rattle.answers.specs.Outcome.{Row, row, firstRefusal}
+use Rattle.answers.specs.Lent.{tooShort, filled, unlessRefused}
+use Rattle.rules.specs.Record.{recordRows}
+use Rattle.rules.specs.Board.{Board, boardOf}
+use Rattle.encoder.specs.Variables.{variableCount}
+use Rattle.encoder.specs.Clauses.{clauseList}
+use Rattle.encoder.specs.Decoding.{bytesOf, decoded}
+use Rattle.search.specs.Trail.{Trail, trailImage, marksImage, valuesOf}
+use Rattle.search.specs.Run.{Ending, Found, None, Halted, Done, run, doneOutcome}
+
+-- the five lent buffers
+pub record Lent : Type 0 where
+  pub list : List ℤ
+  pub trail : List ℤ
+  pub marks : List ℕ
+  pub values : List ℕ
+  pub drawing : List ℕ
+
+-- the search begun empty on the grid's clauses
+abbrev pub solved : Board → ℕ → Done
+solved b budget = run (variableCount b) (clauseList b) budget []
+
+-- a trail with all V entries used is also an assignment: its V bytes
+abbrev pub trailBytes : ℕ → Trail → List ℕ
+trailBytes v t = bytesOf (valuesOf v t)
+
+-- 6, in the order list, trail, marks, values, drawing; beside it the elements needed
+abbrev pub roomRows : Board → Lent → List Row
+roomRows b lent =
+    row 6 (tooShort (length (lent .list)) (length (clauseList b))) ∷
+    row 6 (tooShort (length (lent .trail)) (variableCount b)) ∷
+    row 6 (tooShort (length (lent .marks)) (variableCount b)) ∷
+    row 6 (tooShort (length (lent .values)) (variableCount b)) ∷
+    row 6 (tooShort (length (lent .drawing)) (b .size)) ∷
+    []
+
+-- solver 1-5, 6
+abbrev pub solverRows : List ℕ → Lent → List Row
+solverRows s lent = recordRows s ++ roomRows (boardOf s) lent
+
+-- found 1, none 2, halted 3; the steps made; the used count
+abbrev pub solverAnswer : List ℕ → ℕ → Lent → Outcome
+solverAnswer s budget lent = firstRefusal (solverRows s lent) (doneOutcome (solved (boardOf s) budget))
+
+-- values and drawing are written only at "found"
+abbrev pub atFound : {A : Type 0} → Ending → A → A → A
+atFound Found before after = after
+atFound None before after = before
+atFound Halted before after = before
+
+-- the clause list, the trail at which the search ends and its marks; at "found" the trail's bytes and the drawing to which they decode
+abbrev pub written : Board → Done → Lent → Lent
+written b done lent =
+    record {
+      list = filled (lent .list) (clauseList b);
+      trail = filled (lent .trail) (trailImage (variableCount b) (done .trail));
+      marks = filled (lent .marks) (marksImage (variableCount b) (done .trail));
+      values = atFound (done .ending) (lent .values) (filled (lent .values) (trailBytes (variableCount b) (done .trail)));
+      drawing = atFound (done .ending) (lent .drawing) (filled (lent .drawing) (decoded b (trailBytes (variableCount b) (done .trail))));
+    }
+
+abbrev pub solverLeaves : List ℕ → ℕ → Lent → Lent
+solverLeaves s budget lent = unlessRefused (solverAnswer s budget lent) lent (written (boardOf s) (solved (boardOf s) budget) lent)
