@@ -111,8 +111,8 @@ fn judged(
     answered
 }
 
-// 8, 7, 9 and 10 to 15, in order.
-fn decode_grid(g: Grid, record: &[u8], values: &[u8], drawing: &mut [u8]) -> Decoded
+// 8, 7, 9 and 10 to 15, in order, over a grid that was read.
+pub fn decode_grid(g: Grid, record: &[u8], values: &[u8], drawing: &mut [u8]) -> Decoded
     requires { ⌜ RecordFits g (now «record») ⌝ }
     ensures { λ r. ⌜ decodedOutcome r ≡ firstRefusal (gridRows g (now («record» .entry)) (now (values .entry)) (now (drawing .entry))) saysYes ⌝ }
     ensures { λ r. ⌜ now (drawing .exit) ≡ unlessRefused (firstRefusal (gridRows g (now («record» .entry)) (now (values .entry)) (now (drawing .entry))) saysYes) (now (drawing .entry)) (decoded (gridBoard g (now («record» .entry))) (now (values .entry))) ⌝ }

@@ -38,7 +38,7 @@ use Rattle.encoder_call.specs.declared.EncodeRefusal.{EncodeRefusal}
 use Rattle.encoder_call.specs.declared.EncodeRefusal.the-variants.{Record, TooShort}
 use Rattle.encoder_call.specs.declared.Encoded.{Encoded}
 use Rattle.encoder_call.specs.declared.Encoded.the-variants.{Refused}
-use Rattle.encoder_call.specs.Answer.{encodeRefusalOutcome, countsOutcome, encodedOutcome, roomRows, Writing}
+use Rattle.encoder_call.specs.Answer.{encodeRefusalOutcome, countsOutcome, encodedOutcome, roomRows, Encodable}
 
 -- a refusal has a number
 pub refused-number : {e : Encoded} {u : EncodeRefusal} {t : Outcome} → e ≡ Refused u → t ≡ encodedOutcome e → t .number ≡ 0 → ⊥
@@ -48,7 +48,7 @@ refused-number {u = u} q e z = by u (sym (ap (λ (t : Outcome). t .number) (e �
     by (Record r) e = refusal-number r e
     by (TooShort n) e = omega arith
 
-module _ {g : Grid} {s : List ℕ} (w : Writing g s) where
+module _ {g : Grid} {s : List ℕ} (w : Encodable g s) where
   abbrev list : List ℤ
   list = clauseList (gridBoard g s)
 
@@ -91,6 +91,11 @@ module _ {g : Grid} {s : List ℕ} (w : Writing g s) where
     pub ends-listed : {new : List ℤ} {r : ℕ} → c .elements ≤ length out → Wrote out 0 list new r → GridEnds out (countsOutcome c) new
     ends-listed l x = let h : length list ≤ length out = omega (arith, elements) in rw e (ends (passes (long-enough (length out) h) answers) (wrote-filled x h))
 
+-- what the reader sees to
+pub read-encodable : (s : List ℕ) {p : Parsed} {g : Grid} → p ≡ Accepted g → parsedOutcome p ≡ recordAnswer s → Encodable g s
+read-encodable s q e =
+    record { recordFits = read-fits s q e; small = subst (λ g. Small (gridBoard g s)) (sym (read-sides s q e)) (accepted-small s (is-accepted s q e)) }
+
 -- the whole call
 module _ (s : List ℕ) (out : List ℤ) where
   abbrev Ends : Outcome → List ℤ → Type 0
@@ -102,10 +107,7 @@ module _ (s : List ℕ) (out : List ℤ) where
       (t, sym (untouched (encoderAnswer s out) out (filled out (clauseList (boardOf s))) (λ z. refusal-number r (ap (λ (u : Outcome). u .number) t ∙ z))))
 
   module _ {p : Parsed} {g : Grid} (q : p ≡ Accepted g) (e : parsedOutcome p ≡ recordAnswer s) where
-    pub read-writing : Writing g s
-    read-writing = record { recordFits = read-fits s q e; small = subst (λ g. Small (gridBoard g s)) (sym (read-sides s q e)) (accepted-small s (is-accepted s q e)) }
-
-    pub ends-read : {u : Outcome} {new : List ℤ} → GridEnds read-writing out u new → Ends u new
+    pub ends-read : {u : Outcome} {new : List ℤ} → GridEnds (read-encodable s q e) out u new → Ends u new
     ends-read (a, b) =
         let t = goes-on s q e (λ g. roomRows (gridBoard g s) out) (countsOutcome (countsOf (boardOf s))) in
         let z : firstRefusal (roomRows (gridBoard g s) out) (countsOutcome (countsOf (gridBoard g s))) ≡ encoderAnswer s out = ap (λ g'. firstRefusal (roomRows (gridBoard g s) out) (countsOutcome (countsOf (gridBoard g' s)))) (read-sides s q e) ∙ t in

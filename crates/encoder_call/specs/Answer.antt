@@ -40,7 +40,7 @@ passedUp (NotRead r) = Refused (Record r)
 abbrev pub roomRows : Board → List ℤ → List Row
 roomRows b out = row 6 (tooShort (length out) (length (clauseList b))) ∷ []
 
--- what the functions ask that write a grid's clauses: its record, and that nothing is too large
-pub record Writing (g : Grid) (s : List ℕ) : Type 0 where
+-- what the functions ask that write a grid's clauses: its record, and that nothing is too large (the reader sees to both)
+pub record Encodable (g : Grid) (s : List ℕ) : Type 0 where
   pub recordFits : RecordFits g s
   pub small : Small (gridBoard g s)

@@ -6,7 +6,7 @@ ghost use Rattle.rules.specs.Board.{gridBoard};
 ghost use Rattle.encoder.specs.Clauses.{clauseList};
 ghost use Rattle.encoder.specs.Encoding.{encoderAnswer, encoderLeaves};
 ghost use Rattle.encoder_size.specs.Counts.{countsOf};
-ghost use Rattle.encoder_call.specs.Answer.{encodeRefusalOutcome, countsOutcome, encodedOutcome, passedUp, roomRows, Writing};
+ghost use Rattle.encoder_call.specs.Answer.{encodeRefusalOutcome, countsOutcome, encodedOutcome, passedUp, roomRows, Encodable};
 use answers::Outcome;
 use answers::answered;
 use answers::refused;
@@ -71,7 +71,7 @@ impl Encoded {
 
 // Writes the clauses, with ranks and first E variables in tables that are filled once.
 fn write_list(g: Grid, record: &[u8], list: &mut [i32]) -> usize
-    requires { ⌜ Writing g (now «record») ⌝ }
+    requires { ⌜ Encodable g (now «record») ⌝ }
     ensures { λ r. ⌜ Wrote (now (list .entry)) 0 (clauseList (gridBoard g (now («record» .entry)))) (now (list .exit)) r ⌝ }
 {
     let mut ranks = [0usize; MOST_CELLS];
@@ -81,13 +81,13 @@ fn write_list(g: Grid, record: &[u8], list: &mut [i32]) -> usize
     all_families(list, 0, g, record, open, links, &ranks, &firsts)
 }
 
-// 6, and the list.
-fn encode_grid(g: Grid, record: &[u8], list: &mut [i32]) -> Encoded
-    requires { ⌜ Writing g (now «record») ⌝ }
+// 6, and the list, with the counts that `encoder_size::count` gives.
+pub fn encode_grid(g: Grid, record: &[u8], counts: Counts, list: &mut [i32]) -> Encoded
+    requires { ⌜ Encodable g (now «record») ⌝ }
+    requires { ⌜ counts ≡ countsOf (gridBoard g (now «record»)) ⌝ }
     ensures { λ r. ⌜ encodedOutcome r ≡ firstRefusal (roomRows (gridBoard g (now («record» .entry))) (now (list .entry))) (countsOutcome (countsOf (gridBoard g (now («record» .entry))))) ⌝ }
     ensures { λ r. ⌜ now (list .exit) ≡ unlessRefused (firstRefusal (roomRows (gridBoard g (now («record» .entry))) (now (list .entry))) (countsOutcome (countsOf (gridBoard g (now («record» .entry)))))) (now (list .entry)) (filled (now (list .entry)) (clauseList (gridBoard g (now («record» .entry))))) ⌝ }
 {
-    let counts = count(g, record);
     let needed = counts.elements;
     if list.len() < needed {
         return Encoded::Refused(EncodeRefusal::TooShort(needed));
@@ -119,5 +119,6 @@ pub fn encode(record: &[u8], list: &mut [i32]) -> Encoded
     let Parsed::Accepted(g) = p else {
         return passed_up(p);
     };
-    encode_grid(g, record, list)
+    let counts = count(g, record);
+    encode_grid(g, record, counts, list)
 }

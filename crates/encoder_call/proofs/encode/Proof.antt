@@ -1,10 +1,26 @@
 -- `encoder_call::encode` meets its contract. Assumes nothing.
+use lib.IntN.{ℤ}
+use Prim.Native.Nat.{ℕ}
 use mathlib.Core.Path.{_∙_, ap}
-use Rattle.encoder_call.specs.Answer.{encodedOutcome, passedUp}
-use Rattle.encoder_call.proofs.Ends.{ends-refused, read-writing, ends-read}
+use mathlib.Core.List.{List}
+use Rattle.encoder_call.specs.Answer.{encodedOutcome, passedUp, Encodable}
+use Rattle.encoder_call.proofs.Ends.{ends-refused, read-encodable, ends-read}
 use borrow.Author.Needs.{needs}
 use Rattle.encoder_call.proofs.encode.Statement.{statement}
 use Rattle.encoder_call.proofs.encode.Tie as tie
+
+abbrev input : tie.After-read → List ℕ
+input c = c .before .before .args .«record» .now
+
+abbrev lent : tie.After-read → List ℤ
+lent c = c .before .before .args .list .now
+
+-- the record was read
+abbrev read : tie.After-known-told → tie.After-read
+read c = c .before .before .before
+
+encodable : (c : tie.After-known-told) → Encodable (c .before .p .given .0 .0) (input (read c))
+encodable c = read-encodable (input (read c)) (c .before .p .given .1) (read c .read .ensures)
 
 read-requires : tie.Need-read-requires
 read-requires c κs = search needs
@@ -19,16 +35,26 @@ passed-up-requires : tie.Need-passed-up-requires
 passed-up-requires c κs = search needs
 
 returns : tie.Need-returns
-returns c = (ap encodedOutcome (c .passed-up .ensures ∙ ap passedUp (c .before .enum-told .given .1)) ∙ ends-refused (c .before .before .before .before .before .args .«record» .now) (c .before .before .before .before .before .args .list .now) (c .before .enum-told .given .1) (c .before .before .before .read .ensures) .0, ends-refused (c .before .before .before .before .before .args .«record» .now) (c .before .before .before .before .before .args .list .now) (c .before .enum-told .given .1) (c .before .before .before .read .ensures) .1)
+returns c = (
+    let r = c .before .before .before in
+    let e = ends-refused (input r) (lent r) (c .before .enum-told .given .1) (r .read .ensures) in
+    (ap encodedOutcome (c .passed-up .ensures ∙ ap passedUp (c .before .enum-told .given .1)) ∙ e .0, e .1)
+    )
+
+count-requires : tie.Need-count-requires
+count-requires c κs = encodable c .recordFits
 
 encode-grid-requires : tie.Need-encode-grid-requires
-encode-grid-requires c κs = read-writing (c .before .before .before .before .before .before .args .«record» .now) (c .before .before .before .before .before .before .args .list .now) (c .before .before .p .given .1) (c .before .before .before .before .read .ensures)
+encode-grid-requires c κs = (encodable (c .before .before), c .before .count .ensures)
 
 same-length : tie.Need-same-length
 same-length c = search needs
 
 returns-2 : tie.Need-returns-2
-returns-2 c = ends-read (c .before .before .before .before .before .before .before .before .args .«record» .now) (c .before .before .before .before .before .before .before .before .args .list .now) (c .before .before .before .before .p .given .1) (c .before .before .before .before .before .before .read .ensures) (c .before .encode-grid .ensures)
+returns-2 c = (
+    let k = c .before .before .before .before in
+    ends-read (input (read k)) (lent (read k)) (k .before .p .given .1) (read k .read .ensures) (c .before .encode-grid .ensures)
+    )
 
 pub encode-spec : {M : Type 1} → statement M
 encode-spec =
@@ -39,6 +65,7 @@ encode-spec =
     enum-told
     passed-up-requires
     returns
+    count-requires
     encode-grid-requires
     same-length
     returns-2)
