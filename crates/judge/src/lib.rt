@@ -9,7 +9,7 @@ ghost use Rattle.rules.specs.Board.{neighbour, gridBoard};
 ghost use Rattle.rules.specs.Drawing.{linkAt};
 ghost use Rattle.rules.specs.Walk.{loopCells};
 ghost use Rattle.rules.specs.Judge.{wrongDrawing, wrongByte, touching, clueNotMet, linkUnmatched, notTwoLinks, notOneLoop, judgeRows, judgeAnswer, saysYes, verdictOutcome};
-ghost use Rattle.judge.specs.WalkMarks.{marked, leftAfter, unseenAt, passedUp};
+ghost use Rattle.judge.specs.WalkMarks.{marked, leftAfter, unseenAt};
 use answers::Place;
 use judge_cells::Test;
 use judge_cells::cells::first;
@@ -186,23 +186,13 @@ pub fn judge_grid(g: Grid, record: &[u8], drawing: &[u8]) -> Verdict
     Verdict::Yes
 }
 
-// A refusal of the record reader, passed up unchanged.
-fn passed_up(p: Parsed) -> Verdict
-    ensures { λ r. ⌜ r ≡ passedUp p ⌝ }
-{
-    let Parsed::Refused(r) = p else {
-        return Verdict::Yes;
-    };
-    Verdict::No(JudgeRefusal::Record(r))
-}
-
 // The judge says yes, or names the first cause against it.
 pub fn judge(record: &[u8], drawing: &[u8]) -> Verdict
     ensures { λ r. ⌜ verdictOutcome r ≡ judgeAnswer (now («record» .entry)) (now (drawing .entry)) ⌝ }
 {
     let p = read(record);
     let Parsed::Accepted(g) = p else {
-        return passed_up(p);
+        return Verdict::No(JudgeRefusal::Record(p.refusal()));
     };
     judge_grid(g, record, drawing)
 }
