@@ -2,13 +2,13 @@
 ghost use mathlib.Core.Path.{_≡_};
 ghost use Prim.Native.Nat.{_≤_, _<_};
 ghost use lib.ListN.{length};
-ghost use Rattle.answers.specs.First.{firstWhere, placed};
+ghost use Rattle.answers.specs.First.{placed};
 ghost use Rattle.answers.specs.Lists.{howMany};
 ghost use Rattle.rules.specs.Record.{size, puzzle, OnBoard, RecordFits, DrawingFits};
 ghost use Rattle.rules.specs.Board.{neighbour, line, nearest, gridBoard};
 ghost use Rattle.rules.specs.Drawing.{blacksNearest, blackAt};
 ghost use Rattle.rules.specs.Judge.{badByte, there, badByteAt, touchesAt, unmatchedLink, unmatchedLinkAt, whiteAt, notTwoAt};
-ghost use Rattle.judge_cells.specs.Tests.{unmetAt, testAt};
+ghost use Rattle.judge_cells.specs.Tests.{unmetAt, testAt, firstOf};
 use super::Test;
 use super::drawing::black_bit;
 use super::drawing::degree;
@@ -220,7 +220,7 @@ fn holds(t: Test, g: Grid, record: &[u8], drawing: &[u8], x: usize) -> bool
 // The first cell at which the test holds.
 pub fn first(t: Test, g: Grid, record: &[u8], drawing: &[u8]) -> Place
     requires { ⌜ DrawingFits g (now «record») (now drawing) ⌝ }
-    ensures { λ r. ⌜ placed r ≡ firstWhere (testAt t (puzzle g (now («record» .entry))) (now (drawing .entry))) (size g) ⌝ }
+    ensures { λ r. ⌜ placed r ≡ firstOf t (gridBoard g (now («record» .entry))) (now (drawing .entry)) ⌝ }
 {
     let n = g.size();
     let mut x = 0;

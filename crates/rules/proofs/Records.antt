@@ -12,6 +12,7 @@ use mathlib.Core.Option.{none, some}
 use mathlib.Core.List.{List, _++_}
 use Rattle.answers.proofs.Bools.{and-both, or-left, or-right, or-neither}
 use Rattle.answers.proofs.Rows.{Tells, tells, turns, passes, answers, Clear, answered-clear, clear-answered, no-cause, still-refused, refusals-append}
+use Rattle.answers.proofs.OneToOne.{number-not}
 use Rattle.answers.specs.declared.Outcome.{Outcome}
 use Rattle.answers.specs.Outcome.{refusal, answer, Row, cause, firstRefusal}
 use Rattle.answers.specs.First.{firstWhere}
@@ -19,11 +20,11 @@ use Rattle.rules.specs.declared.Cell.the-variants.{Open, Clue}
 use Rattle.rules.specs.declared.CellByte.the-variants.{Is, NotAllowed}
 use Rattle.rules.specs.declared.Grid.{Grid}
 use Rattle.rules.specs.declared.RecordRefusal.{RecordRefusal}
-use Rattle.rules.specs.declared.RecordRefusal.the-variants.{Length, Kind, Side, Size, NotACell}
 use Rattle.rules.specs.declared.Parsed.{Parsed}
 use Rattle.rules.specs.declared.Parsed.the-variants.{Accepted, Refused}
 use Rattle.rules.specs.Board.{boardOf}
 use Rattle.rules.proofs.Boards.{Laws, Filled, laws}
+use Rattle.rules.proofs.Outcomes.{record-numbers}
 use Rattle.rules.specs.Record.{directionOf, readCell, cellOf, word, sides, size, cellByte, puzzle, isSide, wrongLength, wrongKind, wrongSide, wrongSize, wrongCell, Sides, RecordFits, recordRows, recordAnswer, IsAccepted, recordRefusalOutcome, parsedOutcome}
 
 -- the bytes of clues, once for every direction
@@ -143,11 +144,7 @@ module _ {s : List ℕ} where
 
 -- What the reader told, for the calls that go on after it: no refusal has the number 0
 pub refusal-number : (r : RecordRefusal) → recordRefusalOutcome r .number ≡ 0 → ⊥
-refusal-number Length e = omega arith
-refusal-number Kind e = omega arith
-refusal-number Side e = omega arith
-refusal-number Size e = omega arith
-refusal-number (NotACell x) e = omega arith
+refusal-number r = number-not record-numbers r (omega arith)
 
 -- a refusal is passed up unchanged, whatever rows come after the reader's
 pub passes-up : (s : List ℕ) (qs : List Row) (t : Outcome) {p : Parsed} {r : RecordRefusal} → p ≡ Refused r → parsedOutcome p ≡ recordAnswer s → recordRefusalOutcome r ≡ firstRefusal (recordRows s ++ qs) t
