@@ -1,17 +1,17 @@
--- `dimacs_writer::count_lines` meets its contract: the loop keeps `Counting`. Assumes nothing.
+-- `dimacs_writer::count_lines` meets its contract: the loop keeps `LinesCounted`. Assumes nothing.
 use Prim.Native.Nat.{ℕ, _+_, _-_, _/_, _%_}
 use native.Mathlib.Omega.{arith}
 use lib.IntN.{pos}
 use lib.ListN.{length, getD}
 use mathlib.Core.Path.{_≡_, refl, _∙_, ap}
 use Rattle.dimacs_writer.specs.Writer.{written}
-use Rattle.dimacs_writer.proofs.Decimals.{digits-few}
-use Rattle.dimacs_writer.proofs.Lines.{Counting, written-length, count-more, count-over, count-end}
+use Rattle.text.proofs.Decimals.{digits-few}
+use Rattle.dimacs_writer.proofs.Lines.{LinesCounted, written-length, count-more, count-over, count-end}
 use Rattle.dimacs_writer.proofs.count_lines.Statement.{statement}
 use Rattle.dimacs_writer.proofs.count_lines.Tie as tie
 
 abbrev Inv-loop : tie.InvT-loop
-Inv-loop list before n₀ i₀ n i = Counting list before n i
+Inv-loop list before n₀ i₀ n i = LinesCounted list before n i
 
 abbrev μ-loop : tie.MeasureT-loop
 μ-loop list before n₀ i₀ n i = length list - i

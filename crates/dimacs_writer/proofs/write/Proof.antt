@@ -5,7 +5,7 @@ use mathlib.Core.Path.{_≡_, sym, _∙_, ap}
 use Rattle.answers.specs.First.{placed}
 use Rattle.dimacs.specs.Text.{textOf}
 use Rattle.dimacs_writer.specs.Writer.{counted}
-use Rattle.dimacs_writer.proofs.Decimals.{digits-few}
+use Rattle.text.proofs.Decimals.{digits-few}
 use Rattle.dimacs_writer.proofs.WriterRows.{VariablesRight, ListRight, RoomRight, too-many, list-wrong, text-counted, room-over, room-short, room-right, header-fits, all-written}
 use borrow.Author.Needs.{needs}
 use Rattle.dimacs_writer.proofs.write.Statement.{statement}

@@ -3,8 +3,9 @@ use Prim.Native.Nat.{_≤_, _-_}
 use native.Mathlib.Omega.{arith}
 use lib.ListN.{length}
 use Rattle.answers.proofs.Lent.{wrote-length}
+use Rattle.text.proofs.Parts.{Putting, put-start, put-room, put-end}
 use Rattle.program_text.specs.Lines.{drawingText}
-use Rattle.program_text.proofs.Lines.{Putting, put-start, put-room, put-end, cellsFrom, cell-more, cells-end, drawing-length}
+use Rattle.program_text.proofs.Lines.{cellsFrom, cell-more, cells-end, drawing-length}
 use Rattle.program_text.proofs.put_drawing.Statement.{statement}
 use Rattle.program_text.proofs.put_drawing.Tie as tie
 

@@ -1,7 +1,7 @@
 -- `program_text::put_refused` meets its contract. Assumes nothing.
 use native.Mathlib.Omega.{arith}
 use Rattle.answers.proofs.Lent.{wrote-after, wrote-length}
-use Rattle.dimacs_writer.proofs.Decimals.{digits-few}
+use Rattle.text.proofs.Decimals.{digits-few}
 use borrow.Author.Needs.{needs}
 use Rattle.program_text.proofs.put_refused.Statement.{statement}
 use Rattle.program_text.proofs.put_refused.Tie as tie

@@ -1,9 +1,9 @@
--- `dimacs_writer::width` meets its contract. Assumes nothing.
+-- `text::width` meets its contract. Assumes nothing.
 use native.Mathlib.Omega.{arith}
 use Prim.Native.Nat.{_/_}
-use Rattle.dimacs_writer.proofs.Decimals.{digits-after, digits-few}
-use Rattle.dimacs_writer.proofs.width.Statement.{statement}
-use Rattle.dimacs_writer.proofs.width.Tie as tie
+use Rattle.text.proofs.Decimals.{digits-after, digits-few}
+use Rattle.text.proofs.width.Statement.{statement}
+use Rattle.text.proofs.width.Tie as tie
 
 narrow-width-requires : tie.Need-narrow-width-requires
 narrow-width-requires c κs = c .if1 .taken

@@ -1,11 +1,11 @@
--- `program_text::put_word` meets its contract: the loop keeps `Putting`. Assumes nothing.
+-- `text::put_word` meets its contract: the loop keeps `Putting`. Assumes nothing.
 use Prim.Native.Nat.{_≤_, _-_}
 use native.Mathlib.Omega.{arith}
 use lib.ListN.{length, drop, length-drop}
 use Rattle.answers.proofs.Lent.{wrote-length}
-use Rattle.program_text.proofs.Lines.{Putting, put-start, put-room, put-more, put-end, word-from, word-end}
-use Rattle.program_text.proofs.put_word.Statement.{statement}
-use Rattle.program_text.proofs.put_word.Tie as tie
+use Rattle.text.proofs.Parts.{Putting, put-start, put-room, put-more, put-end, word-from, word-end}
+use Rattle.text.proofs.put_word.Statement.{statement}
+use Rattle.text.proofs.put_word.Tie as tie
 
 abbrev Inv-loop : tie.InvT-loop
 Inv-loop text₀ at word p₀ i₀ text p i = (i ≤ length word) × Putting word text₀ at text p (drop i word)

@@ -1,9 +1,9 @@
--- `dimacs_writer::narrow_width` meets its contract. Assumes nothing.
+-- `text::narrow_width` meets its contract. Assumes nothing.
 use mathlib.Core.Path.{ap}
 use lib.ListN.{length}
-use Rattle.dimacs_writer.proofs.Decimals.{decimal-one, digits-are}
-use Rattle.dimacs_writer.proofs.narrow_width.Statement.{statement}
-use Rattle.dimacs_writer.proofs.narrow_width.Tie as tie
+use Rattle.text.proofs.Decimals.{decimal-one, digits-are}
+use Rattle.text.proofs.narrow_width.Statement.{statement}
+use Rattle.text.proofs.narrow_width.Tie as tie
 
 returns : tie.Need-returns
 returns c = ap length (decimal-one (c .if1 .taken))

@@ -1,8 +1,8 @@
--- `dimacs_writer::put_field` meets its contract. Assumes nothing.
+-- `text::put_field` meets its contract. Assumes nothing.
 use native.Mathlib.Omega.{arith}
 use Rattle.answers.proofs.Lent.{wrote-after, wrote-length}
-use Rattle.dimacs_writer.proofs.put_field.Statement.{statement}
-use Rattle.dimacs_writer.proofs.put_field.Tie as tie
+use Rattle.text.proofs.put_field.Statement.{statement}
+use Rattle.text.proofs.put_field.Tie as tie
 
 put-decimal-requires : tie.Need-put-decimal-requires
 put-decimal-requires c κs = omega arith
