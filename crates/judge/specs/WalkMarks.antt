@@ -8,9 +8,9 @@ use Rattle.rules.specs.Board.{Board}
 use Rattle.rules.specs.Judge.{whiteAt}
 
 -- 1 at each of the cells
-unfoldable pub marked : List ℕ → List ℕ → List ℕ
-marked [] ms = ms
-marked (x ∷ l) ms = marked l (set ms x 1)
+unfoldable pub onesAt : List ℕ → List ℕ → List ℕ
+onesAt [] ms = ms
+onesAt (x ∷ l) ms = onesAt l (set ms x 1)
 
 -- the steps left after one that leads to y: none if that is s
 abbrev pub leftAfter : ℕ → ℕ → ℕ → ℕ

@@ -9,7 +9,7 @@ ghost use Rattle.rules.specs.Board.{neighbour, gridBoard};
 ghost use Rattle.rules.specs.Drawing.{linkAt};
 ghost use Rattle.rules.specs.Walk.{loopCells};
 ghost use Rattle.rules.specs.Judge.{notOneLoop, ruleRows, judgeRows, judgeAnswer, saysYes, ruleVerdictOutcome, verdictOutcome};
-ghost use Rattle.judge.specs.WalkMarks.{marked, leftAfter, unseenAt};
+ghost use Rattle.judge.specs.WalkMarks.{onesAt, leftAfter, unseenAt};
 use answers::Place;
 use judge_cells::Test;
 use judge_cells::cells::first;
@@ -43,7 +43,7 @@ fn trace(g: Grid, drawing: &[u8], s: usize, seen: &mut [u8])
     requires { ⌜ OnBoard g s ⌝ }
     requires { ⌜ length (now drawing) ≡ size g ⌝ }
     requires { ⌜ size g ≤ length (now seen) ⌝ }
-    ensures { λ r. ⌜ now (seen .exit) ≡ marked (loopCells (size g) (neighbour g) (linkAt (now (drawing .entry))) s) (now (seen .entry)) ⌝ }
+    ensures { λ r. ⌜ now (seen .exit) ≡ onesAt (loopCells (size g) (neighbour g) (linkAt (now (drawing .entry))) s) (now (seen .entry)) ⌝ }
 {
     let mut x = s;
     let mut d = Direction::East;

@@ -1,11 +1,11 @@
 // The tests of a cell, one for each cause that is sought cell by cell.
 ghost use mathlib.Core.Path.{_≡_};
 ghost use Prim.Native.Nat.{_≤_, _<_};
-ghost use lib.ListN.{length};
+ghost use lib.ListN.{length, getD};
 ghost use Rattle.answers.specs.First.{placed};
 ghost use Rattle.answers.specs.Lists.{howMany};
 ghost use Rattle.rules.specs.Record.{size, puzzle, OnBoard, RecordFits, DrawingFits};
-ghost use Rattle.rules.specs.Board.{neighbour, line, nearest, gridBoard};
+ghost use Rattle.rules.specs.Board.{neighbour, line, gridBoard};
 ghost use Rattle.rules.specs.Drawing.{blacksNearest, blackAt};
 ghost use Rattle.rules.specs.Judge.{badByte, there, badByteAt, touchesAt, unmatchedLink, unmatchedLinkAt, whiteAt, notTwoAt};
 ghost use Rattle.judge_cells.specs.Tests.{unmetAt, testAt, firstOf};
@@ -96,7 +96,7 @@ fn blacks_nearest(
     j: usize,
 ) -> usize
     requires { ⌜ DrawingFits g (now «record») (now drawing) ⌝ }
-    requires { ⌜ end .cell ≡ nearest (line (puzzle g (now «record»)) d x) x ⌝ }
+    requires { ⌜ end .cell ≡ getD (line (puzzle g (now «record»)) d x) 0 x ⌝ }
     requires { ⌜ j ≤ length (line (puzzle g (now «record»)) d x) ⌝ }
     ensures { λ r. ⌜ r ≡ blacksNearest (blackAt (now (drawing .entry))) (line (puzzle g (now («record» .entry))) d x) j ⌝ }
 {

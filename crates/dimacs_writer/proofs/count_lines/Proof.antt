@@ -27,7 +27,11 @@ width-requires c κs = tt
 
 -- the bytes of the element
 wide : (c : tie.After-width Inv-loop μ-loop) → c .width .result + c .before .code-at .result % 2 + 1 ≡ length (written (getD (c .before .before .before .before .args .list .now) (c .before .before .before .loop .i) (pos 0)))
-wide c = ap (λ (w : ℕ). w + c .before .code-at .result % 2 + 1) (c .width .ensures) ∙ written-length (getD (c .before .before .before .before .args .list .now) (c .before .before .before .loop .i) (pos 0)) (c .before .code-at .ensures)
+wide c =
+    let at-loop = c .before .before .before in
+    let at-start = at-loop .before in
+    ap (λ (w : ℕ). w + c .before .code-at .result % 2 + 1) (c .width .ensures) ∙ written-length
+    (getD (at-start .args .list .now) (at-loop .loop .i) (pos 0)) (c .before .code-at .ensures)
 
 add-w : tie.Need-add-w Inv-loop μ-loop
 add-w c = omega (arith, digits-few 19 (c .before .code-at .result / 2) (omega arith))

@@ -38,8 +38,8 @@ loop-less c = omega arith
 
 loop-again : tie.Need-loop-again Inv-loop μ-loop
 loop-again c =
-    let l = c .before .before .before .before .before in
-    (omega arith, put-more (l .loop .inv .1) (lines-from (ls l) (l .loop .i) (omega arith)) (c .before .before .put-element .ensures))
+    let at-loop = c .before .before .before .before .before in
+    let l = at-loop in (omega arith, put-more (l .loop .inv .1) (lines-from (ls l) (l .loop .i) (omega arith)) (c .before .before .put-element .ensures))
 
 same-length : tie.Need-same-length Inv-loop μ-loop
 same-length c = wrote-length (c .before .loop .inv .1 .wrote)
