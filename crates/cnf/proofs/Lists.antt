@@ -75,22 +75,22 @@ split-count (l ∷ m ∷ ls) h = one-more (closes l) (closes m) (split ls) ∙ a
     one-more false false (c ∷ cs) = refl
 
 -- at the head of the loop that counts: the clauses counted and those of the rest are all
-pub record Counting (ls : List ℤ) (i n : ℕ) : Type 0 where
+pub record ClausesCounted (ls : List ℤ) (i n : ℕ) : Type 0 where
   pub within : i ≤ length ls
   pub few : n ≤ i
   pub rest : n + clauseCount (drop i ls) ≡ clauseCount ls
 
-pub count-start : {ls : List ℤ} → Counting ls 0 0
+pub count-start : {ls : List ℤ} → ClausesCounted ls 0 0
 count-start = record { within = omega arith; few = omega arith; rest = omega arith }
 
-module _ {ls : List ℤ} {i n : ℕ} (c : Counting ls i n) where
+module _ {ls : List ℤ} {i n : ℕ} (c : ClausesCounted ls i n) where
   turn : i < length ls → (t : Bool) → closes (getD ls i (pos 0)) ≡ t → n + tally t (clauseCount (drop (i + 1) ls)) ≡ clauseCount ls
   turn h t e = rw (← e) (rw add-one (ap (λ r. n + clauseCount r) (sym (drop-cons ls i (pos 0) h)) ∙ c .rest))
 
-  pub count-closed : i < length ls → codeOf (getD ls i (pos 0)) ≡ 0 → Counting ls (i + 1) (n + 1)
+  pub count-closed : i < length ls → codeOf (getD ls i (pos 0)) ≡ 0 → ClausesCounted ls (i + 1) (n + 1)
   count-closed h e = let f = c .few in let r = turn h true (code-closes (getD ls i (pos 0)) ∙ eq-eqb _ _ e) in record { within = omega arith; few = omega arith; rest = omega arith }
 
-  pub count-other : i < length ls → (codeOf (getD ls i (pos 0)) ≡ 0 → ⊥) → Counting ls (i + 1) n
+  pub count-other : i < length ls → (codeOf (getD ls i (pos 0)) ≡ 0 → ⊥) → ClausesCounted ls (i + 1) n
   count-other h e = let f = c .few in record { within = omega arith; few = omega arith; rest = turn h false (code-closes (getD ls i (pos 0)) ∙ ne-eqb _ _ e) }
 
   pub count-end : length ls ≤ i → n ≡ clauseCount ls

@@ -5,19 +5,13 @@ ghost use Rattle.solver_count.specs.Answer.{meant};
 ghost use Rattle.count_solutions.specs.Printed.{countLine, printedCount};
 use encoder_call::Encoded;
 use encoder_call::encode;
+use program_text::BUDGET;
+use program_text::MOST_ELEMENTS;
+use program_text::MOST_VARIABLES;
 use program_text::put_refused;
-use program_text::put_word;
 use solver_count::SolutionCount;
 use solver_count::count_solutions;
-
-// The list elements that the program holds.
-const MOST_ELEMENTS: usize = 8192;
-
-// The variables that it holds.
-const MOST_VARIABLES: usize = 4096;
-
-// The most steps of the search and of `next` together.
-const BUDGET: u64 = 1000000;
+use text::put_word;
 
 // The line of an answer.
 fn put_count(text: &mut [u8], many: SolutionCount) -> usize

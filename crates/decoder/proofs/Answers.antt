@@ -10,11 +10,11 @@ use mathlib.Core.List.{List, _++_, map, append-nil}
 use Rattle.answers.specs.declared.Outcome.{Outcome}
 use Rattle.answers.specs.Outcome.{Row, firstRefusal}
 use Rattle.answers.specs.Lent.{filled, unlessRefused}
+use Rattle.answers.proofs.OneToOne.{number-not}
 use Rattle.answers.proofs.Rows.{Clear, answered-clear, clear-answered, no-cause, still-refused, refusals-append}
-use Rattle.rules.specs.declared.JudgeRefusal.{JudgeRefusal}
-use Rattle.rules.specs.declared.JudgeRefusal.the-variants.{Record as NotRead, DrawingLength as NotDrawn, DrawingByte, Touching, ClueNotMet, LinkUnmatched, NotTwoLinks, NotOneLoop}
-use Rattle.rules.specs.Judge.{saysYes, judgeRefusalOutcome}
+use Rattle.rules.specs.Judge.{saysYes}
 use Rattle.rules.proofs.Records.{refusal-number}
+use Rattle.rules.proofs.Outcomes.{judge-numbers}
 use Rattle.encoder.specs.Lists.{upTo}
 use Rattle.encoder.proofs.Lists.{made-long}
 use Rattle.decoder.specs.declared.DecodeRefusal.{DecodeRefusal}
@@ -22,22 +22,12 @@ use Rattle.decoder.specs.declared.DecodeRefusal.the-variants.{Record, Va
 use Rattle.decoder.specs.Answer.{decodeRefusalOutcome, valueRows}
 
 -- no refusal has the number 0
-judge-refusal-number : (f : JudgeRefusal) → judgeRefusalOutcome f .number ≡ 0 → ⊥
-judge-refusal-number (NotRead r) e = refusal-number r e
-judge-refusal-number NotDrawn e = omega arith
-judge-refusal-number (DrawingByte x) e = omega arith
-judge-refusal-number (Touching x) e = omega arith
-judge-refusal-number (ClueNotMet x) e = omega arith
-judge-refusal-number (LinkUnmatched x) e = omega arith
-judge-refusal-number (NotTwoLinks x) e = omega arith
-judge-refusal-number (NotOneLoop x) e = omega arith
-
 undrawn-number : (u : DecodeRefusal) → decodeRefusalOutcome u .number ≡ 0 → ⊥
 undrawn-number (Record r) e = refusal-number r e
 undrawn-number ValuesLength e = omega arith
 undrawn-number DrawingLength e = omega arith
 undrawn-number (Value n) e = omega arith
-undrawn-number (Judged f) e = judge-refusal-number f e
+undrawn-number (Judged f) e = number-not judge-numbers f (omega arith) e
 
 -- a refusal leaves the drawing as it was; where the judge says yes it is what the values give
 module _ (rows : List Row) (lent drawn : List ℕ) where

@@ -1,10 +1,10 @@
 -- Document 02's request E3 holds. What it says stands in specs/Lines.antt; what is cited here is proved in rules and encoder_theory. Assumes nothing.
 use lib.ListN.{List·getD-eq-default}
-use mathlib.Core.Path.{refl, sym, _∙_, ap}
+use mathlib.Core.Path.{refl}
 use native.Mathlib.Omega.{arith}
-use Rattle.rules.specs.Board.{neighbour, line}
+use Rattle.rules.specs.Board.{line}
 use Rattle.rules.proofs.Boards.{line-ends}
-use Rattle.rules.proofs.Lines.{line-first, line-next}
+use Rattle.rules.proofs.Lines.{line-next}
 use Rattle.answers.proofs.Lists.{many-next, many-all}
 use Rattle.encoder_theory.proofs.Theorems as theorems
 use Rattle.demands.specs.Lines.{RequestE3}
@@ -12,7 +12,7 @@ use Rattle.demands.specs.Lines.{RequestE3}
 pub request-e3 : RequestE3
 request-e3 =
     record {
-      from-edge = λ p d x h. ap (neighbour (p .grid) d) (sym (line-first p d x)) ∙ line-ends p d x h;
+      from-edge = λ p d x h. line-ends p d x h;
       cell-by-cell = λ p d x j h. line-next p d x h;
       to-clue = λ p d x. List·getD-eq-default (line p d x) x (omega arith);
       side-by-side = theorems.side-by-side;

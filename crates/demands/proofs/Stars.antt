@@ -16,7 +16,8 @@ use Rattle.rules.specs.Walk.{around, among}
 use Rattle.rules.specs.Judge.{judgeAnswer, saysYes}
 use Rattle.rules_theory.proofs.Theorems.{judge-right}
 use Rattle.rules_theory.proofs.Cases as records
-use Rattle.dimacs.specs.Text.{decimalIn, lines}
+use Rattle.text.specs.Decimal.{decimalIn}
+use Rattle.dimacs.specs.Text.{lines}
 use Rattle.encoder.specs.Variables.{same, variables, variableCount, place}
 use Rattle.encoder.specs.Clauses.{clauses, clauseList}
 use Rattle.encoder.proofs.Cases as grids
@@ -30,7 +31,8 @@ use Rattle.search_theory.specs.Calls.{Searching}
 use Rattle.search_theory.specs.Listing.{none}
 use Rattle.demands.specs.Searches.{Search, bySearch, BegunOn}
 use Rattle.demands.specs.Solutions.{Solutions}
-use Rattle.demands.specs.Stars.{GridStar, TextIs, searchOf, GridHolds, grid, refused, list, Holds, gridCase, oneCellText, gridStars, stars}
+use Rattle.dimacs.specs.Sample.{oneCellText}
+use Rattle.demands.specs.Stars.{GridStar, TextIs, searchOf, GridHolds, grid, refused, list, Holds, gridCase, gridStars, stars}
 use Rattle.demands.proofs.Calling.{at-end}
 use Rattle.demands.proofs.Searching.{begun-taken}
 use Rattle.demands.proofs.Following.{goes-to, then-none, lists-solutions}

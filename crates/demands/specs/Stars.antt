@@ -11,6 +11,7 @@ use Rattle.rules.specs.Record.{recordAnswer, IsAccepted}
 use Rattle.rules.specs.Board.{boardOf}
 use Rattle.rules_theory.proofs.Cases as records
 use Rattle.dimacs.specs.Text.{textOf}
+use Rattle.dimacs.specs.Sample.{oneCellText}
 use Rattle.encoder.proofs.Cases as grids
 use Rattle.search.proofs.Cases as lists
 use Rattle.demands.specs.Solutions.{Solutions}
@@ -49,31 +50,6 @@ abbrev pub Holds : Star → Type 0
 Holds (grid g) = GridHolds g
 Holds (refused c) = recordAnswer (c .bytes) ≡ c .says
 Holds (list c) = lists.fromEmpty c ≡ c .says
-
--- what program 1 prints for 1×1 open
-abbrev pub oneCellText : List ℕ
-oneCellText =
-    -- p cnf 3 9
-    112 ∷ 32 ∷ 99 ∷ 110 ∷ 102 ∷ 32 ∷ 51 ∷ 32 ∷ 57 ∷ 10 ∷
-    -- 1 0
-    49 ∷ 32 ∷ 48 ∷ 10 ∷
-    -- 1 0
-    49 ∷ 32 ∷ 48 ∷ 10 ∷
-    -- 2 0
-    50 ∷ 32 ∷ 48 ∷ 10 ∷
-    -- -2 -1 0
-    45 ∷ 50 ∷ 32 ∷ 45 ∷ 49 ∷ 32 ∷ 48 ∷ 10 ∷
-    -- -2 0
-    45 ∷ 50 ∷ 32 ∷ 48 ∷ 10 ∷
-    -- 1 3 0
-    49 ∷ 32 ∷ 51 ∷ 32 ∷ 48 ∷ 10 ∷
-    -- -1 -3 0
-    45 ∷ 49 ∷ 32 ∷ 45 ∷ 51 ∷ 32 ∷ 48 ∷ 10 ∷
-    -- -2 3 0
-    45 ∷ 50 ∷ 32 ∷ 51 ∷ 32 ∷ 48 ∷ 10 ∷
-    -- 2 -3 0
-    50 ∷ 32 ∷ 45 ∷ 51 ∷ 32 ∷ 48 ∷ 10 ∷
-    []
 
 -- the k-th grid of the encoder's cases
 abbrev pub gridCase : ℕ → grids.Case

@@ -6,7 +6,8 @@ use mathlib.Core.Bool.{Bool, true, false, not, _&&_, _||_, cond}
 use mathlib.Core.Option.{Option, none, some}
 use mathlib.Core.List.{List, [], _∷_, _++_}
 use Rattle.cnf.specs.Literals.{mostVariables}
-use Rattle.dimacs.specs.Text.{lineFeed, space, minus, preamble}
+use Rattle.text.specs.Decimal.{lineFeed, space, minus}
+use Rattle.dimacs.specs.Text.{preamble}
 use Rattle.dimacs.specs.Automaton.{next, endFrom, refusedFrom}
 
 -- V and C

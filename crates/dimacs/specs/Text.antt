@@ -1,40 +1,14 @@
 -- "DIMACS text": the text of V and a list, and the accepted texts.
-use Prim.Native.Nat.{ℕ, zero, suc, _+_, _/_, _%_, _≤_, _<_, _^_}
-use lib.Dec.{ltb}
+use Prim.Native.Nat.{ℕ, suc, _≤_, _<_, _^_}
 use lib.IntN.{ℤ, pos, negsuc}
 use mathlib.Core.Path.{_≡_}
-use mathlib.Core.Bool.{Bool, true, false, cond}
+use mathlib.Core.Bool.{cond}
 use mathlib.Core.Option.{none}
 use mathlib.Core.List.{List, [], _∷_, _++_}
 use Rattle.answers.specs.Lists.{All}
+use Rattle.text.specs.Decimal.{lineFeed, space, minus, decimal}
 use Rattle.cnf.specs.Literals.{closes, mostVariables, wrongList}
 use Rattle.cnf.specs.Clauses.{clauseCount}
-
-abbrev pub lineFeed : ℕ
-lineFeed = 10
-
-abbrev pub space : ℕ
-space = 32
-
-abbrev pub minus : ℕ
-minus = 45
-
--- the byte of a decimal digit
-abbrev pub digit : ℕ → ℕ
-digit d = 48 + d
-
-abbrev pub decimalStep : Bool → ℕ → (ℕ → List ℕ) → List ℕ
-decimalStep true n front = digit n ∷ []
-decimalStep false n front = front (n / 10) ++ (digit (n % 10) ∷ [])
-
--- the last digits of n, at most so many
-unfoldable pub decimalIn : ℕ → ℕ → List ℕ
-decimalIn zero n = []
-decimalIn (suc most) n = decimalStep (ltb n 10) n (λ m. decimalIn most m)
-
--- decimal, no leading zero (n has fewer than n + 2 digits)
-abbrev pub decimal : ℕ → List ℕ
-decimal n = decimalIn (suc n) n
 
 -- no plus, no −0
 abbrev pub signed : ℤ → List ℕ

@@ -3,6 +3,9 @@ ghost use mathlib.Core.Path.{_≡_};
 ghost use Rattle.dimacs.specs.Answers.{writtenOutcome, readingOutcome};
 use answers::Outcome;
 
+// `p cnf `, the first bytes of a header.
+pub const PREAMBLE: [u8; 6] = [112, 32, 99, 110, 102, 32];
+
 // Why the writer turns a list down: 17 (for V alone), 16 and 6 of document 01's table.
 pub enum WriteRefusal {
     Variables,

@@ -16,7 +16,7 @@ use Rattle.dimacs_cursor.specs.declared.Head.{Head}
 use Rattle.dimacs_cursor.specs.declared.Head.the-variants.{Is as HeadIs, Refused as NoHead}
 use Rattle.dimacs_cursor.specs.declared.Element.{Element}
 use Rattle.dimacs_cursor.specs.declared.Element.the-variants.{Is as ElementIs, Refused as NoElement}
-use Rattle.dimacs.specs.Text.{lineFeed, space}
+use Rattle.text.specs.Decimal.{lineFeed, space}
 use Rattle.dimacs.specs.Automaton.{endFrom, refusedFrom}
 use Rattle.dimacs.specs.Reader.{Header, Number, State, first, digits, clause, most, isDigit, stepByte, accepts, readElement, listFrom}
 

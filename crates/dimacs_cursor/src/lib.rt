@@ -7,6 +7,7 @@ ghost use lib.ListN.{length};
 ghost use Rattle.dimacs.specs.Text.{preamble};
 ghost use Rattle.dimacs.specs.Reader.{Header, Number, State, line, word, first, digits, clause, ofVariables, element, when, most, zeroAllowed, isDigit, afterNumber};
 ghost use Rattle.dimacs_cursor.specs.Cursors.{ByteAt, isFirst, isNext, Passes, Numbers, Fields, Heads, behindNumber, Elemental};
+use dimacs::PREAMBLE;
 
 // A place in a text.
 pub struct Cursor {
@@ -36,9 +37,6 @@ pub enum Element {
     Is(bool, usize, Cursor),
     Refused(usize),
 }
-
-// `p cnf `
-const WORD: [u8; 6] = [112, 32, 99, 110, 102, 32];
 
 fn byte_at(text: &[u8], at: usize) -> usize
     requires { ⌜ at < length (now text) ⌝ }
@@ -133,7 +131,7 @@ impl Cursor {
             if at >= text.len() {
                 return Passed::Refused(at);
             }
-            if text[at] != WORD[i] {
+            if text[at] != PREAMBLE[i] {
                 return Passed::Refused(at);
             }
             at += 1;

@@ -11,7 +11,8 @@ use mathlib.Core.Option.{some}
 use mathlib.Core.List.{List, [], _∷_}
 use Rattle.answers.specs.Lists.{tally}
 use Rattle.cnf.specs.Clauses.{clauseCount}
-use Rattle.dimacs.specs.Text.{lineFeed, space, digit, lines, preamble}
+use Rattle.text.specs.Decimal.{lineFeed, space, digit}
+use Rattle.dimacs.specs.Text.{lines, preamble}
 use Rattle.dimacs.specs.Reader.{Header, Number, State, line, first, digits, clause, element, afterWord, stepByte, accepts}
 use Rattle.dimacs_theory.proofs.Closings.{Closing, done, more}
 use Rattle.dimacs_theory.proofs.Runs.{Runs, byte, Fits, fits, first-step, lines-run}

@@ -7,7 +7,7 @@ use lib.Dec.{ltb}
 use mathlib.Core.Path.{_≡_, refl, sym, ap, subst}
 use mathlib.Core.Bool.{Bool, true, false}
 use mathlib.Core.List.{List, [], _∷_, _++_}
-use Rattle.dimacs.specs.Text.{digit, decimalStep, decimalIn, decimal}
+use Rattle.text.specs.Decimal.{digit, decimalStep, decimalIn, decimal}
 
 -- enough is enough
 in-enough : (f g n : ℕ) → n < f → n < g → decimalIn f n ≡ decimalIn g n

@@ -10,7 +10,8 @@ use mathlib.Core.Option.{none, some, Option·some-injective, Option·none-ne-som
 use mathlib.Core.List.{List, [], _∷_, _++_, append-assoc, append-nil}
 use Rattle.answers.specs.Lists.{tally, All}
 use Rattle.answers.proofs.Bools.{clash, and-both}
-use Rattle.dimacs.specs.Text.{lineFeed, space, minus, digit, decimal, signed, behind, lines, preamble, headerLine, CommentByte, commentLine, commentLines, Narrow, Accepted}
+use Rattle.text.specs.Decimal.{lineFeed, space, minus, digit, decimal}
+use Rattle.dimacs.specs.Text.{signed, behind, lines, preamble, headerLine, CommentByte, commentLine, commentLines, Narrow, Accepted}
 use Rattle.dimacs.specs.Reader.{Header, Number, State, ofClauses, element, line, comment, first, digits, clause, when, most, zeroAllowed, isDigit, firstDigit, nextDigit, afterWord, wordStep, afterNumber, afterElement, clauseStep, stepByte, accepts, readElement, ended}
 use Rattle.dimacs_theory.proofs.Decimals.{decimal-one, decimal-more}
 use Rattle.dimacs_theory.proofs.Closings.{done, closing-right}

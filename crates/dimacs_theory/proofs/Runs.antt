@@ -13,7 +13,8 @@ use Rattle.answers.specs.Lists.{tally, All}
 use Rattle.answers.proofs.Bools.{clash}
 use Rattle.cnf.specs.Literals.{closes, mostVariables}
 use Rattle.cnf.specs.Clauses.{clauseCount}
-use Rattle.dimacs.specs.Text.{lineFeed, space, minus, digit, decimal, signed, behind, lines, preamble, headerLine, CommentByte, commentLine, commentLines, Accepted}
+use Rattle.text.specs.Decimal.{lineFeed, space, minus, digit, decimal}
+use Rattle.dimacs.specs.Text.{signed, behind, lines, preamble, headerLine, CommentByte, commentLine, commentLines, Accepted}
 use Rattle.dimacs.specs.Automaton.{next, endFrom}
 use Rattle.dimacs.specs.Reader.{Header, Number, State, ofVariables, ofClauses, element, line, comment, first, digits, clause, most, zeroAllowed, isDigit, firstDigit, afterWord, stepByte, ended, listFrom}
 use Rattle.dimacs_theory.proofs.Decimals.{digit-by-digit}

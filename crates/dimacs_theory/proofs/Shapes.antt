@@ -10,7 +10,8 @@ use mathlib.Core.List.{List, [], _∷_, _++_, append-assoc}
 use Rattle.answers.specs.Lists.{tally, All}
 use Rattle.cnf.specs.Literals.{closes, mostVariables}
 use Rattle.cnf.specs.Clauses.{clauseCount}
-use Rattle.dimacs.specs.Text.{space, minus, decimal, signed, behind, lines, preamble, headerLine, CommentByte, commentLines}
+use Rattle.text.specs.Decimal.{space, minus, decimal}
+use Rattle.dimacs.specs.Text.{signed, behind, lines, preamble, headerLine, CommentByte, commentLines}
 use Rattle.dimacs.specs.Reader.{Header, Number, State, ofVariables, ofClauses, element, line, comment, word, first, digits, clause}
 use Rattle.dimacs_theory.proofs.Closings.{Closing, more}
 use Rattle.dimacs_theory.proofs.Runs.{Fits}

@@ -9,11 +9,16 @@ use mathlib.Core.Logic.{_↔_}
 use mathlib.Core.Option.{none, some}
 use mathlib.Core.List.{List}
 use Rattle.answers.specs.declared.Outcome.{Outcome}
+use Rattle.answers.proofs.OneToOne.{one-to-one}
 use Rattle.cnf.specs.Clauses.{clauseCount}
+use Rattle.dimacs.specs.declared.Written.{Written}
+use Rattle.dimacs.specs.declared.Reading.{Reading}
 use Rattle.dimacs.specs.Text.{textOf, Writable, Narrow, Accepted}
 use Rattle.dimacs.specs.Automaton.{refusedFrom}
 use Rattle.dimacs.specs.Reader.{refusedAt, listOf, headerOf}
 use Rattle.dimacs.specs.Calls.{writerAnswer, readerAnswer}
+use Rattle.dimacs.specs.Answers.{writtenOutcome, readingOutcome}
+use Rattle.dimacs.proofs.Outcomes.{writings, readings}
 use Rattle.dimacs_theory.specs.Place.{Refused, Automaton}
 use Rattle.dimacs_theory.specs.Reading.{ReadAs, Writes, Reads, written, elementsRead}
 use Rattle.dimacs_theory.proofs.Automata as automata
@@ -71,3 +76,7 @@ read-write text out buf n e h =
     let fits : length (textOf (n .variables) (n .list)) ≤ length buf = omega (arith, ap length (n .is)) in
     let outcome = ap (λ (t : Outcome). t .second) (reader-answers text out r room .outcome) in
     subst₃ (λ v ls t. Writes v ls buf t) (sym outcome) (sym (reader-hands text out r room)) (sym (n .is)) (writer-answers (n .variables) (n .list) buf (n .writable) fits)
+
+-- Document 01's numbers and values tell the answers apart: two answers of the writer that are told the same are the same, and two of the text reader likewise.
+pub outcome-one-to-one : ((v w : Written) → writtenOutcome v ≡ writtenOutcome w → v ≡ w) × ((r s : Reading) → readingOutcome r ≡ readingOutcome s → r ≡ s)
+outcome-one-to-one = (one-to-one writings, one-to-one readings)

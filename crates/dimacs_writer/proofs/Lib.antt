@@ -1,4 +1,3 @@
 -- Laws of the text of a list, for the proofs of the writer.
-pub mod Decimals
 pub mod Lines
 pub mod WriterRows

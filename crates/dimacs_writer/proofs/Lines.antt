@@ -1,5 +1,5 @@
--- Laws of lines: the text of an element, the loop that counts bytes, the loop that writes them. Assumes nothing.
-use Prim.Native.Nat.{ℕ, zero, suc, _+_, _*_, _/_, _%_, _≤_, _<_}
+-- Laws of lines: the text of an element, the lines from an element on, the loop that counts bytes. Assumes nothing.
+use Prim.Native.Nat.{ℕ, zero, suc, _+_, _*_, _/_, _%_, _≤_, _<_, _^_}
 use native.Mathlib.Omega.{arith}
 use native.Mathlib.Numerals.{add-one}
 use borrow.Author.Tests.{lt-ltb, le-ltb}
@@ -7,12 +7,11 @@ use lib.IntN.{ℤ, pos, negsuc}
 use lib.ListN.{length, getD, drop, length-append, drop-of-length-le}
 use lib.Seq.{drop-cons}
 use mathlib.Core.Path.{_≡_, refl, sym, _∙_, ap}
-use mathlib.Core.List.{List, [], _∷_, _++_, append-assoc, append-nil}
-use Rattle.answers.specs.Lent.{Wrote}
-use Rattle.answers.proofs.Lent.{wrote-nothing, wrote-after, wrote-recast}
+use mathlib.Core.List.{List, [], _∷_, _++_, append-assoc}
 use Rattle.cnf.specs.Literals.{codeOf}
 use Rattle.dimacs_writer.specs.declared.Needed.the-variants.{Bytes, TooMany}
-use Rattle.dimacs.specs.Text.{lineFeed, space, minus, decimal, signed, behind, lines, preamble, headerLine}
+use Rattle.text.specs.Decimal.{lineFeed, space, minus, decimal}
+use Rattle.dimacs.specs.Text.{signed, behind, lines, preamble, headerLine}
 use Rattle.dimacs_writer.specs.Writer.{written, counted}
 
 -- the length of an element's text
@@ -68,35 +67,34 @@ header-length v c =
     let b = length-append (decimal c) (lineFeed ∷ []) in
     omega arith
 
--- the next line's part
-lines-from : (ls : List ℤ) (i : ℕ) → i < length ls → lines (drop i ls) ≡ written (getD ls i (pos 0)) ++ lines (drop (i + 1) ls)
+-- the lines from element i on
+pub lines-from : (ls : List ℤ) (i : ℕ) → i < length ls → written (getD ls i (pos 0)) ++ lines (drop (i + 1) ls) ≡ lines (drop i ls)
 unfolding lines
-lines-from ls i h = rw (add-one, drop-cons ls i (pos 0)) (sym (append-assoc (signed (getD ls i (pos 0))) (behind (getD ls i (pos 0)) ∷ []) (lines (drop (suc i) ls))))
+lines-from ls i h = rw (add-one, drop-cons ls i (pos 0)) (append-assoc (signed (getD ls i (pos 0))) (behind (getD ls i (pos 0)) ∷ []) (lines (drop (suc i) ls)))
 
-lines-end : (ls : List ℤ) (i : ℕ) → length ls ≤ i → lines (drop i ls) ≡ []
+pub lines-length : (ls : List ℤ) (i : ℕ) → i < length ls → length (lines (drop i ls)) ≡ length (written (getD ls i (pos 0))) + length (lines (drop (i + 1) ls))
+lines-length ls i h = ap length (sym (lines-from ls i h)) ∙ length-append (written (getD ls i (pos 0))) (lines (drop (i + 1) ls))
+
+pub lines-end : (ls : List ℤ) (i : ℕ) → length ls ≤ i → lines (drop i ls) ≡ []
 unfolding lines
 lines-end ls i h = rw (drop-of-length-le ls h)
 
 -- at the head of the loop that counts
-pub record Counting (ls : List ℤ) (before n i : ℕ) : Type 0 where
+pub record LinesCounted (ls : List ℤ) (before n i : ℕ) : Type 0 where
   pub within : i ≤ length ls
-  pub fits : n < 18446744073709551616
+  pub fits : n < 2 ^ 64
   pub rest : n + length (lines (drop i ls)) ≡ before + length (lines ls)
 
-module _ {ls : List ℤ} {before n i : ℕ} (c : Counting ls before n i) where
+module _ {ls : List ℤ} {before n i : ℕ} (c : LinesCounted ls before n i) where
   module _ {w : ℕ} (h : i < length ls) (e : w ≡ length (written (getD ls i (pos 0)))) where
     count-turn : n + w + length (lines (drop (i + 1) ls)) ≡ before + length (lines ls)
-    count-turn =
-        let r = c .rest in
-        let a = length-append (written (getD ls i (pos 0))) (lines (drop (i + 1) ls)) in
-        let f = ap length (lines-from ls i h) in
-        omega arith
+    count-turn = let r = c .rest in omega (arith, lines-length ls i h)
 
-    pub count-more : n + w < 18446744073709551616 → Counting ls before (n + w) (i + 1)
+    pub count-more : n + w < 2 ^ 64 → LinesCounted ls before (n + w) (i + 1)
     count-more l = record { within = omega arith; fits = l; rest = count-turn }
 
-    pub count-over : 18446744073709551616 ≤ n + w → TooMany ≡ counted (before + length (lines ls))
-    count-over l = let r = count-turn in rw (le-ltb (before + length (lines ls)) 18446744073709551616 (omega arith))
+    pub count-over : 2 ^ 64 ≤ n + w → TooMany ≡ counted (before + length (lines ls))
+    count-over l = let r = count-turn in rw (le-ltb (before + length (lines ls)) (2 ^ 64) (omega arith))
 
   pub count-end : length ls ≤ i → Bytes n ≡ counted (before + length (lines ls))
   count-end h =
@@ -104,33 +102,4 @@ module _ {ls : List ℤ} {before n i : ℕ} (c : Counting ls before n i) where
       let z = ap length (lines-end ls i h) in
       let e : before + length (lines ls) ≡ n = omega arith in
       let f = c .fits in
-      rw e (rw (lt-ltb n 18446744073709551616 f))
-
--- at the head of the loop that writes: the bytes that stand already, and those of the rest
-pub record Putting (ls : List ℤ) (before : List ℕ) (at : ℕ) (after : List ℕ) (next i : ℕ) : Type 0 where
-  pub within : i ≤ length ls
-  pub done : List ℕ
-  pub wrote : Wrote before at done after next
-  pub rest : done ++ lines (drop i ls) ≡ lines ls
-
-pub put-start : (ls : List ℤ) (buf : List ℕ) (at : ℕ) → Putting ls buf at buf at 0
-put-start ls buf at = record { within = omega arith; done = []; wrote = wrote-nothing buf at; rest = refl }
-
-module _ {ls : List ℤ} {before : List ℕ} {at : ℕ} {after : List ℕ} {next i : ℕ} (p : Putting ls before at after next i) where
-  module _ (h : i < length ls) where
-    put-turn : (p .done ++ written (getD ls i (pos 0))) ++ lines (drop (i + 1) ls) ≡ lines ls
-    put-turn = append-assoc (p .done) (written (getD ls i (pos 0))) (lines (drop (i + 1) ls)) ∙ ap (λ (bs : List ℕ). p .done ++ bs) (sym (lines-from ls i h)) ∙ p .rest
-
-    pub put-room : next + length (written (getD ls i (pos 0))) ≤ at + length (lines ls)
-    put-room =
-        let l = p .wrote .place in
-        let a = length-append (p .done) (written (getD ls i (pos 0))) in
-        let b = length-append (p .done ++ written (getD ls i (pos 0))) (lines (drop (i + 1) ls)) in
-        let e = ap length put-turn in
-        omega arith
-
-    pub put-more : {new : List ℕ} {r : ℕ} → Wrote after next (written (getD ls i (pos 0))) new r → Putting ls before at new r (i + 1)
-    put-more w = record { within = omega arith; done = p .done ++ written (getD ls i (pos 0)); wrote = wrote-after (p .wrote) w; rest = put-turn }
-
-  pub put-end : length ls ≤ i → Wrote before at (lines ls) after next
-  put-end h = wrote-recast (sym (append-nil (p .done)) ∙ ap (λ (bs : List ℕ). p .done ++ bs) (sym (lines-end ls i h)) ∙ p .rest) (p .wrote)
+      rw e (rw (lt-ltb n (2 ^ 64) f))

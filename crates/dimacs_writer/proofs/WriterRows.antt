@@ -1,5 +1,5 @@
 -- The writer goes through its rows in order, then writes. Assumes nothing.
-use Prim.Native.Nat.{ℕ, _+_, _≤_, _<_, _^_}
+use Prim.Native.Nat.{ℕ, _+_, _-_, _≤_, _<_, _^_}
 use native.Mathlib.Omega.{arith}
 use borrow.Author.Tests.{ltb-true, ltb-false}
 use lib.Dec.{ltb}
@@ -18,24 +18,25 @@ use Rattle.cnf.specs.Literals.{tooManyVariables, wrongList}
 use Rattle.cnf.specs.Clauses.{clauseCount}
 use Rattle.dimacs_writer.specs.declared.Needed.{Needed}
 use Rattle.dimacs_writer.specs.declared.Needed.the-variants.{Bytes, TooMany}
-use Rattle.dimacs.specs.Text.{decimal, lines, headerLine, textOf}
+use Rattle.text.specs.Decimal.{decimal}
+use Rattle.dimacs.specs.Text.{lines, headerLine, textOf}
 use Rattle.dimacs_writer.specs.Writer.{counted}
 use Rattle.dimacs.specs.Calls.{writerRows, writerAnswer, writerLeaves}
 use Rattle.answers.proofs.Settled.{short-over, short-by, long-enough, settled}
 use Rattle.dimacs_writer.proofs.Lines.{header-length}
 
 -- what a count that fits, and one that does not, say
-counted-bytes : (m : ℕ) {n : ℕ} → counted m ≡ Bytes n → (m ≡ n) × (m < 18446744073709551616)
+counted-bytes : (m : ℕ) {n : ℕ} → counted m ≡ Bytes n → (m ≡ n) × (m < 2 ^ 64)
 counted-bytes m {n} e = by (ltb m (2 ^ 64)) refl e
   where
-    by : (t : Bool) → ltb m (2 ^ 64) ≡ t → cond t (Bytes m) TooMany ≡ Bytes n → (m ≡ n) × (m < 18446744073709551616)
+    by : (t : Bool) → ltb m (2 ^ 64) ≡ t → cond t (Bytes m) TooMany ≡ Bytes n → (m ≡ n) × (m < 2 ^ 64)
     by true h e = (cc, ltb-true m (2 ^ 64) h)
     by false h e = let z : _≡_ {A = ℕ} 0 1 = cc in absurd (omega arith)
 
-counted-over : (m : ℕ) → counted m ≡ TooMany → 18446744073709551616 ≤ m
+counted-over : (m : ℕ) → counted m ≡ TooMany → 2 ^ 64 ≤ m
 counted-over m e = by (ltb m (2 ^ 64)) refl e
   where
-    by : (t : Bool) → ltb m (2 ^ 64) ≡ t → cond t (Bytes m) TooMany ≡ TooMany → 18446744073709551616 ≤ m
+    by : (t : Bool) → ltb m (2 ^ 64) ≡ t → cond t (Bytes m) TooMany ≡ TooMany → 2 ^ 64 ≤ m
     by true h e = let z : _≡_ {A = ℕ} 0 1 = cc in absurd (omega arith)
     by false h e = ltb-false m (2 ^ 64) h
 
@@ -69,7 +70,7 @@ pub record ListRight (v : ℕ) (ls : List ℤ) : Type 0 where
 pub record RoomRight (v : ℕ) (ls : List ℤ) (buf : List ℕ) : Type 0 where
   pub before : ListRight v ls
   pub right : length (textOf v ls) ≤ length buf
-  pub small : length (textOf v ls) < 18446744073709551616
+  pub small : length (textOf v ls) < 2 ^ 64
 
 pub too-many : (v : ℕ) (ls : List ℤ) (buf : List ℕ) → tooManyVariables v ≡ true → Writes v ls buf (refusal 17 0) buf
 too-many v ls buf h = writes v ls buf (turns (ap cause h)) refl
@@ -78,11 +79,11 @@ pub list-wrong : {v i : ℕ} (ls : List ℤ) (buf : List ℕ) → VariablesRight
 list-wrong {v} ls buf p h = writes v ls buf (passes (ap cause (p .right)) (turns h)) refl
 
 module _ {v : ℕ} {ls : List ℤ} (buf : List ℕ) (p : ListRight v ls) {r : Needed} (e : r ≡ counted (length (textOf v ls))) where
-  pub room-over : length buf < 18446744073709551616 → r ≡ TooMany → Writes v ls buf (refusal 6 18446744073709551615) buf
+  pub room-over : length buf < 2 ^ 64 → r ≡ TooMany → Writes v ls buf (refusal 6 (2 ^ 64 - 1)) buf
   room-over h o = writes v ls buf (passes (ap cause (p .before .right)) (passes (p .right) (turns (short-over (length buf) h (counted-over (length (textOf v ls)) (sym e ∙ o)))))) refl
 
   module _ {n : ℕ} (o : r ≡ Bytes n) where
-    needs : (length (textOf v ls) ≡ n) × (length (textOf v ls) < 18446744073709551616)
+    needs : (length (textOf v ls) ≡ n) × (length (textOf v ls) < 2 ^ 64)
     needs = counted-bytes (length (textOf v ls)) (sym e ∙ o)
 
     pub room-short : length buf < n → Writes v ls buf (refusal 6 n) buf
@@ -95,7 +96,7 @@ module _ {v : ℕ} {ls : List ℤ} {buf : List ℕ} (p : RoomRight v ls buf) {k 
   header : headerLine v k ≡ headerLine v (clauseCount ls)
   header = ap (headerLine v) e
 
-  pub header-fits : length (headerLine v k) + length (lines ls) < 18446744073709551616
+  pub header-fits : length (headerLine v k) + length (lines ls) < 2 ^ 64
   header-fits = let s = p .small in omega (arith, text-append v ls, ap length header)
 
   pub all-written : {b₁ new : List ℕ} {a r : ℕ} → Wrote buf 0 (headerLine v k) b₁ a → Wrote b₁ a (lines ls) new r → Writes v ls buf (answer r 0 0) new

@@ -1,65 +1,26 @@
 // The writer: the text of V and a list.
 ghost use mathlib.Core.Path.{_≡_};
-ghost use mathlib.Core.List.{[], _∷_, _++_};
-ghost use Prim.Native.Nat.{_+_, _<_};
+ghost use Prim.Native.Nat.{_+_, _<_, _^_};
 ghost use lib.ListN.{length, getD};
 ghost use lib.IntN.{pos};
 ghost use Rattle.answers.specs.Lent.{Wrote};
-ghost use Rattle.dimacs.specs.Text.{decimal, lines, preamble, headerLine};
+ghost use Rattle.dimacs.specs.Text.{lines, headerLine};
 ghost use Rattle.dimacs_writer.specs.Writer.{written, counted};
 ghost use Rattle.dimacs.specs.Calls.{writerAnswer, writerLeaves};
 ghost use Rattle.dimacs.specs.Answers.{writtenOutcome};
 use answers::Place;
+use dimacs::PREAMBLE;
 use dimacs::WriteRefusal;
 use dimacs::Written;
+use text::put_byte;
+use text::put_field;
+use text::put_word;
+use text::width;
 
 // The bytes that a text needs.
 pub enum Needed {
     Bytes(usize),
     TooMany,
-}
-
-// The digits of a number below 10^8.
-fn narrow_width(n: usize) -> usize
-    requires { ⌜ n < 100000000 ⌝ }
-    ensures { λ r. ⌜ r ≡ length (decimal n) ⌝ }
-{
-    if n < 10 {
-        return 1;
-    }
-    if n < 100 {
-        return 2;
-    }
-    if n < 1000 {
-        return 3;
-    }
-    if n < 10000 {
-        return 4;
-    }
-    if n < 100000 {
-        return 5;
-    }
-    if n < 1000000 {
-        return 6;
-    }
-    if n < 10000000 {
-        return 7;
-    }
-    8
-}
-
-// The digits of a number.
-fn width(n: usize) -> usize
-    ensures { λ r. ⌜ r ≡ length (decimal n) ⌝ }
-{
-    if n < 100000000 {
-        return narrow_width(n);
-    }
-    let m = n / 100000000;
-    if m < 100000000 {
-        return 8 + narrow_width(m);
-    }
-    16 + narrow_width(m / 100000000)
 }
 
 // The bytes of the lines, after so many others.
@@ -80,43 +41,10 @@ fn count_lines(list: &[i32], before: usize) -> Needed
     Needed::Bytes(n)
 }
 
-// Writes a byte at a place, if the place is inside; returns the next place.
-pub fn put_byte(text: &mut [u8], at: usize, b: u8) -> usize
-    requires { ⌜ at < 18446744073709551615 ⌝ }
-    ensures { λ r. ⌜ Wrote (now (text .entry)) at (b ∷ []) (now (text .exit)) r ⌝ }
-{
-    let next = at + 1;
-    if at >= text.len() {
-        return next;
-    }
-    text[at] = b;
-    next
-}
-
-fn put_decimal(text: &mut [u8], at: usize, n: usize) -> usize
-    requires { ⌜ at + length (decimal n) < 18446744073709551616 ⌝ }
-    ensures { λ r. ⌜ Wrote (now (text .entry)) at (decimal n) (now (text .exit)) r ⌝ }
-{
-    if n < 10 {
-        return put_byte(text, at, (48 + n) as u8);
-    }
-    let last = put_decimal(text, at, n / 10);
-    put_byte(text, last, (48 + n % 10) as u8)
-}
-
-// A number and the byte after it.
-pub fn put_field(text: &mut [u8], at: usize, n: usize, end: u8) -> usize
-    requires { ⌜ at + (length (decimal n) + 1) < 18446744073709551616 ⌝ }
-    ensures { λ r. ⌜ Wrote (now (text .entry)) at (decimal n ++ (end ∷ [])) (now (text .exit)) r ⌝ }
-{
-    let last = put_decimal(text, at, n);
-    put_byte(text, last, end)
-}
-
 // An element and the byte behind it: LF after a closing 0, a space after a literal.
 fn put_element(text: &mut [u8], at: usize, list: &[i32], i: usize) -> usize
     requires { ⌜ i < length (now list) ⌝ }
-    requires { ⌜ at + length (written (getD (now list) i (pos 0))) < 18446744073709551616 ⌝ }
+    requires { ⌜ at + length (written (getD (now list) i (pos 0))) < 2 ^ 64 ⌝ }
     ensures { λ r. ⌜ Wrote (now (text .entry)) at (written (getD (now (list .entry)) i (pos 0))) (now (text .exit)) r ⌝ }
 {
     let k = cnf::code_at(list, i);
@@ -131,7 +59,7 @@ fn put_element(text: &mut [u8], at: usize, list: &[i32], i: usize) -> usize
 }
 
 pub fn put_lines(text: &mut [u8], at: usize, list: &[i32]) -> usize
-    requires { ⌜ at + length (lines (now list)) < 18446744073709551616 ⌝ }
+    requires { ⌜ at + length (lines (now list)) < 2 ^ 64 ⌝ }
     ensures { λ r. ⌜ Wrote (now (text .entry)) at (lines (now (list .entry))) (now (text .exit)) r ⌝ }
 {
     let mut p = at;
@@ -143,23 +71,11 @@ pub fn put_lines(text: &mut [u8], at: usize, list: &[i32]) -> usize
     p
 }
 
-// `p cnf `, at the text's start.
-fn put_preamble(text: &mut [u8]) -> usize
-    ensures { λ r. ⌜ Wrote (now (text .entry)) 0 preamble (now (text .exit)) r ⌝ }
-{
-    let p = put_byte(text, 0, b'p');
-    let s = put_byte(text, p, b' ');
-    let c = put_byte(text, s, b'c');
-    let n = put_byte(text, c, b'n');
-    let f = put_byte(text, n, b'f');
-    put_byte(text, f, b' ')
-}
-
 pub fn put_header(text: &mut [u8], variables: usize, clauses: usize) -> usize
-    requires { ⌜ length (headerLine variables clauses) < 18446744073709551616 ⌝ }
+    requires { ⌜ length (headerLine variables clauses) < 2 ^ 64 ⌝ }
     ensures { λ r. ⌜ Wrote (now (text .entry)) 0 (headerLine variables clauses) (now (text .exit)) r ⌝ }
 {
-    let v = put_preamble(text);
+    let v = put_word(text, 0, &PREAMBLE);
     let c = put_field(text, v, variables, b' ');
     put_field(text, c, clauses, 10)
 }

@@ -12,9 +12,9 @@ use Rattle.answers.proofs.Lent.{wrote-nothing, wrote-after, wrote-recast, wrote
 use Rattle.rules.specs.declared.Direction.{Direction}
 use Rattle.rules.specs.Directions.{opposite}
 use Rattle.rules.specs.Record.{Puzzle, size}
-use Rattle.rules.specs.Board.{neighbour, line, nearest}
+use Rattle.rules.specs.Board.{neighbour, line}
 use Rattle.rules.specs.Walk.{go}
-use Rattle.rules.proofs.Lines.{line-first, line-inside, line-go}
+use Rattle.rules.proofs.Lines.{line-inside, line-go}
 use Rattle.cnf.specs.Literals.{mostVariables}
 use Rattle.encoder.specs.Lists.{joined}
 use Rattle.encoder.proofs.Lists.{all-right}
@@ -42,9 +42,9 @@ pub record Lining (p : Puzzle) (d : Direction) (x : ℕ) (black : ℕ → ℕ) (
   pub wrote : Wrote buf at done new i
   pub writable : Writable at (countStepEach first n (map black (line p d x)))
 
-pub line-start : {at first n y : ℕ} {buf : List ℤ} (p : Puzzle) (d : Direction) (x : ℕ) (black : ℕ → ℕ) → y ≡ nearest (line p d x) x
+pub line-start : {at first n y : ℕ} {buf : List ℤ} (p : Puzzle) (d : Direction) (x : ℕ) (black : ℕ → ℕ) → y ≡ getD (line p d x) 0 x
     → Writable at (countStepEach first n (map black (line p d x))) → Lining p d x black first n buf at buf y first at 0
-line-start {at} {buf = buf} p d x black e w = record { here = e ∙ line-first p d x; done = []; whole = refl; wrote = wrote-nothing buf at; writable = w }
+line-start {at} {buf = buf} p d x black e w = record { here = e; done = []; whole = refl; wrote = wrote-nothing buf at; writable = w }
 
 module _ {p : Puzzle} {d : Direction} {x : ℕ} {black : ℕ → ℕ} {first n : ℕ} {buf : List ℤ} {at : ℕ} {new : List ℤ} {y row i j : ℕ} (w : Lining p d x black first n buf at new y row i j) where
   pub line-end : length (line p d x) ≤ j → Wrote buf at (countStepEach first n (map black (line p d x))) new i

@@ -1,19 +1,24 @@
 -- Between the rows of the judge's table. Assumes nothing.
 use Prim.Native.Nat.{ℕ}
-use borrow.Author.Tests.{eqb-true, not-false}
+use lib.ListN.{length}
+use borrow.Author.Tests.{eq-eqb, ne-eqb}
 use mathlib.Core.Path.{_≡_, sym, _∙_, ap}
+use mathlib.Core.Bool.{not}
 use mathlib.Core.Option.{Option, none, some}
 use mathlib.Core.List.{List}
 use Rattle.answers.specs.First.{firstWhere}
-use Rattle.answers.proofs.Rows.{no-cause}
-use Rattle.rules.specs.declared.Grid.{Grid}
-use Rattle.rules.specs.Record.{RecordFits, DrawingFits}
-use Rattle.rules.specs.Board.{Board, gridBoard}
-use Rattle.rules.specs.Judge.{whiteAt, offLoopAt, fromFirst, wrongDrawing, notOneLoop}
+use Rattle.answers.specs.Outcome.{refusal, cause, unless, firstRefusal}
+use Rattle.answers.proofs.Rows.{left-all, left-turn}
+use Rattle.rules.specs.Board.{Board}
+use Rattle.rules.specs.Judge.{whiteAt, offLoopAt, fromFirst, notOneLoop, ruleRows, judgeRows, saysYes}
 
--- a drawing that passed row 7 is of the grid's size
-pub right-drawing : {g : Grid} {s : List ℕ} (ds : List ℕ) → RecordFits g s → none ≡ wrongDrawing (gridBoard g s) ds → DrawingFits g s ds
-right-drawing ds h e = record { recordFits = h; drawn = eqb-true _ _ (not-false _ (no-cause _ (sym e))) }
+-- row 7: the drawing has not N bytes, or it is left to the rules
+module _ (b : Board) (ds : List ℕ) where
+  pub wrong-length : (length ds ≡ b .size → ⊥) → refusal 7 0 ≡ firstRefusal (judgeRows b ds) saysYes
+  wrong-length n = left-turn (left-all (judgeRows b ds) saysYes) (ap cause (sym (ap not (ne-eqb _ _ n))))
+
+  pub right-length : length ds ≡ b .size → firstRefusal (ruleRows b ds) saysYes ≡ firstRefusal (judgeRows b ds) saysYes
+  right-length e = ap (λ t. unless 7 (cause (not t)) (firstRefusal (ruleRows b ds) saysYes)) (sym (eq-eqb _ _ e))
 
 -- row 15: there is no white cell, or the walk begins at the first
 pub no-white : (b : Board) (ds : List ℕ) → none ≡ firstWhere (whiteAt b ds) (b .size) → some 0 ≡ notOneLoop b ds

@@ -4,18 +4,13 @@ use lib.Dec.{eqb}
 use lib.ListN.{getD, set}
 use mathlib.Core.Bool.{Bool, _&&_, cond}
 use mathlib.Core.List.{List, [], _∷_}
-use Rattle.rules.specs.declared.Parsed.{Parsed}
-use Rattle.rules.specs.declared.Parsed.the-variants.{Accepted, Refused}
-use Rattle.rules.specs.declared.JudgeRefusal.the-variants.{Record}
-use Rattle.rules.specs.declared.Verdict.{Verdict}
-use Rattle.rules.specs.declared.Verdict.the-variants.{Yes, No}
 use Rattle.rules.specs.Board.{Board}
 use Rattle.rules.specs.Judge.{whiteAt}
 
 -- 1 at each of the cells
-unfoldable pub marked : List ℕ → List ℕ → List ℕ
-marked [] ms = ms
-marked (x ∷ l) ms = marked l (set ms x 1)
+unfoldable pub onesAt : List ℕ → List ℕ → List ℕ
+onesAt [] ms = ms
+onesAt (x ∷ l) ms = onesAt l (set ms x 1)
 
 -- the steps left after one that leads to y: none if that is s
 abbrev pub leftAfter : ℕ → ℕ → ℕ → ℕ
@@ -24,8 +19,3 @@ leftAfter y s left = cond (eqb y s) 0 (left - 1)
 -- a white cell without a mark, where the cells of the walk are marked
 abbrev pub unseenAt : Board → List ℕ → List ℕ → ℕ → Bool
 unseenAt b ds seen x = eqb (getD seen x 0) 0 && whiteAt b ds x
-
--- a refusal of the record reader is passed up unchanged (an accepted record has none to pass up)
-abbrev pub passedUp : Parsed → Verdict
-passedUp (Accepted g) = Yes
-passedUp (Refused r) = No (Record r)

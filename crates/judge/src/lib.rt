@@ -3,13 +3,13 @@ ghost use mathlib.Core.Path.{_≡_};
 ghost use Prim.Native.Nat.{_<_, _≤_};
 ghost use lib.ListN.{length};
 ghost use Rattle.answers.specs.First.{firstWhere, placed};
-ghost use Rattle.answers.specs.Outcome.{cause, firstRefusal};
+ghost use Rattle.answers.specs.Outcome.{firstRefusal};
 ghost use Rattle.rules.specs.Record.{size, OnBoard, RecordFits, DrawingFits};
 ghost use Rattle.rules.specs.Board.{neighbour, gridBoard};
 ghost use Rattle.rules.specs.Drawing.{linkAt};
 ghost use Rattle.rules.specs.Walk.{loopCells};
-ghost use Rattle.rules.specs.Judge.{wrongDrawing, wrongByte, touching, clueNotMet, linkUnmatched, notTwoLinks, notOneLoop, judgeRows, judgeAnswer, saysYes, verdictOutcome};
-ghost use Rattle.judge.specs.WalkMarks.{marked, leftAfter, unseenAt, passedUp};
+ghost use Rattle.rules.specs.Judge.{notOneLoop, ruleRows, judgeRows, judgeAnswer, saysYes, ruleVerdictOutcome, verdictOutcome};
+ghost use Rattle.judge.specs.WalkMarks.{onesAt, leftAfter, unseenAt};
 use answers::Place;
 use judge_cells::Test;
 use judge_cells::cells::first;
@@ -20,6 +20,8 @@ use rules::Grid;
 use rules::JudgeRefusal;
 use rules::MOST_CELLS;
 use rules::Parsed;
+use rules::RuleRefusal;
+use rules::RuleVerdict;
 use rules::Verdict;
 use rules::board::go;
 use rules::board::opposite;
@@ -41,7 +43,7 @@ fn trace(g: Grid, drawing: &[u8], s: usize, seen: &mut [u8])
     requires { ⌜ OnBoard g s ⌝ }
     requires { ⌜ length (now drawing) ≡ size g ⌝ }
     requires { ⌜ size g ≤ length (now seen) ⌝ }
-    ensures { λ r. ⌜ now (seen .exit) ≡ marked (loopCells (size g) (neighbour g) (linkAt (now (drawing .entry))) s) (now (seen .entry)) ⌝ }
+    ensures { λ r. ⌜ now (seen .exit) ≡ onesAt (loopCells (size g) (neighbour g) (linkAt (now (drawing .entry))) s) (now (seen .entry)) ⌝ }
 {
     let mut x = s;
     let mut d = Direction::East;
@@ -88,54 +90,6 @@ fn first_unseen(g: Grid, record: &[u8], drawing: &[u8], seen: &[u8]) -> Place
     Place::Nowhere
 }
 
-// 7: drawing not N bytes.
-fn wrong_length(g: Grid, record: &[u8], drawing: &[u8]) -> bool
-    requires { ⌜ RecordFits g (now «record») ⌝ }
-    ensures { λ r. ⌜ cause r ≡ wrongDrawing (gridBoard g (now («record» .entry))) (now (drawing .entry)) ⌝ }
-{
-    drawing.len() != g.size()
-}
-
-// 10: a byte that its cell doesn't allow.
-fn wrong_byte(g: Grid, record: &[u8], drawing: &[u8]) -> Place
-    requires { ⌜ DrawingFits g (now «record») (now drawing) ⌝ }
-    ensures { λ r. ⌜ placed r ≡ wrongByte (gridBoard g (now («record» .entry))) (now (drawing .entry)) ⌝ }
-{
-    first(Test::DrawingByte, g, record, drawing)
-}
-
-// 11: black beside black to its east or south.
-fn touching(g: Grid, record: &[u8], drawing: &[u8]) -> Place
-    requires { ⌜ DrawingFits g (now «record») (now drawing) ⌝ }
-    ensures { λ r. ⌜ placed r ≡ touching (gridBoard g (now («record» .entry))) (now (drawing .entry)) ⌝ }
-{
-    first(Test::Touching, g, record, drawing)
-}
-
-// 12: a clue that is not met.
-fn clue_not_met(g: Grid, record: &[u8], drawing: &[u8]) -> Place
-    requires { ⌜ DrawingFits g (now «record») (now drawing) ⌝ }
-    ensures { λ r. ⌜ placed r ≡ clueNotMet (gridBoard g (now («record» .entry))) (now (drawing .entry)) ⌝ }
-{
-    first(Test::ClueNotMet, g, record, drawing)
-}
-
-// 13: a link that is unmatched or leads off the board.
-fn link_unmatched(g: Grid, record: &[u8], drawing: &[u8]) -> Place
-    requires { ⌜ DrawingFits g (now «record») (now drawing) ⌝ }
-    ensures { λ r. ⌜ placed r ≡ linkUnmatched (gridBoard g (now («record» .entry))) (now (drawing .entry)) ⌝ }
-{
-    first(Test::LinkUnmatched, g, record, drawing)
-}
-
-// 14: a white cell without exactly two links.
-fn not_two_links(g: Grid, record: &[u8], drawing: &[u8]) -> Place
-    requires { ⌜ DrawingFits g (now «record») (now drawing) ⌝ }
-    ensures { λ r. ⌜ placed r ≡ notTwoLinks (gridBoard g (now («record» .entry))) (now (drawing .entry)) ⌝ }
-{
-    first(Test::NotTwoLinks, g, record, drawing)
-}
-
 // 15: no white cell, or the first white cell not on the first white cell's loop.
 fn not_one_loop(g: Grid, record: &[u8], drawing: &[u8]) -> Place
     requires { ⌜ DrawingFits g (now «record») (now drawing) ⌝ }
@@ -150,50 +104,51 @@ fn not_one_loop(g: Grid, record: &[u8], drawing: &[u8]) -> Place
     first_unseen(g, record, drawing, &seen)
 }
 
-// 7 and 10 to 15, in order.
+// 10 to 15, in order.
+pub fn judge_rules(g: Grid, record: &[u8], drawing: &[u8]) -> RuleVerdict
+    requires { ⌜ DrawingFits g (now «record») (now drawing) ⌝ }
+    ensures { λ r. ⌜ ruleVerdictOutcome r ≡ firstRefusal (ruleRows (gridBoard g (now («record» .entry))) (now (drawing .entry))) saysYes ⌝ }
+{
+    let p = first(Test::DrawingByte, g, record, drawing);
+    if let Place::At(x) = p {
+        return RuleVerdict::Broken(RuleRefusal::DrawingByte(x));
+    }
+    let p = first(Test::Touching, g, record, drawing);
+    if let Place::At(x) = p {
+        return RuleVerdict::Broken(RuleRefusal::Touching(x));
+    }
+    let p = first(Test::ClueNotMet, g, record, drawing);
+    if let Place::At(x) = p {
+        return RuleVerdict::Broken(RuleRefusal::ClueNotMet(x));
+    }
+    let p = first(Test::LinkUnmatched, g, record, drawing);
+    if let Place::At(x) = p {
+        return RuleVerdict::Broken(RuleRefusal::LinkUnmatched(x));
+    }
+    let p = first(Test::NotTwoLinks, g, record, drawing);
+    if let Place::At(x) = p {
+        return RuleVerdict::Broken(RuleRefusal::NotTwoLinks(x));
+    }
+    let p = not_one_loop(g, record, drawing);
+    if let Place::At(x) = p {
+        return RuleVerdict::Broken(RuleRefusal::NotOneLoop(x));
+    }
+    RuleVerdict::Followed
+}
+
+// 7, then the rules.
 pub fn judge_grid(g: Grid, record: &[u8], drawing: &[u8]) -> Verdict
     requires { ⌜ RecordFits g (now «record») ⌝ }
     ensures { λ r. ⌜ verdictOutcome r ≡ firstRefusal (judgeRows (gridBoard g (now («record» .entry))) (now (drawing .entry))) saysYes ⌝ }
 {
-    let wrong = wrong_length(g, record, drawing);
-    if wrong {
+    if drawing.len() != g.size() {
         return Verdict::No(JudgeRefusal::DrawingLength);
     }
-    let p = wrong_byte(g, record, drawing);
-    if let Place::At(x) = p {
-        return Verdict::No(JudgeRefusal::DrawingByte(x));
-    }
-    let p = touching(g, record, drawing);
-    if let Place::At(x) = p {
-        return Verdict::No(JudgeRefusal::Touching(x));
-    }
-    let p = clue_not_met(g, record, drawing);
-    if let Place::At(x) = p {
-        return Verdict::No(JudgeRefusal::ClueNotMet(x));
-    }
-    let p = link_unmatched(g, record, drawing);
-    if let Place::At(x) = p {
-        return Verdict::No(JudgeRefusal::LinkUnmatched(x));
-    }
-    let p = not_two_links(g, record, drawing);
-    if let Place::At(x) = p {
-        return Verdict::No(JudgeRefusal::NotTwoLinks(x));
-    }
-    let p = not_one_loop(g, record, drawing);
-    if let Place::At(x) = p {
-        return Verdict::No(JudgeRefusal::NotOneLoop(x));
-    }
-    Verdict::Yes
-}
-
-// A refusal of the record reader, passed up unchanged.
-fn passed_up(p: Parsed) -> Verdict
-    ensures { λ r. ⌜ r ≡ passedUp p ⌝ }
-{
-    let Parsed::Refused(r) = p else {
+    let verdict = judge_rules(g, record, drawing);
+    let RuleVerdict::Broken(f) = verdict else {
         return Verdict::Yes;
     };
-    Verdict::No(JudgeRefusal::Record(r))
+    Verdict::No(JudgeRefusal::Rule(f))
 }
 
 // The judge says yes, or names the first cause against it.
@@ -202,7 +157,7 @@ pub fn judge(record: &[u8], drawing: &[u8]) -> Verdict
 {
     let p = read(record);
     let Parsed::Accepted(g) = p else {
-        return passed_up(p);
+        return Verdict::No(JudgeRefusal::Record(p.refusal()));
     };
     judge_grid(g, record, drawing)
 }

@@ -17,10 +17,12 @@ use Rattle.rules.specs.declared.Cell.the-variants.{Open, Clue as Clued}
 use Rattle.rules.specs.declared.Grid.{Grid}
 use Rattle.rules.specs.Directions.{bit}
 use Rattle.rules.specs.Record.{Puzzle, size, OnBoard, RecordFits, DrawingFits, puzzle}
-use Rattle.rules.specs.Board.{openCell, openAt, line, clueOf, cluesFrom, gridBoard}
+use Rattle.rules.specs.Board.{openCell, openAt, line, clueOf, cluesFrom, board, gridBoard}
 use Rattle.rules.specs.Drawing.{weight, blackAt}
 use Rattle.rules.specs.Judge.{badByte, foundClue, unmetClue}
-use Rattle.judge_cells.specs.Tests.{unmetCell, unmetAt}
+use Rattle.judge_cells.specs.declared.Test.{Test}
+use Rattle.judge_cells.specs.declared.Test.the-variants.{DrawingByte, Touching, ClueNotMet, LinkUnmatched, NotTwoLinks, White}
+use Rattle.judge_cells.specs.Tests.{unmetCell, unmetAt, testAt, firstOf}
 use Rattle.rules.proofs.Boards.{Filled}
 use Rattle.rules.proofs.Records.{held-filled}
 
@@ -75,8 +77,20 @@ module _ (p : Puzzle) (ds : List ℕ) where
       by Open ih = ih
       by (Clued d n) ih = turned (eqb (howMany (blackAt ds) (line p d a)) n) _ ∙ ap (foundClue (eqb (howMany (blackAt ds) (line p d a)) n) a) ih
 
-  pub unmet-first : Filled p → firstWhere (unmetAt p ds) (size (p .grid)) ≡ unmetClue (blackAt ds) (cluesFrom p 0 (p .cells))
+  unmet-first : Filled p → firstWhere (unmetAt p ds) (size (p .grid)) ≡ unmetClue (blackAt ds) (cluesFrom p 0 (p .cells))
   unmet-first f = ap (firstWhere (unmetAt p ds)) (sym f) ∙ unmet-from (p .cells) 0 (λ k h. let e : 0 + k ≡ k = omega arith in rw e)
+
+  -- what is sought cell by cell is the first of it
+  first-of : Filled p → (t : Test) → firstWhere (testAt t p ds) (size (p .grid)) ≡ firstOf t (board p) ds
+  first-of f DrawingByte = refl
+  first-of f Touching = refl
+  first-of f ClueNotMet = unmet-first f
+  first-of f LinkUnmatched = refl
+  first-of f NotTwoLinks = refl
+  first-of f White = refl
+
+pub sought : {g : Grid} {s ds : List ℕ} {o : Option ℕ} (t : Test) → DrawingFits g s ds → o ≡ firstWhere (testAt t (puzzle g s) ds) (size g) → o ≡ firstOf t (gridBoard g s) ds
+sought {g = g} {s = s} {ds = ds} t d e = e ∙ first-of (puzzle g s) ds (held-filled (d .recordFits)) t
 
 pub weight-positive : (d : Direction) → 0 < weight d
 weight-positive north = omega arith

@@ -3,14 +3,16 @@ use Prim.Native.Nat.{ℕ}
 use lib.Dec.{eqb}
 use lib.ListN.{getD}
 use mathlib.Core.Bool.{Bool, false, not}
+use mathlib.Core.Option.{Option}
 use mathlib.Core.List.{List}
+use Rattle.answers.specs.First.{firstWhere}
 use Rattle.answers.specs.Lists.{howMany}
 use Rattle.rules.specs.declared.Cell.{Cell}
 use Rattle.rules.specs.declared.Cell.the-variants.{Open, Clue}
 use Rattle.rules.specs.Record.{Puzzle}
-use Rattle.rules.specs.Board.{line, board}
+use Rattle.rules.specs.Board.{Board, line, board}
 use Rattle.rules.specs.Drawing.{blackAt}
-use Rattle.rules.specs.Judge.{badByteAt, touchesAt, unmatchedLinkAt, whiteAt, notTwoAt}
+use Rattle.rules.specs.Judge.{badByteAt, touchesAt, unmatchedLinkAt, whiteAt, notTwoAt, wrongByte, touching, clueNotMet, linkUnmatched, notTwoLinks}
 use Rattle.judge_cells.specs.declared.Test.{Test}
 use Rattle.judge_cells.specs.declared.Test.the-variants.{DrawingByte, Touching, ClueNotMet, LinkUnmatched, NotTwoLinks, White}
 
@@ -30,3 +32,12 @@ testAt ClueNotMet p ds = unmetAt p ds
 testAt LinkUnmatched p ds = unmatchedLinkAt (board p) ds
 testAt NotTwoLinks p ds = notTwoAt (board p) ds
 testAt White p ds = whiteAt (board p) ds
+
+-- the first cell at which it is found: the causes of rows 10 to 14, and the first white cell
+abbrev pub firstOf : Test → Board → List ℕ → Option ℕ
+firstOf DrawingByte b ds = wrongByte b ds
+firstOf Touching b ds = touching b ds
+firstOf ClueNotMet b ds = clueNotMet b ds
+firstOf LinkUnmatched b ds = linkUnmatched b ds
+firstOf NotTwoLinks b ds = notTwoLinks b ds
+firstOf White b ds = firstWhere (whiteAt b ds) (b .size)

@@ -1,14 +1,14 @@
 // The tests of a cell, one for each cause that is sought cell by cell.
 ghost use mathlib.Core.Path.{_≡_};
 ghost use Prim.Native.Nat.{_≤_, _<_};
-ghost use lib.ListN.{length};
-ghost use Rattle.answers.specs.First.{firstWhere, placed};
+ghost use lib.ListN.{length, getD};
+ghost use Rattle.answers.specs.First.{placed};
 ghost use Rattle.answers.specs.Lists.{howMany};
 ghost use Rattle.rules.specs.Record.{size, puzzle, OnBoard, RecordFits, DrawingFits};
-ghost use Rattle.rules.specs.Board.{neighbour, line, nearest, gridBoard};
+ghost use Rattle.rules.specs.Board.{neighbour, line, gridBoard};
 ghost use Rattle.rules.specs.Drawing.{blacksNearest, blackAt};
 ghost use Rattle.rules.specs.Judge.{badByte, there, badByteAt, touchesAt, unmatchedLink, unmatchedLinkAt, whiteAt, notTwoAt};
-ghost use Rattle.judge_cells.specs.Tests.{unmetAt, testAt};
+ghost use Rattle.judge_cells.specs.Tests.{unmetAt, testAt, firstOf};
 use super::Test;
 use super::drawing::black_bit;
 use super::drawing::degree;
@@ -96,7 +96,7 @@ fn blacks_nearest(
     j: usize,
 ) -> usize
     requires { ⌜ DrawingFits g (now «record») (now drawing) ⌝ }
-    requires { ⌜ end .cell ≡ nearest (line (puzzle g (now «record»)) d x) x ⌝ }
+    requires { ⌜ end .cell ≡ getD (line (puzzle g (now «record»)) d x) 0 x ⌝ }
     requires { ⌜ j ≤ length (line (puzzle g (now «record»)) d x) ⌝ }
     ensures { λ r. ⌜ r ≡ blacksNearest (blackAt (now (drawing .entry))) (line (puzzle g (now («record» .entry))) d x) j ⌝ }
 {
@@ -220,7 +220,7 @@ fn holds(t: Test, g: Grid, record: &[u8], drawing: &[u8], x: usize) -> bool
 // The first cell at which the test holds.
 pub fn first(t: Test, g: Grid, record: &[u8], drawing: &[u8]) -> Place
     requires { ⌜ DrawingFits g (now «record») (now drawing) ⌝ }
-    ensures { λ r. ⌜ placed r ≡ firstWhere (testAt t (puzzle g (now («record» .entry))) (now (drawing .entry))) (size g) ⌝ }
+    ensures { λ r. ⌜ placed r ≡ firstOf t (gridBoard g (now («record» .entry))) (now (drawing .entry)) ⌝ }
 {
     let n = g.size();
     let mut x = 0;

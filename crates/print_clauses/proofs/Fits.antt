@@ -12,7 +12,7 @@ use Rattle.rules.proofs.Records.{accepted-laws}
 use Rattle.cnf.specs.Literals.{closes}
 use Rattle.cnf.specs.Clauses.{clauseCount}
 use Rattle.dimacs.specs.Text.{signed, behind, lines, headerLine, textOf}
-use Rattle.dimacs_writer.proofs.Decimals.{digits-few}
+use Rattle.text.proofs.Decimals.{digits-few}
 use Rattle.dimacs_writer.proofs.Lines.{header-length}
 use Rattle.encoder.specs.Variables.{variableCount}
 use Rattle.encoder.specs.Clauses.{clauseList}

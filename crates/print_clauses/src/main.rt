@@ -1,6 +1,6 @@
 // Program 1: reads a record on standard input and prints its grid's clauses as DIMACS text, or one line such as `refused 3`.
 ghost use mathlib.Core.List.{_++_};
-ghost use Prim.Native.Nat.{_+_, _<_};
+ghost use Prim.Native.Nat.{_+_, _<_, _^_};
 ghost use lib.ListN.{length};
 ghost use Rattle.answers.specs.Lent.{Wrote};
 ghost use Rattle.dimacs.specs.Text.{lines, headerLine};
@@ -9,17 +9,13 @@ use dimacs_writer::put_header;
 use dimacs_writer::put_lines;
 use encoder_call::Encoded;
 use encoder_call::encode;
+use program_text::MOST_ELEMENTS;
+use program_text::MOST_VARIABLES;
 use program_text::put_refused;
-
-// The list elements that the program holds.
-const MOST_ELEMENTS: usize = 8192;
-
-// The variables that it holds.
-const MOST_VARIABLES: usize = 4096;
 
 // The header, then one clause a line.
 fn put_text(text: &mut [u8], variables: usize, clauses: usize, list: &[i32]) -> usize
-    requires { ⌜ length (headerLine variables clauses) + length (lines (now list)) < 18446744073709551616 ⌝ }
+    requires { ⌜ length (headerLine variables clauses) + length (lines (now list)) < 2 ^ 64 ⌝ }
     ensures { λ r. ⌜ Wrote (now (text .entry)) 0 (headerLine variables clauses ++ lines (now (list .entry))) (now (text .exit)) r ⌝ }
 {
     let first = put_header(text, variables, clauses);

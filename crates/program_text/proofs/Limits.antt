@@ -17,10 +17,14 @@ use Rattle.answers.specs.Lists.{All}
 use Rattle.answers.proofs.Lent.{wrote-length}
 use Rattle.answers.proofs.Bools.{or-neither}
 use Rattle.answers.proofs.Rows.{Clear, refusals-append, answered-clear, clear-answered, no-cause}
-use Rattle.rules.specs.Record.{recordRows, IsAccepted}
+use Rattle.rules.specs.declared.RecordRefusal.{RecordRefusal}
+use Rattle.rules.specs.declared.Parsed.{Parsed}
+use Rattle.rules.specs.declared.Parsed.the-variants.{Refused}
+use Rattle.rules.specs.Record.{recordRows, recordAnswer, IsAccepted, recordRefusalOutcome, parsedOutcome}
+use Rattle.rules.proofs.Records.{refusal-number, passes-up}
 use Rattle.rules.specs.Board.{boardOf}
-use Rattle.dimacs.specs.Text.{decimal, lineFeed}
-use Rattle.dimacs_writer.proofs.Decimals.{digits-few}
+use Rattle.text.specs.Decimal.{decimal, lineFeed}
+use Rattle.text.proofs.Decimals.{digits-few}
 use Rattle.encoder.specs.Variables.{variableCount}
 use Rattle.encoder.specs.Clauses.{clauseList}
 use Rattle.encoder.proofs.Lists.{all-left, all-right}
@@ -72,6 +76,12 @@ printed-refused {m = m} text e h = ap refusedLine e ∙ sym (ap (λ b. cond b te
 
 pub printed-text : {m : ℕ} (text : List ℕ) → m ≡ 0 → text ≡ printed m text
 printed-text {m} text e = sym (ap (λ b. cond b text (refusedLine m)) (eq-eqb m 0 e))
+
+-- a record that is turned down
+pub read-refused : (s text : List ℕ) {p : Parsed} {r : RecordRefusal} {t : Outcome} → p ≡ Refused r → parsedOutcome p ≡ recordAnswer s → t ≡ recordRefusalOutcome r → refusedLine (t .number) ≡ printed (programNumber s) text
+read-refused s text {r = r} q e h =
+    let n = ap (λ (t : Outcome). t .number) (passes-up s (row 6 (cause (needsMore (boardOf s))) ∷ []) (answer 0 0 0) q e) in
+    printed-refused text (ap (λ (t : Outcome). t .number) h ∙ n) (λ z. refusal-number r (n ∙ z))
 
 -- no row has a number over 6, so the line of a refusal is short
 rows-most : (rs : List Row) (t : Outcome) → All (λ (r : Row). r .number ≤ 6) rs → t .number ≤ 6 → firstRefusal rs t .number ≤ 6

@@ -3,7 +3,9 @@ use Prim.Native.Nat.{ℕ}
 use mathlib.Core.Path.{_≡_, refl}
 use mathlib.Core.List.{List, [], _∷_}
 use Rattle.answers.specs.First.{firstFrom}
-use Rattle.dimacs.specs.Text.{decimalIn, lines}
+use Rattle.text.specs.Decimal.{decimalIn}
+use Rattle.dimacs.specs.Text.{lines}
+use Rattle.dimacs.specs.Sample.{oneCellText}
 use Rattle.encoder.specs.Variables.{variables, same, place}
 use Rattle.encoder.specs.Clauses.{clauses, clauseList}
 use Rattle.search.specs.Trail.{variableValue, valuesFrom}
@@ -16,21 +18,6 @@ use Rattle.program_text.specs.Programs.{printedClauses, printedSolution}
 abbrev oneOpen : List ℕ
 oneOpen = 7 ∷ 0 ∷ 1 ∷ 0 ∷ 1 ∷ 1 ∷ 0 ∷ []
 
--- line by line: `p cnf 3 9`, ..
-abbrev oneText : List ℕ
-oneText =
-    112 ∷ 32 ∷ 99 ∷ 110 ∷ 102 ∷ 32 ∷ 51 ∷ 32 ∷ 57 ∷ 10 ∷
-    49 ∷ 32 ∷ 48 ∷ 10 ∷
-    49 ∷ 32 ∷ 48 ∷ 10 ∷
-    50 ∷ 32 ∷ 48 ∷ 10 ∷
-    45 ∷ 50 ∷ 32 ∷ 45 ∷ 49 ∷ 32 ∷ 48 ∷ 10 ∷
-    45 ∷ 50 ∷ 32 ∷ 48 ∷ 10 ∷
-    49 ∷ 32 ∷ 51 ∷ 32 ∷ 48 ∷ 10 ∷
-    45 ∷ 49 ∷ 32 ∷ 45 ∷ 51 ∷ 32 ∷ 48 ∷ 10 ∷
-    45 ∷ 50 ∷ 32 ∷ 51 ∷ 32 ∷ 48 ∷ 10 ∷
-    50 ∷ 32 ∷ 45 ∷ 51 ∷ 32 ∷ 48 ∷ 10 ∷
-    []
-
 -- `0a 00 01 00 02 02 00 00 00 00`: 2×2 open
 abbrev fourOpen : List ℕ
 fourOpen = 10 ∷ 0 ∷ 1 ∷ 0 ∷ 2 ∷ 2 ∷ 0 ∷ 0 ∷ 0 ∷ 0 ∷ []
@@ -42,6 +29,6 @@ fourText =
     48 ∷ 51 ∷ 32 ∷ 48 ∷ 57 ∷ 10 ∷
     []
 
-pub samples : (printedClauses oneOpen ≡ oneText) × (printedSolution fourOpen ≡ fourText)
+pub samples : (printedClauses oneOpen ≡ oneCellText) × (printedSolution fourOpen ≡ fourText)
 unfolding firstFrom decimalIn lines variables same place clauses clauseList variableValue valuesFrom everyLiteral firstClause forcedAt failedClause forcedPlace lowestUnassigned undo step run drawingFrom
 samples = (refl, refl)

@@ -3,7 +3,7 @@ use Prim.Native.Nat.{ℕ, suc, _+_, _/_, _%_}
 use lib.Dec.{eqb, ltb}
 use mathlib.Core.Bool.{cond}
 use mathlib.Core.List.{List, [], _∷_, _++_}
-use Rattle.dimacs.specs.Text.{lineFeed, space, decimal}
+use Rattle.text.specs.Decimal.{lineFeed, space, decimal}
 
 -- `refused `
 abbrev pub refusedWord : List ℕ

@@ -1,26 +1,20 @@
 // The lines that the programs print beside DIMACS text, put into a lent buffer.
 ghost use mathlib.Core.Path.{_≡_};
-ghost use Prim.Native.Nat.{_+_, _≤_, _<_};
+ghost use Prim.Native.Nat.{_+_, _≤_, _<_, _^_};
 ghost use lib.ListN.{length};
 ghost use Rattle.answers.specs.Lent.{Wrote};
 ghost use Rattle.rules.specs.Record.{mostCells};
 ghost use Rattle.program_text.specs.Lines.{refusedLine, hexDigit, hexEntry, behindCell, drawingText};
-use dimacs_writer::put_byte;
-use dimacs_writer::put_field;
+use text::put_byte;
+use text::put_field;
+use text::put_word;
 
-// Writes the bytes of a word from a place on; returns the next place.
-pub fn put_word(text: &mut [u8], at: usize, word: &[u8]) -> usize
-    requires { ⌜ at + length (now word) < 18446744073709551616 ⌝ }
-    ensures { λ r. ⌜ Wrote (now (text .entry)) at (now (word .entry)) (now (text .exit)) r ⌝ }
-{
-    let mut p = at;
-    let mut i: usize = 0;
-    while i < word.len() {
-        p = put_byte(text, p, word[i]);
-        i += 1;
-    }
-    p
-}
+// The programs' limits: the list elements and the variables that they hold, and the most steps that they search.
+pub const MOST_ELEMENTS: usize = 8192;
+
+pub const MOST_VARIABLES: usize = 4096;
+
+pub const BUDGET: u64 = 1000000;
 
 // One line such as `refused 3`.
 pub fn put_refused(text: &mut [u8], number: usize) -> usize
@@ -53,7 +47,7 @@ fn behind_cell(columns: usize, x: usize) -> u8
 
 // A byte in hexadecimal, and the byte behind it.
 fn put_hex(text: &mut [u8], at: usize, b: u8, end: u8) -> usize
-    requires { ⌜ at + 3 < 18446744073709551616 ⌝ }
+    requires { ⌜ at + 3 < 2 ^ 64 ⌝ }
     ensures { λ r. ⌜ Wrote (now (text .entry)) at (hexEntry b end) (now (text .exit)) r ⌝ }
 {
     let high = put_byte(text, at, hex_digit(b / 16));

@@ -3,7 +3,7 @@ use Prim.Native.Nat.{ℕ, zero, suc, _+_, _*_, _-_, _/_, _%_, _≤_, _<_}
 use native.Mathlib.Omega.{arith}
 use native.Mathlib.Nat.{suc-mod, mod-eq-of-lt, mod-self, mod-lt, mod-le, mul-zero, zero-mod, mul-le-mul-right, div-lt-iff-lt-mul, div-add-mod'}
 use native.Mathlib.Numerals.{add-one}
-use lib.ListN.{length}
+use lib.ListN.{length, getD}
 use lib.Dec.{ltb}
 use borrow.Author.Tests.{ltb-true, ltb-false, leb-true, lt-ltb, le-leb}
 use mathlib.Core.Path.{_≡_, refl, sym, _∙_, ap}
@@ -20,7 +20,7 @@ use Rattle.rules.specs.declared.Grid.{Grid}
 use Rattle.answers.specs.Lists.{All, _∈_, ApartBy}
 use Rattle.rules.specs.Directions.{opposite}
 use Rattle.rules.specs.Record.{Puzzle, size}
-use Rattle.rules.specs.Board.{Clue, Board, when, inside, target, neighbour, openAt, beyond, outward, line, nearest, cluesFrom, board}
+use Rattle.rules.specs.Board.{Clue, Board, when, inside, target, neighbour, openAt, beyond, outward, line, cluesFrom, board}
 
 -- where a neighbour in direction d lies in the numbering of the cells
 abbrev pub Ahead : Direction → ℕ → ℕ → Type 0
@@ -223,7 +223,7 @@ module _ (g : Grid) where
   not-far south x h = omega arith
   not-far west x h = omega arith
 
-  outward-ends : (d : Direction) (fuel x : ℕ) (seen : List ℕ) (from : ℕ) → nearest seen from ≡ x → far d x ≤ fuel → neighbour g d (nearest (outward g d fuel x seen) from) ≡ none
+  outward-ends : (d : Direction) (fuel x : ℕ) (seen : List ℕ) (from : ℕ) → getD seen 0 from ≡ x → far d x ≤ fuel → neighbour g d (getD (outward g d fuel x seen) 0 from) ≡ none
   unfolding outward
   outward-ends d zero x seen from e h = rw e (by (neighbour g d x) refl)
     where
@@ -232,7 +232,7 @@ module _ (g : Grid) where
       by (some y) q = let n : far d y < far d x = nearer d x y (has d x y q) in absurd (omega arith)
   outward-ends d (suc fuel) x seen from e h = by (neighbour g d x) refl (λ y. outward-ends d fuel y (y ∷ seen) from refl)
     where
-      by : (o : Option ℕ) → neighbour g d x ≡ o → ((y : ℕ) → far d y ≤ fuel → neighbour g d (nearest (outward g d fuel y (y ∷ seen)) from) ≡ none) → neighbour g d (nearest (beyond o seen (λ y. outward g d fuel y (y ∷ seen))) from) ≡ none
+      by : (o : Option ℕ) → neighbour g d x ≡ o → ((y : ℕ) → far d y ≤ fuel → neighbour g d (getD (outward g d fuel y (y ∷ seen)) 0 from) ≡ none) → neighbour g d (getD (beyond o seen (λ y. outward g d fuel y (y ∷ seen))) 0 from) ≡ none
       by none q go = rw e q
       by (some y) q go = let n : far d y < far d x = nearer d x y (has d x y q) in go y (omega arith)
 
@@ -263,7 +263,7 @@ module _ (p : Puzzle) where
       off : (c : Clue) → x ≡ c .cell → suc x ≤ c .cell → ⊥
       off c e h = omega arith
 
-  pub line-ends : (d : Direction) (x : ℕ) → x < size (p .grid) → neighbour (p .grid) d (nearest (line p d x) x) ≡ none
+  pub line-ends : (d : Direction) (x : ℕ) → x < size (p .grid) → neighbour (p .grid) d (getD (line p d x) 0 x) ≡ none
   line-ends d x h = outward-ends (p .grid) d (size (p .grid)) x [] x refl (not-far (p .grid) d x h)
 
   clue-stays : (cs : List Cell) (x : ℕ) → x + length cs ≤ size (p .grid) → All (λ (c : Clue). (c .cell < size (p .grid)) × All (λ y. y < size (p .grid)) (c .line)) (cluesFrom p x cs)

@@ -3,3 +3,4 @@ pub mod Boards
 pub mod Records
 pub mod Steps
 pub mod Lines
+pub mod Outcomes

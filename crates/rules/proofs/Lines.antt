@@ -10,7 +10,7 @@ use Rattle.rules.specs.declared.Direction.{Direction}
 use Rattle.rules.specs.declared.Grid.{Grid}
 use Rattle.rules.specs.Directions.{opposite}
 use Rattle.rules.specs.Record.{Puzzle, size}
-use Rattle.rules.specs.Board.{neighbour, beyond, outward, line, nearest}
+use Rattle.rules.specs.Board.{neighbour, beyond, outward, line}
 use Rattle.rules.specs.Walk.{go}
 use Rattle.rules.proofs.Boards.{wired}
 
@@ -35,14 +35,6 @@ module _ (g : Grid) (d : Direction) (x : ℕ) where
   chain-at (y ∷ ys) k (suc j) h = chain-at ys (k .1) j (omega arith)
 
 module _ (p : Puzzle) (d : Direction) (x : ℕ) where
-  -- the first is the one nearest the edge
-  pub line-first : nearest (line p d x) x ≡ getD (line p d x) 0 x
-  line-first = by (line p d x)
-    where
-      by : (ys : List ℕ) → nearest ys x ≡ getD ys 0 x
-      by [] = refl
-      by (y ∷ ys) = refl
-
   module _ {j : ℕ} (h : j < length (line p d x)) where
     outward-next : neighbour (p .grid) d (getD (line p d x) (suc j) x) ≡ some (getD (line p d x) j x)
     outward-next = chain-at (p .grid) d x (line p d x) (chain-outward (p .grid) d x (size (p .grid)) x [] refl tt) j h

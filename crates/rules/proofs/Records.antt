@@ -11,7 +11,8 @@ use mathlib.Core.Bool.{true, false, not}
 use mathlib.Core.Option.{none, some}
 use mathlib.Core.List.{List, _++_}
 use Rattle.answers.proofs.Bools.{and-both, or-left, or-right, or-neither}
-use Rattle.answers.proofs.Rows.{Tells, tells, turns, passes, answers, Clear, answered-clear, clear-answered, no-cause, still-refused, refusals-append}
+use Rattle.answers.proofs.Rows.{Clear, answered-clear, clear-answered, no-cause, still-refused, refusals-append}
+use Rattle.answers.proofs.OneToOne.{number-not}
 use Rattle.answers.specs.declared.Outcome.{Outcome}
 use Rattle.answers.specs.Outcome.{refusal, answer, Row, cause, firstRefusal}
 use Rattle.answers.specs.First.{firstWhere}
@@ -19,11 +20,11 @@ use Rattle.rules.specs.declared.Cell.the-variants.{Open, Clue}
 use Rattle.rules.specs.declared.CellByte.the-variants.{Is, NotAllowed}
 use Rattle.rules.specs.declared.Grid.{Grid}
 use Rattle.rules.specs.declared.RecordRefusal.{RecordRefusal}
-use Rattle.rules.specs.declared.RecordRefusal.the-variants.{Length, Kind, Side, Size, NotACell}
 use Rattle.rules.specs.declared.Parsed.{Parsed}
 use Rattle.rules.specs.declared.Parsed.the-variants.{Accepted, Refused}
 use Rattle.rules.specs.Board.{boardOf}
 use Rattle.rules.proofs.Boards.{Laws, Filled, laws}
+use Rattle.rules.proofs.Outcomes.{record-numbers}
 use Rattle.rules.specs.Record.{directionOf, readCell, cellOf, word, sides, size, cellByte, puzzle, isSide, wrongLength, wrongKind, wrongSide, wrongSize, wrongCell, Sides, RecordFits, recordRows, recordAnswer, IsAccepted, recordRefusalOutcome, parsedOutcome}
 
 -- the bytes of clues, once for every direction
@@ -71,83 +72,41 @@ module _ (s : List ℕ) (acc : IsAccepted s) where
   pub accepted-laws : Laws (boardOf s)
   accepted-laws = laws (puzzle (sides s) s) (held-filled accepted-fits)
 
--- The reader goes through the rows in order. Each record says which are passed.
-pub record LengthRight (s : List ℕ) : Type 0 where
-  pub right : wrongLength s ≡ false
-
-pub record KindRight (s : List ℕ) : Type 0 where
-  pub before : LengthRight s
-  pub right : wrongKind s ≡ false
-
-pub record SidesRight (s : List ℕ) : Type 0 where
-  pub before : KindRight s
-  pub right : wrongSide s ≡ false
-  pub recordFits : Sides (sides s)
-
-pub record SizeRight (s : List ℕ) : Type 0 where
-  pub before : SidesRight s
-  pub right : wrongSize s ≡ false
-
+-- The causes of rows 1 to 4, by the code's tests
 module _ (s : List ℕ) where
-  abbrev Goes : List Row → Outcome → Type 0
-  Goes rows u = Tells rows (answer (sides s .rows) (sides s .columns) 0) u
+  pub short-record : length s < 6 → some 0 ≡ cause (wrongLength s)
+  short-record h = ap cause (sym (or-left _ _ (lt-ltb _ _ h)))
 
-  pub short-record : length s < 6 → refusal 1 0 ≡ recordAnswer s
-  short-record h = let t : Goes (recordRows s) (refusal 1 0) = turns (ap cause (or-left _ _ (lt-ltb _ _ h))) in tells t
+  pub other-length : (word s 0 ≡ length s → ⊥) → some 0 ≡ cause (wrongLength s)
+  other-length h = ap cause (sym (or-right (ltb (length s) 6) _ (ap not (ne-eqb _ _ h))))
 
-  pub other-length : (word s 0 ≡ length s → ⊥) → refusal 1 0 ≡ recordAnswer s
-  other-length h = let t : Goes (recordRows s) (refusal 1 0) = turns (ap cause (or-right (ltb (length s) 6) _ (ap not (ne-eqb _ _ h)))) in tells t
+  pub right-length : 6 ≤ length s → word s 0 ≡ length s → none ≡ cause (wrongLength s)
+  right-length h e = rw (le-ltb _ _ h, eq-eqb _ _ e)
 
-  pub right-length : 6 ≤ length s → word s 0 ≡ length s → LengthRight s
-  right-length h e = record { right = rw (le-ltb _ _ h, eq-eqb _ _ e) }
+  pub other-kind : (word s 2 ≡ 1 → ⊥) → some 0 ≡ cause (wrongKind s)
+  other-kind h = rw (ne-eqb _ _ h)
 
-module _ {s : List ℕ} where
-  past-length : {u : Outcome} → LengthRight s → Goes s (drop 1 (recordRows s)) u → u ≡ recordAnswer s
-  past-length p h = let t : Goes s (recordRows s) _ = passes (ap cause (p .right)) h in tells t
+  pub right-kind : word s 2 ≡ 1 → none ≡ cause (wrongKind s)
+  right-kind e = rw (eq-eqb _ _ e)
 
-  past-kind : {u : Outcome} → KindRight s → Goes s (drop 2 (recordRows s)) u → u ≡ recordAnswer s
-  past-kind p h = past-length (p .before) (passes (ap cause (p .right)) h)
+  pub wrong-rows : isSide (sides s .rows) ≡ false → some 0 ≡ cause (wrongSide s)
+  wrong-rows h = ap cause (sym (or-left (not (isSide (sides s .rows))) _ (ap not h)))
 
-  past-sides : {u : Outcome} → SidesRight s → Goes s (drop 3 (recordRows s)) u → u ≡ recordAnswer s
-  past-sides p h = past-kind (p .before) (passes (ap cause (p .right)) h)
+  pub wrong-columns : isSide (sides s .columns) ≡ false → some 0 ≡ cause (wrongSide s)
+  wrong-columns h = ap cause (sym (or-right (not (isSide (sides s .rows))) _ (ap not h)))
 
-  past-size : {u : Outcome} → SizeRight s → Goes s (drop 4 (recordRows s)) u → u ≡ recordAnswer s
-  past-size p h = past-sides (p .before) (passes (ap cause (p .right)) h)
+  pub right-sides : isSide (sides s .rows) ≡ true → isSide (sides s .columns) ≡ true → none ≡ cause (wrongSide s)
+  right-sides h k = rw (h, k)
 
-  pub other-kind : LengthRight s → (word s 2 ≡ 1 → ⊥) → refusal 2 0 ≡ recordAnswer s
-  other-kind p h = past-length p (turns (ap cause (ap not (ne-eqb _ _ h))))
+  pub other-size : (length s ≡ 6 + size (sides s) → ⊥) → some 0 ≡ cause (wrongSize s)
+  other-size h = rw (ne-eqb _ _ h)
 
-  pub right-kind : LengthRight s → word s 2 ≡ 1 → KindRight s
-  right-kind p e = record { before = p; right = rw (eq-eqb _ _ e) }
-
-  pub rows-wrong : KindRight s → isSide (sides s .rows) ≡ false → refusal 3 0 ≡ recordAnswer s
-  rows-wrong p h = past-kind p (turns (ap cause (or-left (not (isSide (sides s .rows))) _ (ap not h))))
-
-  pub columns-wrong : KindRight s → isSide (sides s .columns) ≡ false → refusal 3 0 ≡ recordAnswer s
-  columns-wrong p h = past-kind p (turns (ap cause (or-right (not (isSide (sides s .rows))) _ (ap not h))))
-
-  pub right-sides : KindRight s → isSide (sides s .rows) ≡ true → isSide (sides s .columns) ≡ true → SidesRight s
-  right-sides p h k = record { before = p; right = rw (h, k); recordFits = sides-small (sides s) h k }
-
-  pub other-size : SidesRight s → (length s ≡ 6 + size (sides s) → ⊥) → refusal 4 0 ≡ recordAnswer s
-  other-size p h = past-sides p (turns (ap cause (ap not (ne-eqb _ _ h))))
-
-  pub right-size : SidesRight s → length s ≡ 6 + size (sides s) → SizeRight s
-  right-size p e = record { before = p; right = rw (eq-eqb _ _ e) }
-
-  pub cell-wrong : {x : ℕ} → SizeRight s → some x ≡ firstWhere (wrongCell s) (size (sides s)) → refusal 5 x ≡ recordAnswer s
-  cell-wrong p e = past-size p (turns (sym e))
-
-  pub all-right : SizeRight s → none ≡ firstWhere (wrongCell s) (size (sides s)) → answer (sides s .rows) (sides s .columns) 0 ≡ recordAnswer s
-  all-right p e = past-size p (passes (sym e) answers)
+  pub right-size : length s ≡ 6 + size (sides s) → none ≡ cause (wrongSize s)
+  right-size e = rw (eq-eqb _ _ e)
 
 -- What the reader told, for the calls that go on after it: no refusal has the number 0
 pub refusal-number : (r : RecordRefusal) → recordRefusalOutcome r .number ≡ 0 → ⊥
-refusal-number Length e = omega arith
-refusal-number Kind e = omega arith
-refusal-number Side e = omega arith
-refusal-number Size e = omega arith
-refusal-number (NotACell x) e = omega arith
+refusal-number r = number-not record-numbers r (omega arith)
 
 -- a refusal is passed up unchanged, whatever rows come after the reader's
 pub passes-up : (s : List ℕ) (qs : List Row) (t : Outcome) {p : Parsed} {r : RecordRefusal} → p ≡ Refused r → parsedOutcome p ≡ recordAnswer s → recordRefusalOutcome r ≡ firstRefusal (recordRows s ++ qs) t

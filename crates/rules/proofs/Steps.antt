@@ -4,7 +4,7 @@ use native.Mathlib.Omega.{arith}
 use native.Mathlib.Nat.{mod-lt, div-add-mod'}
 use native.Mathlib.Numerals.{add-one}
 use lib.Dec.{ltb}
-use lib.ListN.{length}
+use lib.ListN.{length, getD}
 use borrow.Author.Tests.{lt-ltb}
 use mathlib.Core.Path.{_≡_, refl, sym, _∙_, ap}
 use mathlib.Core.Bool.{Bool, true, false, _&&_}
@@ -14,7 +14,7 @@ use Rattle.answers.proofs.Bools.{both-and}
 use Rattle.rules.specs.declared.Direction.{Direction}
 use Rattle.rules.specs.declared.Grid.{Grid}
 use Rattle.rules.specs.Record.{size, OnBoard}
-use Rattle.rules.specs.Board.{when, inside, target, neighbour, beyond, outward, nearest}
+use Rattle.rules.specs.Board.{when, inside, target, neighbour, beyond, outward}
 use Rattle.rules.specs.Walk.{go}
 use Rattle.rules.proofs.Boards.{when-true, wired, far, nearer, has, not-far}
 
@@ -49,7 +49,7 @@ gone-on {g} {x} {y} d o e = by (neighbour g d x) refl e
 pub record Outgoing (g : Grid) (d : Direction) (x y cells : ℕ) : Type 0 where
   pub on : OnBoard g y
   pub seen : List ℕ
-  pub last : y ≡ nearest seen x
+  pub last : y ≡ getD seen 0 x
   pub many : cells ≡ length seen
   pub fuel : ℕ
   pub enough : far g d y ≤ fuel
@@ -70,8 +70,8 @@ module _ {g : Grid} {d : Direction} {x y cells : ℕ} (o : Outgoing g d x y cell
       by zero r = r
       by (suc fuel) r = ap (λ (p : Option ℕ). beyond p (o .seen) (λ z. outward g d fuel z (z ∷ o .seen))) e ∙ r
 
-  pub out-end : none ≡ neighbour g d y → y ≡ nearest (outward g d (size g) x []) x
-  out-end e = o .last ∙ ap (λ (l : List ℕ). nearest l x) (all-seen e)
+  pub out-end : none ≡ neighbour g d y → y ≡ getD (outward g d (size g) x []) 0 x
+  out-end e = o .last ∙ ap (λ (l : List ℕ). getD l 0 x) (all-seen e)
 
   pub out-count : none ≡ neighbour g d y → cells ≡ length (outward g d (size g) x [])
   out-count e = o .many ∙ ap length (all-seen e)

@@ -68,11 +68,6 @@ outward g d (suc fuel) x seen = beyond (neighbour g d x) seen (λ y. outward g d
 abbrev pub line : Puzzle → Direction → ℕ → List ℕ
 line p d x = outward (p .grid) d (size (p .grid)) x []
 
--- the cell of a clue's line that is nearest the edge; the clue's own cell x if the line is empty
-abbrev pub nearest : List ℕ → ℕ → ℕ
-nearest [] x = x
-nearest (y ∷ ys) x = y
-
 abbrev pub clueOf : Puzzle → ℕ → Cell → List Clue
 clueOf p x Open = []
 clueOf p x (Clued d n) = record { cell = x; number = n; line = line p d x } ∷ []

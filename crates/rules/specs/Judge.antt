@@ -11,7 +11,11 @@ use Rattle.answers.specs.Outcome.{refusal, answer, Row, row, cause, firstRefusa
 use Rattle.rules.specs.declared.Direction.{Direction}
 use Rattle.rules.specs.declared.Direction.the-variants.{North as north, East as east, South as south, West as west}
 use Rattle.rules.specs.declared.JudgeRefusal.{JudgeRefusal}
-use Rattle.rules.specs.declared.JudgeRefusal.the-variants.{Record, DrawingLength, DrawingByte, Touching, ClueNotMet, LinkUnmatched, NotTwoLinks, NotOneLoop}
+use Rattle.rules.specs.declared.JudgeRefusal.the-variants.{Record, DrawingLength, Rule}
+use Rattle.rules.specs.declared.RuleRefusal.{RuleRefusal}
+use Rattle.rules.specs.declared.RuleRefusal.the-variants.{DrawingByte, Touching, ClueNotMet, LinkUnmatched, NotTwoLinks, NotOneLoop}
+use Rattle.rules.specs.declared.RuleVerdict.{RuleVerdict}
+use Rattle.rules.specs.declared.RuleVerdict.the-variants.{Followed, Broken}
 use Rattle.rules.specs.declared.Verdict.{Verdict}
 use Rattle.rules.specs.declared.Verdict.the-variants.{Yes, No}
 use Rattle.answers.specs.Lists.{howMany}
@@ -101,9 +105,9 @@ module _ (b : Board) (ds : List ℕ) where
   abbrev pub notOneLoop : Option ℕ
   notOneLoop = fromFirst (firstWhere (whiteAt b ds) (b .size)) (λ s. firstWhere (offLoopAt b ds s) (b .size))
 
-  abbrev pub judgeRows : List Row
-  judgeRows =
-      row 7 wrongDrawing ∷
+  -- the rules, for a drawing of N bytes
+  abbrev pub ruleRows : List Row
+  ruleRows =
       row 10 wrongByte ∷
       row 11 touching ∷
       row 12 clueNotMet ∷
@@ -111,6 +115,9 @@ module _ (b : Board) (ds : List ℕ) where
       row 14 notTwoLinks ∷
       row 15 notOneLoop ∷
       []
+
+  abbrev pub judgeRows : List Row
+  judgeRows = row 7 wrongDrawing ∷ ruleRows
 
 -- yes: there is nothing to tell beside it
 abbrev pub saysYes : Outcome
@@ -120,15 +127,22 @@ saysYes = answer 0 0 0
 abbrev pub judgeAnswer : List ℕ → List ℕ → Outcome
 judgeAnswer s ds = firstRefusal (recordRows s ++ judgeRows (boardOf s) ds) saysYes
 
+abbrev pub ruleRefusalOutcome : RuleRefusal → Outcome
+ruleRefusalOutcome (DrawingByte x) = refusal 10 x
+ruleRefusalOutcome (Touching x) = refusal 11 x
+ruleRefusalOutcome (ClueNotMet x) = refusal 12 x
+ruleRefusalOutcome (LinkUnmatched x) = refusal 13 x
+ruleRefusalOutcome (NotTwoLinks x) = refusal 14 x
+ruleRefusalOutcome (NotOneLoop x) = refusal 15 x
+
+abbrev pub ruleVerdictOutcome : RuleVerdict → Outcome
+ruleVerdictOutcome Followed = saysYes
+ruleVerdictOutcome (Broken f) = ruleRefusalOutcome f
+
 abbrev pub judgeRefusalOutcome : JudgeRefusal → Outcome
 judgeRefusalOutcome (Record r) = recordRefusalOutcome r
 judgeRefusalOutcome DrawingLength = refusal 7 0
-judgeRefusalOutcome (DrawingByte x) = refusal 10 x
-judgeRefusalOutcome (Touching x) = refusal 11 x
-judgeRefusalOutcome (ClueNotMet x) = refusal 12 x
-judgeRefusalOutcome (LinkUnmatched x) = refusal 13 x
-judgeRefusalOutcome (NotTwoLinks x) = refusal 14 x
-judgeRefusalOutcome (NotOneLoop x) = refusal 15 x
+judgeRefusalOutcome (Rule f) = ruleRefusalOutcome f
 
 abbrev pub verdictOutcome : Verdict → Outcome
 verdictOutcome Yes = saysYes

@@ -139,3 +139,7 @@ recordRefusalOutcome (NotACell x) = refusal 5 x
 abbrev pub parsedOutcome : Parsed → Outcome
 parsedOutcome (Accepted g) = answer (g .rows) (g .columns) 0
 parsedOutcome (Refused r) = recordRefusalOutcome r
+
+-- the record was turned down
+abbrev pub IsRefused : Parsed → Type 0
+IsRefused p = (r : RecordRefusal) × (p ≡ Refused r)

@@ -1,10 +1,10 @@
 // Steps on a grid's board: neighbours, and the way to the end of a clue's line.
 ghost use mathlib.Core.Path.{_≡_};
-ghost use lib.ListN.{length};
+ghost use lib.ListN.{length, getD};
 ghost use Rattle.answers.specs.First.{placed};
 ghost use Rattle.rules.specs.Directions.{opposite};
 ghost use Rattle.rules.specs.Record.{OnBoard, puzzle};
-ghost use Rattle.rules.specs.Board.{neighbour, line, nearest};
+ghost use Rattle.rules.specs.Board.{neighbour, line};
 ghost use Rattle.rules.specs.Walk.{go};
 use super::Direction;
 use super::Grid;
@@ -79,7 +79,7 @@ pub struct End {
 // The end of the line that leaves x in a direction.
 pub fn line_end(g: Grid, record: &[u8], x: usize, d: Direction) -> End
     requires { ⌜ OnBoard g x ⌝ }
-    ensures { λ r. ⌜ r .cell ≡ nearest (line (puzzle g (now («record» .entry))) d x) x ⌝ }
+    ensures { λ r. ⌜ r .cell ≡ getD (line (puzzle g (now («record» .entry))) d x) 0 x ⌝ }
     ensures { λ r. ⌜ r .cells ≡ length (line (puzzle g (now («record» .entry))) d x) ⌝ }
 {
     let mut y = x;

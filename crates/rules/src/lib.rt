@@ -41,10 +41,8 @@ pub enum Parsed {
     Refused(RecordRefusal),
 }
 
-// Why a drawing is turned down: the record's refusal, else 7 and 10 to 15 of document 01's table.
-pub enum JudgeRefusal {
-    Record(RecordRefusal),
-    DrawingLength,
+// The rule that a drawing of N bytes breaks: 10 to 15 of document 01's table, with the cell.
+pub enum RuleRefusal {
     DrawingByte(usize),
     Touching(usize),
     ClueNotMet(usize),
@@ -52,6 +50,19 @@ pub enum JudgeRefusal {
     NotTwoLinks(usize),
     // 0 where there is no white cell.
     NotOneLoop(usize),
+}
+
+// What the rules say of a drawing of N bytes.
+pub enum RuleVerdict {
+    Followed,
+    Broken(RuleRefusal),
+}
+
+// Why a drawing is turned down: the record's refusal, else 7 of document 01's table, else the rule that is broken.
+pub enum JudgeRefusal {
+    Record(RecordRefusal),
+    DrawingLength,
+    Rule(RuleRefusal),
 }
 
 pub enum Verdict {

@@ -1,9 +1,10 @@
 // What the answers tell, in document 01's numbers.
 ghost use mathlib.Core.Path.{_≡_};
 ghost use Rattle.rules.specs.Record.{recordRefusalOutcome};
-ghost use Rattle.rules.specs.Judge.{judgeRefusalOutcome, verdictOutcome};
+ghost use Rattle.rules.specs.Judge.{ruleRefusalOutcome, judgeRefusalOutcome, verdictOutcome};
 use super::JudgeRefusal;
 use super::RecordRefusal;
+use super::RuleRefusal;
 use super::Verdict;
 use answers::Outcome;
 use answers::answered;
@@ -24,6 +25,21 @@ impl RecordRefusal {
     }
 }
 
+impl RuleRefusal {
+    pub fn outcome(self) -> Outcome
+        ensures { λ r. ⌜ r ≡ ruleRefusalOutcome self ⌝ }
+    {
+        match self {
+            RuleRefusal::DrawingByte(x) => refused(10, x as u64),
+            RuleRefusal::Touching(x) => refused(11, x as u64),
+            RuleRefusal::ClueNotMet(x) => refused(12, x as u64),
+            RuleRefusal::LinkUnmatched(x) => refused(13, x as u64),
+            RuleRefusal::NotTwoLinks(x) => refused(14, x as u64),
+            RuleRefusal::NotOneLoop(x) => refused(15, x as u64),
+        }
+    }
+}
+
 impl JudgeRefusal {
     pub fn outcome(self) -> Outcome
         ensures { λ r. ⌜ r ≡ judgeRefusalOutcome self ⌝ }
@@ -31,12 +47,7 @@ impl JudgeRefusal {
         match self {
             JudgeRefusal::Record(r) => r.outcome(),
             JudgeRefusal::DrawingLength => refused(7, 0),
-            JudgeRefusal::DrawingByte(x) => refused(10, x as u64),
-            JudgeRefusal::Touching(x) => refused(11, x as u64),
-            JudgeRefusal::ClueNotMet(x) => refused(12, x as u64),
-            JudgeRefusal::LinkUnmatched(x) => refused(13, x as u64),
-            JudgeRefusal::NotTwoLinks(x) => refused(14, x as u64),
-            JudgeRefusal::NotOneLoop(x) => refused(15, x as u64),
+            JudgeRefusal::Rule(f) => f.outcome(),
         }
     }
 }

@@ -4,7 +4,8 @@ ghost use Prim.Native.Nat.{_+_, _<_};
 ghost use lib.ListN.{length, getD};
 ghost use Rattle.answers.specs.First.{firstWhere, placed};
 ghost use Rattle.rules.specs.declared.Cell.the-variants.{Open};
-ghost use Rattle.rules.specs.Record.{readCell, notAllowed, word, size, puzzle, isSide, wrongCell, Sides, RecordFits, recordAnswer, parsedOutcome};
+ghost use Rattle.rules.specs.Record.{readCell, notAllowed, word, size, puzzle, isSide, wrongCell, Sides, RecordFits, recordAnswer, parsedOutcome, IsRefused};
+ghost use Rattle.rules.specs.declared.Parsed.the-variants.{Refused};
 use super::Cell;
 use super::CellByte;
 use super::Direction;
@@ -132,4 +133,17 @@ pub fn read(record: &[u8]) -> Parsed
         return Parsed::Accepted(g);
     };
     Parsed::Refused(RecordRefusal::NotACell(x))
+}
+
+impl Parsed {
+    // The refusal of a record that is turned down. No caller has another: the branch for an accepted record is not reached.
+    pub fn refusal(self) -> RecordRefusal
+        requires { ⌜ IsRefused self ⌝ }
+        ensures { λ r. ⌜ self ≡ Refused r ⌝ }
+    {
+        let Parsed::Refused(r) = self else {
+            return RecordRefusal::Length;
+        };
+        r
+    }
 }

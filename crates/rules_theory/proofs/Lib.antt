@@ -10,5 +10,4 @@ pub mod Loop
 pub mod Whole
 pub mod Bytes
 pub mod JudgeExact
-pub mod Outcomes
 pub mod Cases

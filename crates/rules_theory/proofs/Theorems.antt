@@ -22,10 +22,11 @@ use Rattle.rules.proofs.Boards.{Wired, Laws}
 use Rattle.rules_theory.specs.Loop.{WholeLoop, Looped}
 use Rattle.answers.proofs.Rows.{answered-clear, clear-answered}
 use Rattle.rules.proofs.Records as records
+use Rattle.rules.proofs.Outcomes.{readings, verdicts}
+use Rattle.answers.proofs.OneToOne.{one-to-one}
 use Rattle.rules_theory.proofs.JudgeExact.{clear-solution, solution-clear}
 use Rattle.rules_theory.proofs.Loop.{first-north, first-east, first-south, first-west}
 use Rattle.rules_theory.proofs.Whole as whole
-use Rattle.rules_theory.proofs.Outcomes as telling
 
 -- An accepted record's board has the laws of a board: a step stays inside and leads back, open cells and lines are on it, and so on.
 pub accepted-laws : (s : List ℕ) → IsAccepted s → Laws (boardOf s)
@@ -71,4 +72,4 @@ module _ {b : Board} (law : Laws b) {D : Drawing} (sol : Solution b D) where
 
 -- Document 01's numbers and values tell the answers apart: two verdicts that are told the same are the same, and two readings of a record likewise.
 pub outcome-one-to-one : ((v w : Verdict) → verdictOutcome v ≡ verdictOutcome w → v ≡ w) × ((p q : Parsed) → parsedOutcome p ≡ parsedOutcome q → p ≡ q)
-outcome-one-to-one = (telling.verdict-one-to-one, telling.parsed-one-to-one)
+outcome-one-to-one = (one-to-one verdicts, one-to-one readings)

@@ -3,41 +3,40 @@
 ghost use Prim.Native.Nat.{_≤_};
 ghost use lib.ListN.{length, take};
 ghost use Rattle.answers.specs.Lent.{Wrote};
-ghost use Rattle.rules.specs.Record.{sides, size, RecordFits};
+ghost use Rattle.rules.specs.Record.{size, Sides};
 ghost use Rattle.program_text.specs.Lines.{drawingText};
 ghost use Rattle.program_text.specs.Programs.{printedSolution};
+use program_text::BUDGET;
+use program_text::MOST_ELEMENTS;
+use program_text::MOST_VARIABLES;
 use program_text::put_drawing;
 use program_text::put_refused;
-use program_text::put_word;
+use rules::Grid;
 use rules::MOST_CELLS;
+use rules::Parsed;
+use rules::record::read;
 use solver_call::Solved;
 use solver_call::solve;
+use text::put_word;
 
-// The list elements that the program holds.
-const MOST_ELEMENTS: usize = 8192;
-
-// The variables that it holds.
-const MOST_VARIABLES: usize = 4096;
-
-// The most steps that the search makes.
-const BUDGET: u64 = 1000000;
-
-// The drawing of a record's grid, a row a line.
-fn put_cells(text: &mut [u8], record: &[u8], drawing: &[u8]) -> usize
-    requires { ⌜ RecordFits (sides (now «record»)) (now «record») ⌝ }
-    requires { ⌜ size (sides (now «record»)) ≤ length (now drawing) ⌝ }
-    ensures { λ r. ⌜ Wrote (now (text .entry)) 0 (drawingText (sides (now («record» .entry)) .columns) (take (size (sides (now («record» .entry)))) (now (drawing .entry)))) (now (text .exit)) r ⌝ }
+// The drawing of a grid, a row a line.
+fn put_cells(text: &mut [u8], g: Grid, drawing: &[u8]) -> usize
+    requires { ⌜ Sides g ⌝ }
+    requires { ⌜ size g ≤ length (now drawing) ⌝ }
+    ensures { λ r. ⌜ Wrote (now (text .entry)) 0 (drawingText (g .columns) (take (size g) (now (drawing .entry)))) (now (text .exit)) r ⌝ }
 {
-    let rows = record[4] as usize;
-    let columns = record[5] as usize;
-    let n = rows * columns;
-    put_drawing(text, columns, &drawing[..n])
+    let n = g.size();
+    put_drawing(text, g.columns, &drawing[..n])
 }
 
 // Writes what the program prints for the bytes on its standard input; returns how many bytes that is.
 fn solution_text(record: &[u8], text: &mut [u8]) -> usize
     ensures { λ r. ⌜ Wrote (now (text .entry)) 0 (printedSolution (now («record» .entry))) (now (text .exit)) r ⌝ }
 {
+    let p = read(record);
+    let Parsed::Accepted(g) = p else {
+        return put_refused(text, p.refusal().outcome().number as usize);
+    };
     let mut list = [0i32; MOST_ELEMENTS];
     let mut trail = [0i32; MOST_VARIABLES];
     let mut marks = [0u8; MOST_VARIABLES];
@@ -53,7 +52,7 @@ fn solution_text(record: &[u8], text: &mut [u8]) -> usize
         BUDGET,
     );
     match answer {
-        Solved::Found(_) => put_cells(text, record, &drawing),
+        Solved::Found(_) => put_cells(text, g, &drawing),
         Solved::None(_) => put_word(text, 0, b"none\n"),
         Solved::Halted(_) => put_word(text, 0, b"halted\n"),
         Solved::Refused(_) => put_refused(text, answer.outcome().number as usize),

@@ -1,15 +1,15 @@
--- `cnf::clause_count` meets its contract: the loop keeps `Counting`. Assumes nothing.
+-- `cnf::clause_count` meets its contract: the loop keeps `ClausesCounted`. Assumes nothing.
 use Prim.Native.Nat.{_-_}
 use borrow.Author.Needs.{needs}
 use native.Mathlib.Omega.{arith}
 use lib.ListN.{length}
 use mathlib.Core.Path.{sym, _∙_}
-use Rattle.cnf.proofs.Lists.{Counting, count-start, count-closed, count-other, count-end}
+use Rattle.cnf.proofs.Lists.{ClausesCounted, count-start, count-closed, count-other, count-end}
 use Rattle.cnf.proofs.clause_count.Statement.{statement}
 use Rattle.cnf.proofs.clause_count.Tie as tie
 
 abbrev Inv-loop : tie.InvT-loop
-Inv-loop list n₀ i₀ n i = Counting list i n
+Inv-loop list n₀ i₀ n i = ClausesCounted list i n
 
 abbrev μ-loop : tie.MeasureT-loop
 μ-loop list n₀ i₀ n i = length list - i

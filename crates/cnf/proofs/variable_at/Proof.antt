@@ -41,10 +41,18 @@ cast-result-2 : tie.Need-cast-result-2
 cast-result-2 c = plus-cast (lit (c .before)) (lit-fits (c .before)) (c .if1 .left)
 
 returns : tie.Need-returns
-returns c = (omega (arith, size c, minus-code (lit (c .before)) (lit-fits (c .before)) (c .if1 .taken)), omega (arith, size c, size-fits (lit (c .before)) (lit-fits (c .before))))
+returns c = (
+  omega (arith, size c, minus-code (lit (c .before)) (lit-fits (c .before)) (c .if1 .taken)),
+  omega
+      (arith, size c, size-fits (lit (c .before)) (lit-fits (c .before))),
+)
 
 returns-2 : tie.Need-returns-2
-returns-2 c = (omega (arith, plus-code (lit (c .before)) (lit-fits (c .before)) (c .if1 .left)), omega (arith, size-fits (lit (c .before)) (lit-fits (c .before)), ap natAbs (toZ-ofZ (lit-fits (c .before)))))
+returns-2 c = (
+  omega (arith, plus-code (lit (c .before)) (lit-fits (c .before)) (c .if1 .left)),
+  omega
+      (arith, size-fits (lit (c .before)) (lit-fits (c .before)), ap natAbs (toZ-ofZ (lit-fits (c .before)))),
+)
 
 pub variable-at-spec : {M : Type 1} → statement M
 variable-at-spec =

@@ -23,12 +23,14 @@ is-unclosed-requires c κs = search needs
 
 returns-2 : tie.Need-returns-2
 returns-2 c =
-    place-other (c .before .before .before .before .first-beyond .result) _ _ (c .before .before .before .before .first-beyond .ensures) (c .before .before .enum-told .given .1)
+    let at-first-beyond = c .before .before .before .before in
+    place-other (at-first-beyond .first-beyond .result) _ _ (at-first-beyond .first-beyond .ensures) (c .before .before .enum-told .given .1)
     (rw (sym (c .before .is-unclosed .ensures) ∙ c .if1 .taken))
 
 returns-3 : tie.Need-returns-3
 returns-3 c =
-    place-other (c .before .before .before .before .first-beyond .result) _ _ (c .before .before .before .before .first-beyond .ensures) (c .before .before .enum-told .given .1)
+    let at-first-beyond = c .before .before .before .before in
+    place-other (at-first-beyond .first-beyond .result) _ _ (at-first-beyond .first-beyond .ensures) (c .before .before .enum-told .given .1)
     (rw (sym (c .before .is-unclosed .ensures) ∙ c .if1 .left))
 
 pub wrong-list-spec : {M : Type 1} → statement M

@@ -11,7 +11,10 @@ enum-known-variables : tie.Need-enum-known-variables
 enum-known-variables c = c .match .keys1
 
 read-body-requires : tie.Need-read-body-requires
-read-body-requires c κs = head-read (c .before .before .before .before .before .before .args .text .now) (c .before .before .before .before .header .ensures) (c .before .before .variables .given .1)
+read-body-requires c κs =
+    let at-header = c .before .before .before .before in
+    let at-start = at-header .before .before in
+    head-read (at-start .args .text .now) (at-header .header .ensures) (c .before .before .variables .given .1)
 
 enum-known-at : tie.Need-enum-known-at
 enum-known-at c = c .match .keys2
@@ -23,7 +26,10 @@ returns : tie.Need-returns
 returns c = c .before .read-body .ensures
 
 returns-2 : tie.Need-returns-2
-returns-2 c = text-refused (c .before .before .before .before .before .args .list .now) (head-refused (c .before .before .before .before .before .args .text .now) (c .before .before .before .header .ensures) (c .before .at .given .1))
+returns-2 c =
+    let at-header = c .before .before .before in
+    let at-start = at-header .before .before in
+    text-refused (at-start .args .list .now) (head-refused (at-start .args .text .now) (at-header .header .ensures) (c .before .at .given .1))
 
 pub read-spec : {M : Type 1} → statement M
 read-spec =

@@ -19,19 +19,39 @@ enum-known-elements : tie.Need-enum-known-elements
 enum-known-elements c = c .match .keys2
 
 returns : tie.Need-returns
-returns c = body-short (c .before .before .before .before .before .before .before .before .args .list .now) (c .before .before .before .before .before .before .before .before .pre) (list-read (c .before .before .before .before .before .before .before .before .args .text .now) (headerWith (c .before .before .before .before .before .before .before .before .args .variables) (c .before .before .before .before .before .before .before .before .args .clauses)) (c .before .before .before .before .before .before .before .before .args .«from») _ _ (c .before .before .before .before .before .read-list .ensures) (c .before .before .elements .given .1)) (omega arith) (c .if1 .taken)
+returns c =
+    let at-read-list = c .before .before .before .before .before in
+    let at-start = at-read-list .before .before .before in
+    body-short (at-start .args .list .now) (at-start .pre) (list-read (at-start .args .text .now)
+    (headerWith (at-start .args .variables) (at-start .args .clauses)) (at-start .args .«from») _ _ (at-read-list .read-list .ensures)
+    (c .before .before .elements .given .1)) (omega arith) (c .if1 .taken)
 
 read-list-requires-2 : tie.Need-read-list-requires-2
-read-list-requires-2 c κs = c .before .before .before .before .before .before .before .before .before .pre .small
+read-list-requires-2 c κs =
+    let at-nothing2 = c .before .before .before .before .before in
+    let at-start = at-nothing2 .before .before .before .before in
+    at-start .pre .small
 
 returns-2 : tie.Need-returns-2
-returns-2 c = body-refused (c .before .before .before .before .before .before .before .args .list .now) (c .before .before .before .before .before .before .before .pre) (list-dead (c .before .before .before .before .before .before .before .args .text .now) (headerWith (c .before .before .before .before .before .before .before .args .variables) (c .before .before .before .before .before .before .before .args .clauses)) (c .before .before .before .before .before .before .before .args .«from») _ _ (c .before .before .before .before .read-list .ensures) (c .before .at .given .1))
+returns-2 c =
+    let at-read-list = c .before .before .before .before in
+    let at-start = at-read-list .before .before .before in
+    body-refused (at-start .args .list .now) (at-start .pre) (list-dead (at-start .args .text .now)
+    (headerWith (at-start .args .variables) (at-start .args .clauses)) (at-start .args .«from») _ _ (at-read-list .read-list .ensures)
+    (c .before .at .given .1))
 
 same-length : tie.Need-same-length
 same-length c = search needs
 
 returns-3 : tie.Need-returns-3
-returns-3 c = body-read (c .before .before .before .before .before .before .before .before .before .before .before .args .list .now) (c .before .before .before .before .before .before .before .before .before .before .before .pre) (list-read (c .before .before .before .before .before .before .before .before .before .before .before .args .text .now) (headerWith (c .before .before .before .before .before .before .before .before .before .before .before .args .variables) (c .before .before .before .before .before .before .before .before .before .before .before .args .clauses)) (c .before .before .before .before .before .before .before .before .before .before .before .args .«from») _ _ (c .before .before .before .before .before .before .before .before .read-list .ensures) (c .before .before .before .before .before .elements .given .1)) (c .before .before .before .if1 .left) _ (c .before .read-list2 .result) (c .before .read-list2 .ensures)
+returns-3 c =
+    let at-else1 = c .before .before .before in
+    let at-elements = at-else1 .before .before in
+    let at-read-list = at-elements .before .before .before in
+    let at-start = at-read-list .before .before .before in
+    body-read (at-start .args .list .now) (at-start .pre) (list-read (at-start .args .text .now)
+    (headerWith (at-start .args .variables) (at-start .args .clauses)) (at-start .args .«from») _ _ (at-read-list .read-list .ensures)
+    (at-elements .elements .given .1)) (at-else1 .if1 .left) _ (c .before .read-list2 .result) (c .before .read-list2 .ensures)
 
 pub read-body-spec : {M : Type 1} → statement M
 read-body-spec =

@@ -17,7 +17,8 @@ abbrev μ-loop : tie.MeasureT-loop
 μ-loop text from variables clauses out₀ at₀ n₀ k₀ begun₀ out at n k begun = length text - at
 
 loop-holds : tie.Need-loop-holds Inv-loop μ-loop
-loop-holds c = list-start (c .before .args .text .now) (c .before .args .variables) (c .before .args .clauses) (c .before .args .«from») (c .before .args .out .now)
+loop-holds c =
+    list-start (c .before .args .text .now) (c .before .args .variables) (c .before .args .clauses) (c .before .args .«from») (c .before .args .out .now)
 
 same-length : tie.Need-same-length Inv-loop μ-loop
 same-length c = wrote-length (c .before .before .loop .inv .wrote)
@@ -33,31 +34,58 @@ enum-known-negative c = c .match .keys1
 
 -- what was found at the place, and the element that was read
 found : (c : tie.After-element Inv-loop μ-loop) → Elemental (c .before .before .before .before .before .args .text .now) (headerWith (c .before .before .before .before .before .args .variables) (c .before .before .before .before .before .args .clauses)) (c .before .before .before .loop .k) (clause (headerWith (c .before .before .before .before .before .args .variables) (c .before .before .before .before .before .args .clauses)) (c .before .before .before .loop .k) (c .before .before .before .loop .begun)) (c .before .before .before .loop .at) (c .element .result)
-found c = c .element .ensures (headerWith (c .before .before .before .before .before .args .variables) (c .before .before .before .before .before .args .clauses)) (c .before .before .before .loop .k) (c .before .before .before .loop .begun) refl (c .before .if1 .left)
+found c =
+    let at-loop = c .before .before .before in
+    let at-start = at-loop .before .before in
+    c .element .ensures (headerWith (at-start .args .variables) (at-start .args .clauses)) (at-loop .loop .k) (at-loop .loop .begun) refl
+    (c .before .if1 .left)
 
 read : (c : tie.After-negative Inv-loop μ-loop) → ElementRead (c .before .before .before .before .before .before .before .args .text .now) (headerWith (c .before .before .before .before .before .before .before .args .variables) (c .before .before .before .before .before .before .before .args .clauses)) (c .before .before .before .before .before .loop .k) (clause (headerWith (c .before .before .before .before .before .before .before .args .variables) (c .before .before .before .before .before .before .before .args .clauses)) (c .before .before .before .before .before .loop .k) (c .before .before .before .before .before .loop .begun)) (c .before .before .before .before .before .loop .at) (c .negative .given .0 .0) (c .negative .given .0 .1 .0) (c .negative .given .0 .1 .1 .0 .at)
-read c = element-read (c .before .before .before .before .before .before .before .args .text .now) (headerWith (c .before .before .before .before .before .before .before .args .variables) (c .before .before .before .before .before .before .before .args .clauses)) (c .before .before .before .before .before .loop .k) (clause (headerWith (c .before .before .before .before .before .before .before .args .variables) (c .before .before .before .before .before .before .before .args .clauses)) (c .before .before .before .before .before .loop .k) (c .before .before .before .before .before .loop .begun)) (c .before .before .before .before .before .loop .at) (found (c .before .before)) (c .negative .given .1)
+read c =
+    let at-loop = c .before .before .before .before .before in
+    let at-start = at-loop .before .before in
+    element-read (at-start .args .text .now) (headerWith (at-start .args .variables) (at-start .args .clauses)) (at-loop .loop .k)
+    (clause (headerWith (at-start .args .variables) (at-start .args .clauses)) (at-loop .loop .k) (at-loop .loop .begun)) (at-loop .loop .at)
+    (found (c .before .before)) (c .negative .given .1)
 
 put-literal-requires : tie.Need-put-literal-requires Inv-loop μ-loop
-put-literal-requires c κs = (omega (arith, read (c .before .before) .small), omega (arith, c .before .before .before .before .before .before .before .loop .inv .few))
+put-literal-requires c κs =
+    let at-element = c .before .before .before .before in
+    let at-loop = at-element .before .before .before in
+    (omega (arith, read (c .before .before) .small), omega (arith, at-loop .loop .inv .few))
 
 closed-after-requires : tie.Need-closed-after-requires Inv-loop μ-loop
-closed-after-requires c κs = omega (arith, c .before .before .before .before .before .before .before .before .before .loop .inv .most)
+closed-after-requires c κs =
+    let at-negative = c .before .before .before .before in
+    let at-loop = at-negative .before .before .before .before .before in
+    omega (arith, at-loop .loop .inv .most)
 
 loop-less : tie.Need-loop-less Inv-loop μ-loop
-loop-less c = omega (arith, read (c .before .before .before .before .before) .low)
+loop-less c =
+    let at-negative = c .before .before .before .before .before in
+    omega (arith, read (at-negative) .low)
 
 loop-again : tie.Need-loop-again Inv-loop μ-loop
-loop-again c = list-more (c .before .before .before .before .before .before .before .before .before .before .loop .inv) (read (c .before .before .before .before .before)) (c .before .before .before .before .before .before .before .before .if1 .left) (c .before .before .put-literal .ensures) (c .closed-after .ensures)
+loop-again c =
+    let at-negative = c .before .before .before .before .before in
+    let at-else1 = at-negative .before .before .before in
+    let at-loop = at-else1 .before .before in
+    list-more (at-loop .loop .inv) (read (at-negative)) (at-else1 .if1 .left) (c .before .before .put-literal .ensures) (c .closed-after .ensures)
 
 enum-known-p : tie.Need-enum-known-p Inv-loop μ-loop
 enum-known-p c = c .match .keys2
 
 same-length-2 : tie.Need-same-length-2 Inv-loop μ-loop
-same-length-2 c = wrote-length (c .before .before .before .before .before .before .loop .inv .wrote)
+same-length-2 c =
+    let at-element = c .before .before .before in
+    let at-loop = at-element .before .before .before in
+    wrote-length (at-loop .loop .inv .wrote)
 
 returns-2 : tie.Need-returns-2 Inv-loop μ-loop
-returns-2 c = list-refused (c .before .before .before .before .before .before .loop .inv) (found (c .before .before .before)) (c .before .p .given .1)
+returns-2 c =
+    let at-element = c .before .before .before in
+    let at-loop = at-element .before .before .before in
+    list-refused (at-loop .loop .inv) (found (at-element)) (c .before .p .given .1)
 
 same-length-3 : tie.Need-same-length-3 Inv-loop μ-loop
 same-length-3 c = wrote-length (c .before .before .loop .inv .wrote)

@@ -1,17 +1,17 @@
--- `dimacs_writer::count_lines` meets its contract: the loop keeps `Counting`. Assumes nothing.
+-- `dimacs_writer::count_lines` meets its contract: the loop keeps `LinesCounted`. Assumes nothing.
 use Prim.Native.Nat.{ℕ, _+_, _-_, _/_, _%_}
 use native.Mathlib.Omega.{arith}
 use lib.IntN.{pos}
 use lib.ListN.{length, getD}
 use mathlib.Core.Path.{_≡_, refl, _∙_, ap}
 use Rattle.dimacs_writer.specs.Writer.{written}
-use Rattle.dimacs_writer.proofs.Decimals.{digits-few}
-use Rattle.dimacs_writer.proofs.Lines.{Counting, written-length, count-more, count-over, count-end}
+use Rattle.text.proofs.Decimals.{digits-few}
+use Rattle.dimacs_writer.proofs.Lines.{LinesCounted, written-length, count-more, count-over, count-end}
 use Rattle.dimacs_writer.proofs.count_lines.Statement.{statement}
 use Rattle.dimacs_writer.proofs.count_lines.Tie as tie
 
 abbrev Inv-loop : tie.InvT-loop
-Inv-loop list before n₀ i₀ n i = Counting list before n i
+Inv-loop list before n₀ i₀ n i = LinesCounted list before n i
 
 abbrev μ-loop : tie.MeasureT-loop
 μ-loop list before n₀ i₀ n i = length list - i
@@ -27,7 +27,11 @@ width-requires c κs = tt
 
 -- the bytes of the element
 wide : (c : tie.After-width Inv-loop μ-loop) → c .width .result + c .before .code-at .result % 2 + 1 ≡ length (written (getD (c .before .before .before .before .args .list .now) (c .before .before .before .loop .i) (pos 0)))
-wide c = ap (λ (w : ℕ). w + c .before .code-at .result % 2 + 1) (c .width .ensures) ∙ written-length (getD (c .before .before .before .before .args .list .now) (c .before .before .before .loop .i) (pos 0)) (c .before .code-at .ensures)
+wide c =
+    let at-loop = c .before .before .before in
+    let at-start = at-loop .before in
+    ap (λ (w : ℕ). w + c .before .code-at .result % 2 + 1) (c .width .ensures) ∙ written-length
+    (getD (at-start .args .list .now) (at-loop .loop .i) (pos 0)) (c .before .code-at .ensures)
 
 add-w : tie.Need-add-w Inv-loop μ-loop
 add-w c = omega (arith, digits-few 19 (c .before .code-at .result / 2) (omega arith))

@@ -5,12 +5,12 @@ use native.Mathlib.Omega.{arith}
 use Prim.Native.Nat.{_-_}
 use Rattle.rules.specs.Record.{puzzle}
 use Rattle.rules.specs.Board.{gridBoard}
-use Rattle.judge_cells.proofs.Lines.{Counting, count-start, count-few, count-end, count-inside, count-on}
+use Rattle.judge_cells.proofs.Lines.{CountedTo, count-start, count-few, count-end, count-inside, count-on}
 use Rattle.encoder_size.proofs.open_on_line.Statement.{statement}
 use Rattle.encoder_size.proofs.open_on_line.Tie as tie
 
 abbrev Inv-loop : tie.InvT-loop
-Inv-loop g «record» x d cells y₀ count₀ j₀ y count j = Counting (puzzle g «record») d x (gridBoard g «record» .isOpen) y count j
+Inv-loop g «record» x d cells y₀ count₀ j₀ y count j = CountedTo (puzzle g «record») d x (gridBoard g «record» .isOpen) y count j
 
 abbrev μ-loop : tie.MeasureT-loop
 μ-loop g «record» x d cells y₀ count₀ j₀ y count j = cells - j

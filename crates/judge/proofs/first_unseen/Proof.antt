@@ -24,7 +24,10 @@ unseen-at-requires : tie.Need-unseen-at-requires Inv-loop μ-loop
 unseen-at-requires c κs = search needs
 
 returns : tie.Need-returns Inv-loop μ-loop
-returns c = seek-found (c .before .before .before .loop .inv) (c .before .before .loop-test .taken) (sym (c .before .unseen-at .ensures) ∙ c .if1 .taken) (c .before .before .before .before .size .ensures)
+returns c =
+    let at-loop = c .before .before .before in
+    let at-size = at-loop .before in
+    seek-found (at-loop .loop .inv) (c .before .before .loop-test .taken) (sym (c .before .unseen-at .ensures) ∙ c .if1 .taken) (at-size .size .ensures)
 
 add-x : tie.Need-add-x Inv-loop μ-loop
 add-x c = search needs

@@ -20,13 +20,26 @@ enum-told : tie.Need-enum-told
 enum-told c = search needs
 
 returns : tie.Need-returns
-returns c = no-white (gridBoard (c .before .before .before .before .before .args .g) (c .before .before .before .before .before .args .«record» .now)) (c .before .before .before .before .before .args .drawing .now) (found-none (c .enum-told .given .1) (c .before .before .first .ensures))
+returns c =
+    let at-start = c .before .before .before .before .before in
+    no-white (gridBoard (at-start .args .g) (at-start .args .«record» .now)) (at-start .args .drawing .now)
+    (found-none (c .enum-told .given .1) (c .before .before .first .ensures))
 
 slice-aggregate-trace : tie.Need-slice-aggregate-trace
 slice-aggregate-trace c = search needs
 
 trace-requires : tie.Need-trace-requires
-trace-requires c κs = (record { sides = c .before .before .before .before .before .before .before .pre .recordFits .sides; inside = first-below (whiteAt (gridBoard (c .before .before .before .before .before .before .before .args .g) (c .before .before .before .before .before .before .before .args .«record» .now)) (c .before .before .before .before .before .before .before .args .drawing .now)) (size (c .before .before .before .before .before .before .before .args .g)) (found-at (c .before .before .p .given .1) (c .before .before .before .before .first .ensures)) }, (c .before .before .before .before .before .before .before .pre .drawn, c .before .before .before .before .before .before .before .pre .recordFits .sides .few))
+trace-requires c κs =
+    let at-first = c .before .before .before .before in
+    let at-start = at-first .before .before .before in (
+      record {
+        sides = at-start .pre .recordFits .sides;
+        inside = first-below
+            (whiteAt (gridBoard (at-start .args .g) (at-start .args .«record» .now)) (at-start .args .drawing .now)) (size (at-start .args .g))
+            (found-at (c .before .before .p .given .1) (at-first .first .ensures));
+      },
+      (at-start .pre .drawn, at-start .pre .recordFits .sides .few),
+    )
 
 slice-aggregate-first-unseen : tie.Need-slice-aggregate-first-unseen
 slice-aggregate-first-unseen c = search needs
@@ -35,7 +48,15 @@ first-unseen-requires : tie.Need-first-unseen-requires
 first-unseen-requires c κs = search needs
 
 returns-2 : tie.Need-returns-2
-returns-2 c = from-white (gridBoard (c .before .before .before .before .before .before .before .before .before .before .before .args .g) (c .before .before .before .before .before .before .before .before .before .before .before .args .«record» .now)) (c .before .before .before .before .before .before .before .before .before .before .before .args .drawing .now) (found-at (c .before .before .before .before .before .before .p .given .1) (c .before .before .before .before .before .before .before .before .first .ensures)) (c .first-unseen .ensures ∙ unseen-off (gridBoard (c .before .before .before .before .before .before .before .before .before .before .before .args .g) (c .before .before .before .before .before .before .before .before .before .before .before .args .«record» .now)) (c .before .before .before .before .before .before .before .before .before .before .before .args .drawing .now) (c .before .before .before .before .before .before .p .given .0 .0) (c .before .before .before .before .before .before .before .before .before .before .before .pre .recordFits .sides .few) (c .before .before .before .trace .ensures))
+returns-2 c =
+    let at-trace = c .before .before .before in
+    let at-p = at-trace .before .before .before in
+    let at-first = at-p .before .before in
+    let at-start = at-first .before .before .before in
+    from-white (gridBoard (at-start .args .g) (at-start .args .«record» .now)) (at-start .args .drawing .now)
+    (found-at (at-p .p .given .1) (at-first .first .ensures)) (c .first-unseen .ensures ∙ unseen-off
+    (gridBoard (at-start .args .g) (at-start .args .«record» .now)) (at-start .args .drawing .now) (at-p .p .given .0 .0)
+    (at-start .pre .recordFits .sides .few) (at-trace .trace .ensures))
 
 pub not-one-loop-spec : {M : Type 1} → statement M
 not-one-loop-spec =

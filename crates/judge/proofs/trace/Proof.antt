@@ -16,7 +16,9 @@ size-requires : tie.Need-size-requires Inv-loop μ-loop
 size-requires c κs = c .before .before .pre .0 .sides
 
 loop-holds : tie.Need-loop-holds Inv-loop μ-loop
-loop-holds c = trace-start (c .before .before .before .args .drawing .now) (c .before .before .before .args .seen .now) (c .before .before .before .pre .0) (c .size .ensures)
+loop-holds c =
+    let at-start = c .before .before .before in
+    trace-start (at-start .args .drawing .now) (at-start .args .seen .now) (at-start .pre .0) (c .size .ensures)
 
 slice-write-seen : tie.Need-slice-write-seen Inv-loop μ-loop
 slice-write-seen c = omega (arith, c .before .loop .inv .on .inside, c .before .loop .inv .long)
@@ -37,10 +39,20 @@ left-after-requires : tie.Need-left-after-requires Inv-loop μ-loop
 left-after-requires c κs = search needs
 
 loop-less : tie.Need-loop-less Inv-loop μ-loop
-loop-less c = left-less (c .before .before .before .before .go .result) (c .before .before .before .before .before .before .before .before .before .before .args .s) (c .before .before .before .before .before .before .loop .left) (c .before .before .before .before .before .loop-test .taken) (c .left-after .ensures)
+loop-less c =
+    let at-go = c .before .before .before .before in
+    let in-loop = at-go .before in
+    let at-loop = in-loop .before in
+    let at-start = at-loop .before .before .before .before in
+    left-less (at-go .go .result) (at-start .args .s) (at-loop .loop .left) (in-loop .loop-test .taken) (c .left-after .ensures)
 
 loop-again : tie.Need-loop-again Inv-loop μ-loop
-loop-again c = trace-on (c .before .before .before .before .before .before .loop .inv) (c .before .before .before .before .before .loop-test .taken) (c .before .before .before .before .go .ensures) (c .before .before .opposite .ensures) (c .before .other .ensures) (c .left-after .ensures)
+loop-again c =
+    let at-go = c .before .before .before .before in
+    let in-loop = at-go .before in
+    let at-loop = in-loop .before in
+    trace-on (at-loop .loop .inv) (in-loop .loop-test .taken) (at-go .go .ensures) (c .before .before .opposite .ensures) (c .before .other .ensures)
+    (c .left-after .ensures)
 
 same-length : tie.Need-same-length Inv-loop μ-loop
 same-length c = c .before .loop .inv .long

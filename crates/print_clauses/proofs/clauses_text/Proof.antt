@@ -40,7 +40,12 @@ same-length : tie.Need-same-length
 same-length c = search needs
 
 returns : tie.Need-returns
-returns c = wrote-recast (refused-line (outcome-as (sym (c .before .before .before .outcome .ensures)) (call (c .before .before .before .before .before .before .before .before))) _ (refused-number (c .before .before .before .before .before .enum-told .given .1) (c .before .before .before .outcome .ensures))) (c .before .before .put-refused .ensures)
+returns c =
+    let at-outcome = c .before .before .before in
+    let at-enum-told = at-outcome .before .before in
+    let at-encode = at-enum-told .before .before .before in
+    wrote-recast (refused-line (outcome-as (sym (at-outcome .outcome .ensures)) (call (at-encode))) _
+    (refused-number (at-enum-told .enum-told .given .1) (at-outcome .outcome .ensures))) (c .before .before .put-refused .ensures)
 
 put-refused-requires-2 : tie.Need-put-refused-requires-2
 put-refused-requires-2 c κs = search needs
@@ -49,22 +54,40 @@ same-length-2 : tie.Need-same-length-2
 same-length-2 c = search needs
 
 returns-2 : tie.Need-returns-2
-returns-2 c = wrote-recast (large-line (answered (c .before .before .before .before .before .before .before .before .before) (c .before .before .before .before .before .before .e .given .1)) refl _ (omega (arith, c .before .before .before .before .if1 .taken))) (c .before .before .put-refused2 .ensures)
+returns-2 c =
+    let at-then1 = c .before .before .before .before in
+    let at-e = at-then1 .before .before in
+    let at-encode = at-e .before .before .before in
+    wrote-recast (large-line (answered (at-encode) (at-e .e .given .1)) refl _ (omega (arith, at-then1 .if1 .taken)))
+    (c .before .before .put-refused2 .ensures)
 
 array-share-prefix-list : tie.Need-array-share-prefix-list
-array-share-prefix-list c = listed-inside (answered (c .before .before .before .before .before .before) (c .before .before .before .e .given .1)) refl
+array-share-prefix-list c =
+    let at-e = c .before .before .before in
+    let at-encode = at-e .before .before .before in
+    listed-inside (answered (at-encode) (at-e .e .given .1)) refl
 
 slice-aggregate-put-text : tie.Need-slice-aggregate-put-text
-slice-aggregate-put-text c = listed-long (answered (c .before .before .before .before .before .before .before) (c .before .before .before .before .e .given .1)) refl
+slice-aggregate-put-text c =
+    let at-e = c .before .before .before .before in
+    let at-encode = at-e .before .before .before in
+    listed-long (answered (at-encode) (at-e .e .given .1)) refl
 
 put-text-requires : tie.Need-put-text-requires
-put-text-requires c κs = listed-fits (answered (c .before .before .before .before .before .before .before) (c .before .before .before .before .e .given .1)) (omega (arith, c .before .before .if1 .left))
+put-text-requires c κs =
+    let at-e = c .before .before .before .before in
+    let at-encode = at-e .before .before .before in
+    listed-fits (answered (at-encode) (at-e .e .given .1)) (omega (arith, c .before .before .if1 .left))
 
 same-length-3 : tie.Need-same-length-3
 same-length-3 c = search needs
 
 returns-3 : tie.Need-returns-3
-returns-3 c = ends-listed (answered (c .before .before .before .before .before .before .before .before .before .before) (c .before .before .before .before .before .before .before .e .given .1)) (omega (arith, c .before .before .before .before .before .if1 .left)) (c .before .before .put-text .ensures)
+returns-3 c =
+    let at-else1 = c .before .before .before .before .before in
+    let at-e = at-else1 .before .before in
+    let at-encode = at-e .before .before .before in
+    ends-listed (answered (at-encode) (at-e .e .given .1)) (omega (arith, at-else1 .if1 .left)) (c .before .before .put-text .ensures)
 
 pub clauses-text-spec : {M : Type 1} → statement M
 clauses-text-spec =

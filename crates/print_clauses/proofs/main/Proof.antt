@@ -11,7 +11,10 @@ use Rattle.print_clauses.proofs.main.Tie as tie
 
 -- what is printed fits the text
 fits : (c : tie.After-clauses-text) → length (printedClauses (take (c .before .before .before .before .before .read-full .result) (c .before .before .before .before .before .read-full .last .1 .0))) ≤ length (c .before .before .before .large-buffer2 .result)
-fits c = omega (arith, clauses-fit (take (c .before .before .before .before .before .read-full .result) (c .before .before .before .before .before .read-full .last .1 .0)), c .before .before .before .large-buffer2 .ensures)
+fits c =
+    let at-large-buffer2 = c .before .before .before in
+    let at-read-full = at-large-buffer2 .before .before in
+    omega (arith, clauses-fit (take (at-read-full .read-full .result) (at-read-full .read-full .last .1 .0)), at-large-buffer2 .large-buffer2 .ensures)
 
 large-buffer-requires : tie.Need-large-buffer-requires
 large-buffer-requires c κs = search needs

@@ -14,7 +14,10 @@ same-length : tie.Need-same-length
 same-length c = search needs
 
 returns : tie.Need-returns
-returns c = wrote-after (c .before .before .before .before .before .before .put-header .ensures) (c .before .before .put-lines .ensures)
+returns c =
+    let at-put-lines-arg = c .before .before .before in
+    let at-put-header = at-put-lines-arg .before .before .before in
+    wrote-after (at-put-header .put-header .ensures) (c .before .before .put-lines .ensures)
 
 pub put-text-spec : {M : Type 1} → statement M
 put-text-spec = tie.close (tie.spec put-header-requires put-lines-requires same-length returns)

@@ -23,11 +23,13 @@ put-byte-requires-3 c κs = search needs
 
 returns : tie.Need-returns
 returns c =
-    wrote-after
-    (wrote-after
-    (wrote-recast (ap (λ d. d ∷ []) (c .before .before .before .before .before .before .before .before .before .before .before .before .hex-digit .ensures)) (c .before .before .before .before .before .before .before .before .before .before .before .put-byte .ensures))
-    (wrote-recast (ap (λ d. d ∷ []) (c .before .before .before .before .before .before .before .hex-digit2 .ensures)) (c .before .before .before .before .before .before .put-byte2 .ensures)))
-    (c .before .before .put-byte3 .ensures)
+    let at-put-byte-arg3 = c .before .before .before in
+    let at-put-byte2 = at-put-byte-arg3 .before .before .before in
+    let at-hex-digit2 = at-put-byte2 .before in
+    let at-put-byte = at-hex-digit2 .before .before .before .before in
+    let at-hex-digit = at-put-byte .before in
+    wrote-after (wrote-after (wrote-recast (ap (λ d. d ∷ []) (at-hex-digit .hex-digit .ensures)) (at-put-byte .put-byte .ensures))
+    (wrote-recast (ap (λ d. d ∷ []) (at-hex-digit2 .hex-digit2 .ensures)) (at-put-byte2 .put-byte2 .ensures))) (c .before .before .put-byte3 .ensures)
 
 same-length : tie.Need-same-length
 same-length c = wrote-length (returns c)

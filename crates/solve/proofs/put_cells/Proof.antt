@@ -1,49 +1,40 @@
 -- `solve::put_cells` meets its contract. Assumes nothing.
 use native.Mathlib.Omega.{arith}
+use lib.ListN.{length, take}
 use lib.Seq.{length-take-le}
-use mathlib.Core.Path.{sym}
-use Rattle.rules.specs.Record.{sides, size}
+use mathlib.Core.Path.{_≡_, sym, ap}
+use Rattle.answers.proofs.Lent.{wrote-recast}
+use Rattle.program_text.specs.Lines.{drawingText}
 use borrow.Author.Needs.{needs}
 use Rattle.solve.proofs.put_cells.Statement.{statement}
 use Rattle.solve.proofs.put_cells.Tie as tie
 
-shared-slice-read-rows : tie.Need-shared-slice-read-rows
-shared-slice-read-rows c = search needs
+abbrev start : tie.After-size → tie.Start
+start c = c .before .before .before
 
-cast-rows : tie.Need-cast-rows
-cast-rows c = omega (arith, c .shared-slice-known3 .given 4)
+-- the drawing has so many bytes
+many : (c : tie.After-size) → length (take (c .size .result) (start c .args .drawing .now)) ≡ c .size .result
+many c = length-take-le (c .size .result) (start c .args .drawing .now) (omega (arith, start c .pre .1, c .size .ensures))
 
-shared-slice-read-columns : tie.Need-shared-slice-read-columns
-shared-slice-read-columns c = search needs
-
-cast-columns : tie.Need-cast-columns
-cast-columns c = search needs
-
-mul-n : tie.Need-mul-n
-mul-n c = search needs
+size-requires : tie.Need-size-requires
+size-requires c κs = search needs
 
 slice-aggregate-put-drawing : tie.Need-slice-aggregate-put-drawing
-slice-aggregate-put-drawing c = sym (length-take-le (size (sides (c .before .before .before .before .before .before .before .args .«record» .now))) (c .before .before .before .before .before .before .before .args .drawing .now) (c .before .before .before .before .before .before .before .pre .1))
+slice-aggregate-put-drawing c = sym (many (c .before .before))
 
 put-drawing-requires : tie.Need-put-drawing-requires
-put-drawing-requires c κs = (c .before .before .before .before .before .before .before .pre .0 .sides .wide, omega (arith, length-take-le (size (sides (c .before .before .before .before .before .before .before .args .«record» .now))) (c .before .before .before .before .before .before .before .args .drawing .now) (c .before .before .before .before .before .before .before .pre .1)))
+put-drawing-requires c κs = let z = c .before .before in (start z .pre .0 .wide, omega (arith, many z, z .size .ensures, start z .pre .0 .few))
 
 same-length : tie.Need-same-length
 same-length c = search needs
 
 returns : tie.Need-returns
-returns c = search needs
+returns c =
+    let d = c .before .before in
+    let z = d .before .before .before in
+    wrote-recast (ap (λ n. drawingText (start z .args .g .columns) (take n (start z .args .drawing .now))) (z .size .ensures)) (d .put-drawing .ensures)
 
 pub put-cells-spec : {M : Type 1} → statement M
 put-cells-spec =
     tie.close
-    (tie.spec
-    shared-slice-read-rows
-    cast-rows
-    shared-slice-read-columns
-    cast-columns
-    mul-n
-    slice-aggregate-put-drawing
-    put-drawing-requires
-    same-length
-    returns)
+    (tie.spec size-requires slice-aggregate-put-drawing put-drawing-requires same-length returns)

@@ -29,10 +29,14 @@ returns : tie.Need-returns
 returns c = c .answered .ensures ∙ sym (ap readingOutcome (c .before .before .self .given .1))
 
 returns-2 : tie.Need-returns-2
-returns-2 c = c .refused .ensures ∙ sym (ap readRefusalOutcome (c .before .before .why .given .1)) ∙ sym (ap readingOutcome (c .before .before .before .before .before .self2 .given .1))
+returns-2 c =
+    let at-self2 = c .before .before .before .before .before in
+    c .refused .ensures ∙ sym (ap readRefusalOutcome (c .before .before .why .given .1)) ∙ sym (ap readingOutcome (at-self2 .self2 .given .1))
 
 returns-3 : tie.Need-returns-3
-returns-3 c = c .refused2 .ensures ∙ sym (ap readRefusalOutcome (c .before .before .why2 .given .1)) ∙ sym (ap readingOutcome (c .before .before .before .before .before .self2 .given .1))
+returns-3 c =
+    let at-self2 = c .before .before .before .before .before in
+    c .refused2 .ensures ∙ sym (ap readRefusalOutcome (c .before .before .why2 .given .1)) ∙ sym (ap readingOutcome (at-self2 .self2 .given .1))
 
 pub outcome-spec : {M : Type 1} → statement M
 outcome-spec =

@@ -35,13 +35,19 @@ returns : tie.Need-returns
 returns c = c .answered .ensures ∙ sym (ap writtenOutcome (c .before .before .self .given .1))
 
 returns-2 : tie.Need-returns-2
-returns-2 c = c .refused .ensures ∙ sym (ap writeRefusalOutcome (c .before .enum-told .given .1)) ∙ sym (ap writtenOutcome (c .before .before .before .before .self2 .given .1))
+returns-2 c =
+    let at-self2 = c .before .before .before .before in
+    c .refused .ensures ∙ sym (ap writeRefusalOutcome (c .before .enum-told .given .1)) ∙ sym (ap writtenOutcome (at-self2 .self2 .given .1))
 
 returns-3 : tie.Need-returns-3
-returns-3 c = c .refused2 .ensures ∙ sym (ap writeRefusalOutcome (c .before .before .why .given .1)) ∙ sym (ap writtenOutcome (c .before .before .before .before .before .self2 .given .1))
+returns-3 c =
+    let at-self2 = c .before .before .before .before .before in
+    c .refused2 .ensures ∙ sym (ap writeRefusalOutcome (c .before .before .why .given .1)) ∙ sym (ap writtenOutcome (at-self2 .self2 .given .1))
 
 returns-4 : tie.Need-returns-4
-returns-4 c = c .refused3 .ensures ∙ sym (ap writeRefusalOutcome (c .before .before .why2 .given .1)) ∙ sym (ap writtenOutcome (c .before .before .before .before .before .self2 .given .1))
+returns-4 c =
+    let at-self2 = c .before .before .before .before .before in
+    c .refused3 .ensures ∙ sym (ap writeRefusalOutcome (c .before .before .why2 .given .1)) ∙ sym (ap writtenOutcome (at-self2 .self2 .given .1))
 
 pub outcome-spec : {M : Type 1} → statement M
 outcome-spec =

@@ -23,7 +23,10 @@ other-line-requires : tie.Need-other-line-requires Inv-loop μ-loop
 other-line-requires c κs = tt
 
 returns : tie.Need-returns Inv-loop μ-loop
-returns c = comments-out (omega arith) (c .before .before .byte-at .ensures) (c .before .before .before .before .loop .inside) (c .before .before .before .before .loop .inv) (sym (c .before .other-line .ensures) ∙ c .if1 .taken)
+returns c =
+    let at-loop = c .before .before .before .before in
+    comments-out (omega arith) (c .before .before .byte-at .ensures) (at-loop .loop .inside) (at-loop .loop .inv)
+    (sym (c .before .other-line .ensures) ∙ c .if1 .taken)
 
 add-at : tie.Need-add-at Inv-loop μ-loop
 add-at c = omega arith
@@ -32,7 +35,10 @@ loop-less : tie.Need-loop-less Inv-loop μ-loop
 loop-less c = omega arith
 
 loop-again : tie.Need-loop-again Inv-loop μ-loop
-loop-again c = comments-on (omega arith) (c .before .before .byte-at .ensures) (c .before .before .before .before .loop .inside) (c .before .before .before .before .loop .inv) (sym (c .before .other-line .ensures) ∙ c .if1 .left)
+loop-again c =
+    let at-loop = c .before .before .before .before in
+    comments-on (omega arith) (c .before .before .byte-at .ensures) (at-loop .loop .inside) (at-loop .loop .inv)
+    (sym (c .before .other-line .ensures) ∙ c .if1 .left)
 
 returns-2 : tie.Need-returns-2 Inv-loop μ-loop
 returns-2 c = comments-end (omega arith) (c .before .loop .inside) (c .before .loop .inv)

@@ -12,10 +12,15 @@ unsigned-requires : tie.Need-unsigned-requires
 unsigned-requires c κs = tt
 
 returns : tie.Need-returns
-returns c = λ h k begun p n. element-plus (c .before .before .before .before .pre) (c .before .before .byte-at .ensures) h k begun n (c .before .if1 .taken) (c .unsigned .result) (c .unsigned .ensures h k p)
+returns c =
+    let at-start = c .before .before .before .before in
+    λ h k begun p n. element-plus (at-start .pre) (c .before .before .byte-at .ensures) h k begun n (c .before .if1 .taken) (c .unsigned .result)
+    (c .unsigned .ensures h k p)
 
 returns-2 : tie.Need-returns-2
-returns-2 c = λ h k begun p n. element-none (c .before .before .before .before .pre) (c .before .before .byte-at .ensures) h k begun n (c .before .if1 .left) (p ∙ c .if2 .taken)
+returns-2 c =
+    let at-start = c .before .before .before .before in
+    λ h k begun p n. element-none (at-start .pre) (c .before .before .byte-at .ensures) h k begun n (c .before .if1 .left) (p ∙ c .if2 .taken)
 
 add-t6 : tie.Need-add-t6
 add-t6 c = omega arith
@@ -24,7 +29,11 @@ unsigned-requires-2 : tie.Need-unsigned-requires-2
 unsigned-requires-2 c κs = tt
 
 returns-3 : tie.Need-returns-3
-returns-3 c = λ h k begun p n. element-minus (c .before .before .before .before .before .pre) (c .before .before .before .byte-at .ensures) h k begun n (c .before .before .if1 .left) (λ z. c .before .if2 .left (sym p ∙ z)) (c .unsigned2 .result) (c .unsigned2 .ensures h k p)
+returns-3 c =
+    let at-byte-at = c .before .before .before in
+    let at-start = at-byte-at .before .before in
+    λ h k begun p n. element-minus (at-start .pre) (at-byte-at .byte-at .ensures) h k begun n (c .before .before .if1 .left)
+    (λ z. c .before .if2 .left (sym p ∙ z)) (c .unsigned2 .result) (c .unsigned2 .ensures h k p)
 
 pub element-spec : {M : Type 1} → statement M
 element-spec =

@@ -12,22 +12,42 @@ enum-known-x : tie.Need-enum-known-x
 enum-known-x c = c .match .keys1
 
 byte-at-requires : tie.Need-byte-at-requires
-byte-at-requires c κs = number-inside (c .before .before .before .before .before .args .text .now) (c .before .before .before .before .before .args .self .at) (c .before .before .before .number .ensures) (c .before .x .given .1)
+byte-at-requires c κs =
+    let at-number = c .before .before .before in
+    let at-start = at-number .before .before in
+    number-inside (at-start .args .text .now) (at-start .args .self .at) (at-number .number .ensures) (c .before .x .given .1)
 
 returns : tie.Need-returns
-returns c = λ n after p q f. field-wrong (c .before .before .before .before .before .before .before .args .text .now) (c .before .before .before .before .before .before .before .args .self .at) n (c .before .before .before .before .before .number .ensures n p q) (c .before .before .before .x .given .1) (c .before .byte-at .ensures) (c .before .before .before .before .before .before .before .args .end) after f (c .if1 .taken)
+returns c =
+    let at-x = c .before .before .before in
+    let at-number = at-x .before .before in
+    let at-start = at-number .before .before in
+    λ n after p q f. field-wrong (at-start .args .text .now) (at-start .args .self .at) n (at-number .number .ensures n p q) (at-x .x .given .1)
+    (c .before .byte-at .ensures) (at-start .args .end) after f (c .if1 .taken)
 
 add-t11 : tie.Need-add-t11
-add-t11 c = omega (arith, number-inside (c .before .before .before .before .before .before .before .args .text .now) (c .before .before .before .before .before .before .before .args .self .at) (c .before .before .before .before .before .number .ensures) (c .before .before .before .x .given .1))
+add-t11 c =
+    let at-x = c .before .before .before in
+    let at-number = at-x .before .before in
+    let at-start = at-number .before .before in
+    omega (arith, number-inside (at-start .args .text .now) (at-start .args .self .at) (at-number .number .ensures) (at-x .x .given .1))
 
 enum-known-at : tie.Need-enum-known-at
 enum-known-at c = c .match .keys2
 
 returns-2 : tie.Need-returns-2
-returns-2 c = λ n after p q f. field-right (c .before .before .before .before .before .before .before .args .text .now) (c .before .before .before .before .before .before .before .args .self .at) n (c .before .before .before .before .before .number .ensures n p q) (c .before .before .before .x .given .1) (c .before .byte-at .ensures) (c .before .before .before .before .before .before .before .args .end) after f (c .if1 .left)
+returns-2 c =
+    let at-x = c .before .before .before in
+    let at-number = at-x .before .before in
+    let at-start = at-number .before .before in
+    λ n after p q f. field-right (at-start .args .text .now) (at-start .args .self .at) n (at-number .number .ensures n p q) (at-x .x .given .1)
+    (c .before .byte-at .ensures) (at-start .args .end) after f (c .if1 .left)
 
 returns-3 : tie.Need-returns-3
-returns-3 c = λ n after p q f. number-refused (c .before .before .before .before .before .args .text .now) (c .before .before .before .before .before .args .self .at) n (c .before .before .before .number .ensures n p q) (c .before .at .given .1)
+returns-3 c =
+    let at-number = c .before .before .before in
+    let at-start = at-number .before .before in
+    λ n after p q f. number-refused (at-start .args .text .now) (at-start .args .self .at) n (at-number .number .ensures n p q) (c .before .at .given .1)
 
 pub field-spec : {M : Type 1} → statement M
 field-spec =

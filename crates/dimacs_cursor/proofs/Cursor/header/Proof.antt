@@ -28,13 +28,32 @@ enum-known-at-2 : tie.Need-enum-known-at-2
 enum-known-at-2 c = c .match .keys2
 
 returns : tie.Need-returns
-returns c = head-after (run-then (pass-read (c .before .before .before .before .before .before .before .before .before .before .args .text .now) line (c .before .before .before .before .before .before .before .before .before .before .args .self .at) (word preamble) (c .before .before .before .before .before .before .before .before .after-comments .ensures) (c .before .before .before .before .before .before .first .given .1)) (pass-read (c .before .before .before .before .before .before .before .before .before .before .args .text .now) (word preamble) (c .before .before .before .before .before .before .first .given .0 .0 .at) (first ofVariables) (c .before .before .before .before .word .ensures) (c .before .before .next .given .1))) (c .counts .result) (c .counts .ensures)
+returns c =
+    let at-word = c .before .before .before .before in
+    let at-first = at-word .before .before in
+    let at-after-comments = at-first .before .before in
+    let at-start = at-after-comments .before .before in
+    head-after (run-then (pass-read (at-start .args .text .now) line (at-start .args .self .at) (word preamble)
+    (at-after-comments .after-comments .ensures) (at-first .first .given .1))
+    (pass-read (at-start .args .text .now) (word preamble) (at-first .first .given .0 .0 .at) (first ofVariables) (at-word .word .ensures)
+    (c .before .before .next .given .1))) (c .counts .result) (c .counts .ensures)
 
 returns-2 : tie.Need-returns-2
-returns-2 c = run-dead (pass-read (c .before .before .before .before .before .before .before .before .before .args .text .now) line (c .before .before .before .before .before .before .before .before .before .args .self .at) (word preamble) (c .before .before .before .before .before .before .before .after-comments .ensures) (c .before .before .before .before .before .first .given .1)) (pass-refused (c .before .before .before .before .before .before .before .before .before .args .text .now) (word preamble) (c .before .before .before .before .before .first .given .0 .0 .at) (first ofVariables) (c .before .before .before .word .ensures) (c .before .at .given .1))
+returns-2 c =
+    let at-word = c .before .before .before in
+    let at-first = at-word .before .before in
+    let at-after-comments = at-first .before .before in
+    let at-start = at-after-comments .before .before in
+    run-dead (pass-read (at-start .args .text .now) line (at-start .args .self .at) (word preamble) (at-after-comments .after-comments .ensures)
+    (at-first .first .given .1)) (pass-refused (at-start .args .text .now) (word preamble) (at-first .first .given .0 .0 .at) (first ofVariables)
+    (at-word .word .ensures) (c .before .at .given .1))
 
 returns-3 : tie.Need-returns-3
-returns-3 c = pass-refused (c .before .before .before .before .before .args .text .now) line (c .before .before .before .before .before .args .self .at) (word preamble) (c .before .before .before .after-comments .ensures) (c .before .at2 .given .1)
+returns-3 c =
+    let at-after-comments = c .before .before .before in
+    let at-start = at-after-comments .before .before in
+    pass-refused (at-start .args .text .now) line (at-start .args .self .at) (word preamble) (at-after-comments .after-comments .ensures)
+    (c .before .at2 .given .1)
 
 pub header-spec : {M : Type 1} → statement M
 header-spec =

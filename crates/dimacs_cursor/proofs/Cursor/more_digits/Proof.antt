@@ -27,7 +27,9 @@ is-digit-requires : tie.Need-is-digit-requires Inv-loop μ-loop
 is-digit-requires c κs = tt
 
 returns : tie.Need-returns Inv-loop μ-loop
-returns c = digits-ended (c .before .before .before .before .loop .inv) (omega arith) (c .before .before .byte-at .ensures) (sym (c .before .is-digit .ensures) ∙ not-true _ (c .if1 .taken))
+returns c =
+    let at-loop = c .before .before .before .before in
+    digits-ended (at-loop .loop .inv) (omega arith) (c .before .before .byte-at .ensures) (sym (c .before .is-digit .ensures) ∙ not-true _ (c .if1 .taken))
 
 -- the byte is a digit
 is-one : (c : tie.Else1 Inv-loop μ-loop) → isDigit (c .before .before .byte-at .result) ≡ true
@@ -40,7 +42,11 @@ goes-on-requires : tie.Need-goes-on-requires Inv-loop μ-loop
 goes-on-requires c κs = tt
 
 returns-2 : tie.Need-returns-2 Inv-loop μ-loop
-returns-2 c = digits-over (c .before .before .before .before .before .before .loop .inv) (omega arith) (c .before .before .before .before .byte-at .ensures) (is-one (c .before .before)) (sym (c .before .goes-on .ensures) ∙ not-true _ (c .if2 .taken))
+returns-2 c =
+    let at-byte-at = c .before .before .before .before in
+    let at-loop = at-byte-at .before .before in
+    digits-over (at-loop .loop .inv) (omega arith) (at-byte-at .byte-at .ensures) (is-one (c .before .before))
+    (sym (c .before .goes-on .ensures) ∙ not-true _ (c .if2 .taken))
 
 add-at : tie.Need-add-at Inv-loop μ-loop
 add-at c = omega arith
@@ -49,7 +55,11 @@ loop-less : tie.Need-loop-less Inv-loop μ-loop
 loop-less c = omega arith
 
 loop-again : tie.Need-loop-again Inv-loop μ-loop
-loop-again c = digits-more (c .before .before .before .before .before .before .loop .inv) (omega arith) (c .before .before .before .before .byte-at .ensures) (is-one (c .before .before)) (sym (c .before .goes-on .ensures) ∙ not-false _ (c .if2 .left))
+loop-again c =
+    let at-byte-at = c .before .before .before .before in
+    let at-loop = at-byte-at .before .before in
+    digits-more (at-loop .loop .inv) (omega arith) (at-byte-at .byte-at .ensures) (is-one (c .before .before))
+    (sym (c .before .goes-on .ensures) ∙ not-false _ (c .if2 .left))
 
 add-x : tie.Need-add-x Inv-loop μ-loop
 add-x c = omega (arith, loop-again c .small)

@@ -20,7 +20,9 @@ starts-requires : tie.Need-starts-requires
 starts-requires c κs = tt
 
 returns-2 : tie.Need-returns-2
-returns-2 c = digit-not-first (c .before .before .before .if1 .left) (c .before .before .byte-at .ensures) (sym (c .before .starts .ensures) ∙ not-true _ (c .if2 .taken))
+returns-2 c =
+    let at-else1 = c .before .before .before in
+    digit-not-first (at-else1 .if1 .left) (c .before .before .byte-at .ensures) (sym (c .before .starts .ensures) ∙ not-true _ (c .if2 .taken))
 
 is-first : (c : tie.Else2) → isFirst (c .before .before .byte-at .result) (c .before .before .before .before .before .args .bound) (c .before .before .before .before .before .args .zero) ≡ true
 is-first c = sym (c .before .starts .ensures) ∙ not-false _ (c .if2 .left)
@@ -29,13 +31,21 @@ add-more-digits : tie.Need-add-more-digits
 add-more-digits c = omega arith
 
 sub-more-digits : tie.Need-sub-more-digits
-sub-more-digits c = first-above (c .before .before .byte-at .result) (c .before .before .before .before .before .args .bound) (c .before .before .before .before .before .args .zero) (is-first c)
+sub-more-digits c =
+    let at-start = c .before .before .before .before .before in
+    first-above (c .before .before .byte-at .result) (at-start .args .bound) (at-start .args .zero) (is-first c)
 
 more-digits-requires : tie.Need-more-digits-requires
-more-digits-requires c κs = first-small (c .before .before .byte-at .result) (c .before .before .before .before .before .args .bound) (c .before .before .before .before .before .args .zero) (is-first c)
+more-digits-requires c κs =
+    let at-start = c .before .before .before .before .before in
+    first-small (c .before .before .byte-at .result) (at-start .args .bound) (at-start .args .zero) (is-first c)
 
 returns-3 : tie.Need-returns-3
-returns-3 c = λ n p q. first-more (digit-first (c .before .before .before .before .if1 .left) (c .before .before .before .byte-at .ensures) (is-first (c .before)) n p q) (c .more-digits .result) (c .more-digits .ensures n p)
+returns-3 c =
+    let at-byte-at = c .before .before .before in
+    let at-else1 = at-byte-at .before in
+    λ n p q. first-more (digit-first (at-else1 .if1 .left) (at-byte-at .byte-at .ensures) (is-first (c .before)) n p q) (c .more-digits .result)
+    (c .more-digits .ensures n p)
 
 pub number-spec : {M : Type 1} → statement M
 number-spec =

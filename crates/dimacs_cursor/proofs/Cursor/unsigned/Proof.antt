@@ -14,25 +14,48 @@ enum-known-x : tie.Need-enum-known-x
 enum-known-x c = c .match .keys1
 
 byte-at-requires : tie.Need-byte-at-requires
-byte-at-requires c κs = number-inside (c .before .before .before .before .before .args .text .now) (c .before .before .before .before .before .args .self .at) (c .before .before .before .number .ensures) (c .before .x .given .1)
+byte-at-requires c κs =
+    let at-number = c .before .before .before in
+    let at-start = at-number .before .before in
+    number-inside (at-start .args .text .now) (at-start .args .self .at) (at-number .number .ensures) (c .before .x .given .1)
 
 behind-requires : tie.Need-behind-requires
 behind-requires c κs = tt
 
 returns : tie.Need-returns
-returns c = λ h k p. element-wrong (c .before .before .before .before .before .before .before .before .args .text .now) (c .before .before .before .before .before .before .before .before .args .self .at) h k (c .before .before .before .before .before .before .before .before .args .negative) (c .before .before .before .before .before .before .number .ensures (element h k (c .before .before .before .before .before .before .before .before .args .negative)) p refl) (c .before .before .before .before .x .given .1) (c .before .before .byte-at .ensures) (λ z. c .if1 .taken (z ∙ sym (c .before .behind .ensures)))
+returns c =
+    let at-x = c .before .before .before .before in
+    let at-number = at-x .before .before in
+    let at-start = at-number .before .before in
+    λ h k p. element-wrong (at-start .args .text .now) (at-start .args .self .at) h k (at-start .args .negative)
+    (at-number .number .ensures (element h k (at-start .args .negative)) p refl) (at-x .x .given .1) (c .before .before .byte-at .ensures)
+    (λ z. c .if1 .taken (z ∙ sym (c .before .behind .ensures)))
 
 add-t12 : tie.Need-add-t12
-add-t12 c = omega (arith, number-inside (c .before .before .before .before .before .before .before .before .args .text .now) (c .before .before .before .before .before .before .before .before .args .self .at) (c .before .before .before .before .before .before .number .ensures) (c .before .before .before .before .x .given .1))
+add-t12 c =
+    let at-x = c .before .before .before .before in
+    let at-number = at-x .before .before in
+    let at-start = at-number .before .before in
+    omega (arith, number-inside (at-start .args .text .now) (at-start .args .self .at) (at-number .number .ensures) (at-x .x .given .1))
 
 enum-known-at : tie.Need-enum-known-at
 enum-known-at c = c .match .keys2
 
 returns-2 : tie.Need-returns-2
-returns-2 c = λ h k p. element-right (c .before .before .before .before .before .before .before .before .args .text .now) (c .before .before .before .before .before .before .before .before .args .self .at) h k (c .before .before .before .before .before .before .before .before .args .negative) (c .before .before .before .before .before .before .number .ensures (element h k (c .before .before .before .before .before .before .before .before .args .negative)) p refl) (c .before .before .before .before .x .given .1) (c .before .before .byte-at .ensures) (c .if1 .left ∙ c .before .behind .ensures)
+returns-2 c =
+    let at-x = c .before .before .before .before in
+    let at-number = at-x .before .before in
+    let at-start = at-number .before .before in
+    λ h k p. element-right (at-start .args .text .now) (at-start .args .self .at) h k (at-start .args .negative)
+    (at-number .number .ensures (element h k (at-start .args .negative)) p refl) (at-x .x .given .1) (c .before .before .byte-at .ensures)
+    (c .if1 .left ∙ c .before .behind .ensures)
 
 returns-3 : tie.Need-returns-3
-returns-3 c = λ h k p. number-refused (c .before .before .before .before .before .args .text .now) (c .before .before .before .before .before .args .self .at) (element h k (c .before .before .before .before .before .args .negative)) (c .before .before .before .number .ensures (element h k (c .before .before .before .before .before .args .negative)) p refl) (c .before .at .given .1)
+returns-3 c =
+    let at-number = c .before .before .before in
+    let at-start = at-number .before .before in
+    λ h k p. number-refused (at-start .args .text .now) (at-start .args .self .at) (element h k (at-start .args .negative))
+    (at-number .number .ensures (element h k (at-start .args .negative)) p refl) (c .before .at .given .1)
 
 pub unsigned-spec : {M : Type 1} → statement M
 unsigned-spec =

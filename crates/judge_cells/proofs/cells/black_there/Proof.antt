@@ -19,13 +19,26 @@ enum-told : tie.Need-enum-told
 enum-told c = search needs
 
 returns : tie.Need-returns
-returns c = ap (there (blackAt (c .before .before .before .before .args .drawing .now))) (found-none (c .enum-told .given .1) (c .before .before .neighbour .ensures))
+returns c =
+    let at-start = c .before .before .before .before in
+    ap (there (blackAt (at-start .args .drawing .now))) (found-none (c .enum-told .given .1) (c .before .before .neighbour .ensures))
 
 shared-slice-read-result : tie.Need-shared-slice-read-result
-shared-slice-read-result c = omega (arith, stays-on (c .before .before .before .before .before .before .pre .0) (c .before .before .before .before .before .before .args .d) (found-at (c .before .before .p .given .1) (c .before .before .before .before .neighbour .ensures)) .inside, c .before .before .before .before .before .before .pre .1)
+shared-slice-read-result c =
+    let at-neighbour = c .before .before .before .before in
+    let at-start = at-neighbour .before .before in
+    omega (
+      arith,
+      stays-on (at-start .pre .0) (at-start .args .d)
+          (found-at (c .before .before .p .given .1) (at-neighbour .neighbour .ensures)) .inside,
+      at-start .pre .1,
+    )
 
 returns-2 : tie.Need-returns-2
-returns-2 c = ap (there (blackAt (c .before .before .before .before .before .before .args .drawing .now))) (found-at (c .before .before .p .given .1) (c .before .before .before .before .neighbour .ensures))
+returns-2 c =
+    let at-neighbour = c .before .before .before .before in
+    let at-start = at-neighbour .before .before in
+    ap (there (blackAt (at-start .args .drawing .now))) (found-at (c .before .before .p .given .1) (at-neighbour .neighbour .ensures))
 
 pub black-there-spec : {M : Type 1} → statement M
 black-there-spec =

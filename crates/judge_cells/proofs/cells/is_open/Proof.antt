@@ -16,10 +16,14 @@ enum-told-2 : tie.Need-enum-told-2
 enum-told-2 c = search needs
 
 returns : tie.Need-returns
-returns c = sym (ap openCell (c .enum-told2 .given .1)) ∙ is-opened (c .before .before .before .before .pre .0) (c .before .before .before .before .pre .1) (c .before .before .cell .ensures)
+returns c =
+    let at-start = c .before .before .before .before in
+    sym (ap openCell (c .enum-told2 .given .1)) ∙ is-opened (at-start .pre .0) (at-start .pre .1) (c .before .before .cell .ensures)
 
 returns-2 : tie.Need-returns-2
-returns-2 c = sym (ap openCell (c .enum-told .given .1)) ∙ is-opened (c .before .before .before .before .pre .0) (c .before .before .before .before .pre .1) (c .before .before .cell .ensures)
+returns-2 c =
+    let at-start = c .before .before .before .before in
+    sym (ap openCell (c .enum-told .given .1)) ∙ is-opened (at-start .pre .0) (at-start .pre .1) (c .before .before .cell .ensures)
 
 pub is-open-spec : {M : Type 1} → statement M
 is-open-spec = tie.close (tie.spec cell-requires enum-told enum-told-2 returns returns-2)

@@ -21,7 +21,9 @@ black-there-requires-2 : tie.Need-black-there-requires-2
 black-there-requires-2 c κs = search needs
 
 returns-3 : tie.Need-returns-3
-returns-3 c = c .black-there2 .ensures ∙ rw (eq-eqb _ _ (c .before .before .before .if1 .left), sym (c .before .before .black-there .ensures) ∙ c .before .if2 .left)
+returns-3 c =
+    let at-else1 = c .before .before .before in
+    c .black-there2 .ensures ∙ rw (eq-eqb _ _ (at-else1 .if1 .left), sym (c .before .before .black-there .ensures) ∙ c .before .if2 .left)
 
 pub touches-at-spec : {M : Type 1} → statement M
 touches-at-spec =

@@ -1,4 +1,4 @@
--- `judge_cells::cells::unmatchedLink` meets its contract. Assumes nothing.
+-- `judge_cells::cells::unmatched_link` meets its contract. Assumes nothing.
 use mathlib.Core.Path.{sym, _∙_, ap}
 use native.Mathlib.Omega.{arith}
 use borrow.Author.Tests.{not-true, not-false}
@@ -29,19 +29,42 @@ enum-told : tie.Need-enum-told
 enum-told c = search needs
 
 returns-2 : tie.Need-returns-2
-returns-2 c = rw (sym (c .before .before .before .before .linked .ensures) ∙ not-false _ (c .before .before .before .if1 .left), sym (found-none (c .enum-told .given .1) (c .before .before .neighbour .ensures)))
+returns-2 c =
+    let at-else1 = c .before .before .before in
+    let at-linked = at-else1 .before in
+    rw (
+      sym (at-linked .linked .ensures) ∙ not-false _ (at-else1 .if1 .left),
+      sym
+          (found-none (c .enum-told .given .1) (c .before .before .neighbour .ensures)),
+    )
 
 opposite-requires : tie.Need-opposite-requires
 opposite-requires c κs = search needs
 
 shared-slice-read-linked-2 : tie.Need-shared-slice-read-linked-2
-shared-slice-read-linked-2 c = omega (arith, stays-on (on-drawn (c .before .before .before .before .before .before .before .before .before .before .before .pre .0) (c .before .before .before .before .before .before .before .before .before .before .before .pre .1)) (c .before .before .before .before .before .before .before .before .before .before .before .args .d) (found-at (c .before .before .before .p .given .1) (c .before .before .before .before .before .neighbour .ensures)) .inside, c .before .before .before .before .before .before .before .before .before .before .before .pre .0 .drawn)
+shared-slice-read-linked-2 c =
+    let at-p = c .before .before .before in
+    let at-neighbour = at-p .before .before in
+    let at-linked = at-neighbour .before .before in
+    let at-start = at-linked .before .before .before .before in
+    omega (
+      arith,
+      stays-on (on-drawn (at-start .pre .0) (at-start .pre .1)) (at-start .args .d)
+          (found-at (at-p .p .given .1) (at-neighbour .neighbour .ensures)) .inside,
+      at-start .pre .0 .drawn,
+    )
 
 linked-requires-2 : tie.Need-linked-requires-2
 linked-requires-2 c κs = search needs
 
 returns-3 : tie.Need-returns-3
-returns-3 c = rw (sym (c .before .before .before .before .before .before .before .before .linked .ensures) ∙ not-false _ (c .before .before .before .before .before .before .before .if1 .left), sym (found-at (c .before .before .before .before .p .given .1) (c .before .before .before .before .before .before .neighbour .ensures))) (ap not (rw (c .before .before .opposite .ensures) at (c .linked2 .ensures)))
+returns-3 c =
+    let at-p = c .before .before .before .before in
+    let at-neighbour = at-p .before .before in
+    let at-else1 = at-neighbour .before in
+    let at-linked = at-else1 .before in
+    rw (sym (at-linked .linked .ensures) ∙ not-false _ (at-else1 .if1 .left), sym (found-at (at-p .p .given .1) (at-neighbour .neighbour .ensures)))
+    (ap not (rw (c .before .before .opposite .ensures) at (c .linked2 .ensures)))
 
 pub unmatched-link-spec : {M : Type 1} → statement M
 unmatched-link-spec =

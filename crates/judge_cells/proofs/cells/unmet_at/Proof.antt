@@ -17,7 +17,10 @@ enum-told : tie.Need-enum-told
 enum-told c = search needs
 
 returns : tie.Need-returns
-returns c = ap (unmetCell (puzzle (c .before .before .before .before .before .args .g) (c .before .before .before .before .before .args .«record» .now)) (blackAt (c .before .before .before .before .before .args .drawing .now)) (c .before .before .before .before .before .args .x)) (sym (c .enum-told .given .1) ∙ c .before .before .cell .ensures)
+returns c =
+    let at-start = c .before .before .before .before .before in
+    ap (unmetCell (puzzle (at-start .args .g) (at-start .args .«record» .now)) (blackAt (at-start .args .drawing .now)) (at-start .args .x))
+    (sym (c .enum-told .given .1) ∙ c .before .before .cell .ensures)
 
 black-count-requires : tie.Need-black-count-requires
 black-count-requires c κs = search needs
@@ -26,7 +29,11 @@ cast-result : tie.Need-cast-result
 cast-result c = search needs
 
 returns-2 : tie.Need-returns-2
-returns-2 c = rw (c .black-count .ensures) (ap (unmetCell (puzzle (c .before .before .before .before .before .before .before .args .g) (c .before .before .before .before .before .before .before .args .«record» .now)) (blackAt (c .before .before .before .before .before .before .before .args .drawing .now)) (c .before .before .before .before .before .before .before .args .x)) (sym (c .before .before .c .given .1) ∙ c .before .before .before .before .cell .ensures))
+returns-2 c =
+    let at-cell = c .before .before .before .before in
+    let at-start = at-cell .before .before .before in
+    rw (c .black-count .ensures) (ap (unmetCell (puzzle (at-start .args .g) (at-start .args .«record» .now)) (blackAt (at-start .args .drawing .now))
+    (at-start .args .x)) (sym (c .before .before .c .given .1) ∙ at-cell .cell .ensures))
 
 pub unmet-at-spec : {M : Type 1} → statement M
 unmet-at-spec =

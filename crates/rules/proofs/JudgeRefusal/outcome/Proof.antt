@@ -20,62 +20,17 @@ refused-requires c κs = search needs
 enum-known-self-2 : tie.Need-enum-known-self-2
 enum-known-self-2 c = search needs
 
-refused-requires-2 : tie.Need-refused-requires-2
-refused-requires-2 c κs = search needs
-
-enum-known-self-3 : tie.Need-enum-known-self-3
-enum-known-self-3 c = search needs
-
-refused-requires-3 : tie.Need-refused-requires-3
-refused-requires-3 c κs = search needs
-
-enum-known-self-4 : tie.Need-enum-known-self-4
-enum-known-self-4 c = search needs
-
-refused-requires-4 : tie.Need-refused-requires-4
-refused-requires-4 c κs = search needs
-
-enum-known-self-5 : tie.Need-enum-known-self-5
-enum-known-self-5 c = search needs
-
-refused-requires-5 : tie.Need-refused-requires-5
-refused-requires-5 c κs = search needs
-
-enum-known-self-6 : tie.Need-enum-known-self-6
-enum-known-self-6 c = search needs
-
-refused-requires-6 : tie.Need-refused-requires-6
-refused-requires-6 c κs = search needs
-
-enum-known-self-7 : tie.Need-enum-known-self-7
-enum-known-self-7 c = search needs
-
-refused-requires-7 : tie.Need-refused-requires-7
-refused-requires-7 c κs = search needs
+outcome-requires-2 : tie.Need-outcome-requires-2
+outcome-requires-2 c κs = search needs
 
 returns : tie.Need-returns
-returns c = c .outcome .ensures ∙ sym (ap judgeRefusalOutcome (c .before .before .self .given .1))
+returns c = search needs
 
 returns-2 : tie.Need-returns-2
 returns-2 c = c .refused .ensures ∙ sym (ap judgeRefusalOutcome (c .before .enum-told .given .1))
 
 returns-3 : tie.Need-returns-3
-returns-3 c = c .refused2 .ensures ∙ sym (ap judgeRefusalOutcome (c .before .before .self2 .given .1))
-
-returns-4 : tie.Need-returns-4
-returns-4 c = c .refused3 .ensures ∙ sym (ap judgeRefusalOutcome (c .before .before .self3 .given .1))
-
-returns-5 : tie.Need-returns-5
-returns-5 c = c .refused4 .ensures ∙ sym (ap judgeRefusalOutcome (c .before .before .self4 .given .1))
-
-returns-6 : tie.Need-returns-6
-returns-6 c = c .refused5 .ensures ∙ sym (ap judgeRefusalOutcome (c .before .before .self5 .given .1))
-
-returns-7 : tie.Need-returns-7
-returns-7 c = c .refused6 .ensures ∙ sym (ap judgeRefusalOutcome (c .before .before .self6 .given .1))
-
-returns-8 : tie.Need-returns-8
-returns-8 c = c .refused7 .ensures ∙ sym (ap judgeRefusalOutcome (c .before .before .self7 .given .1))
+returns-3 c = search needs
 
 pub outcome-spec : {M : Type 1} → statement M
 outcome-spec =
@@ -86,22 +41,7 @@ outcome-spec =
     enum-told
     refused-requires
     enum-known-self-2
-    refused-requires-2
-    enum-known-self-3
-    refused-requires-3
-    enum-known-self-4
-    refused-requires-4
-    enum-known-self-5
-    refused-requires-5
-    enum-known-self-6
-    refused-requires-6
-    enum-known-self-7
-    refused-requires-7
+    outcome-requires-2
     returns
     returns-2
-    returns-3
-    returns-4
-    returns-5
-    returns-6
-    returns-7
-    returns-8)
+    returns-3)

@@ -1,11 +1,11 @@
--- `program_text::put_word` meets its contract: the loop keeps `Putting`. Assumes nothing.
+-- `text::put_word` meets its contract: the loop keeps `Putting`. Assumes nothing.
 use Prim.Native.Nat.{_≤_, _-_}
 use native.Mathlib.Omega.{arith}
 use lib.ListN.{length, drop, length-drop}
 use Rattle.answers.proofs.Lent.{wrote-length}
-use Rattle.program_text.proofs.Lines.{Putting, put-start, put-room, put-more, put-end, word-from, word-end}
-use Rattle.program_text.proofs.put_word.Statement.{statement}
-use Rattle.program_text.proofs.put_word.Tie as tie
+use Rattle.text.proofs.Parts.{Putting, put-start, put-room, put-more, put-end, word-from, word-end}
+use Rattle.text.proofs.put_word.Statement.{statement}
+use Rattle.text.proofs.put_word.Tie as tie
 
 abbrev Inv-loop : tie.InvT-loop
 Inv-loop text₀ at word p₀ i₀ text p i = (i ≤ length word) × Putting word text₀ at text p (drop i word)
@@ -20,7 +20,10 @@ shared-slice-read-put-byte : tie.Need-shared-slice-read-put-byte Inv-loop μ-loo
 shared-slice-read-put-byte c = omega arith
 
 put-byte-requires : tie.Need-put-byte-requires Inv-loop μ-loop
-put-byte-requires c κs = omega (arith, put-room (c .before .before .before .loop .inv .1), length-drop (c .before .before .before .loop .i) (c .before .before .before .before .before .before .args .word .now))
+put-byte-requires c κs =
+    let at-loop = c .before .before .before in
+    let at-start = at-loop .before .before .before in
+    omega (arith, put-room (at-loop .loop .inv .1), length-drop (at-loop .loop .i) (at-start .args .word .now))
 
 add-i : tie.Need-add-i Inv-loop μ-loop
 add-i c = omega arith
@@ -29,7 +32,14 @@ loop-less : tie.Need-loop-less Inv-loop μ-loop
 loop-less c = omega arith
 
 loop-again : tie.Need-loop-again Inv-loop μ-loop
-loop-again c = (omega arith, put-more (c .before .before .before .before .before .before .loop .inv .1) (word-from (c .before .before .before .before .before .before .before .before .before .args .word .now) (c .before .before .before .before .before .before .loop .i) (omega arith)) (c .before .before .put-byte .ensures))
+loop-again c =
+    let at-put-byte-arg = c .before .before .before .before in
+    let at-loop = at-put-byte-arg .before .before in
+    let at-start = at-loop .before .before .before in (
+      omega arith,
+      put-more (at-loop .loop .inv .1) (word-from (at-start .args .word .now) (at-loop .loop .i) (omega arith))
+          (c .before .before .put-byte .ensures),
+    )
 
 same-length : tie.Need-same-length Inv-loop μ-loop
 same-length c = wrote-length (c .before .loop .inv .1 .wrote)

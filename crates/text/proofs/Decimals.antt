@@ -8,7 +8,7 @@ use lib.ListN.{length, length-append}
 use mathlib.Core.Path.{_≡_, refl, sym, _∙_, ap}
 use mathlib.Core.Bool.{Bool, true, false}
 use mathlib.Core.List.{List, [], _∷_, _++_}
-use Rattle.dimacs.specs.Text.{digit, decimalStep, decimalIn, decimal}
+use Rattle.text.specs.Decimal.{digit, decimalStep, decimalIn, decimal}
 
 -- a number has no more digits than are allowed for
 fuel : (a b n : ℕ) → n < a → n < b → decimalIn a n ≡ decimalIn b n

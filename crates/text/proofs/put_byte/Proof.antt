@@ -1,9 +1,9 @@
--- `dimacs_writer::put_byte` meets its contract. Assumes nothing.
+-- `text::put_byte` meets its contract. Assumes nothing.
 use native.Mathlib.Omega.{arith}
 use Rattle.answers.proofs.Lent.{wrote-out}
 use borrow.Author.Needs.{needs}
-use Rattle.dimacs_writer.proofs.put_byte.Statement.{statement}
-use Rattle.dimacs_writer.proofs.put_byte.Tie as tie
+use Rattle.text.proofs.put_byte.Statement.{statement}
+use Rattle.text.proofs.put_byte.Tie as tie
 
 add-next : tie.Need-add-next
 add-next c = omega arith

@@ -1,18 +1,18 @@
--- `dimacs_writer::put_decimal` meets its contract: each call has a tenth of the number. Assumes nothing.
+-- `text::put_decimal` meets its contract: each call has a tenth of the number. Assumes nothing.
 use native.Mathlib.Omega.{arith}
 use mathlib.Core.Path.{ap}
 use lib.ListN.{length}
 use Rattle.answers.proofs.Lent.{wrote-after, wrote-recast, wrote-length}
-use Rattle.dimacs_writer.proofs.Decimals.{decimal-one, decimal-more, tenth}
+use Rattle.text.proofs.Decimals.{decimal-one, decimal-more, tenth}
 use Prim.Native.Nat.{ℕ, _<_}
 use borrow.Fn.Kinds.{In}
 use borrow.Fn.PlainCycle.{Measures, is, falls, and}
-use Rattle.dimacs_writer.proofs.put_decimal.Reads as put-decimal
-use Rattle.dimacs_writer.proofs.put_decimal.Kinds as put-decimal-kinds
-use Rattle.dimacs_writer.proofs.+put_decimal.Lts-put_decimal as put-decimal-lts
-use Rattle.dimacs_writer.proofs.put_byte.Reads as put-byte-reads
-use Rattle.dimacs_writer.proofs.+put_decimal.{statement}
-use Rattle.dimacs_writer.proofs.+put_decimal.Tie.{close}
+use Rattle.text.proofs.put_decimal.Reads as put-decimal
+use Rattle.text.proofs.put_decimal.Kinds as put-decimal-kinds
+use Rattle.text.proofs.+put_decimal.Lts-put_decimal as put-decimal-lts
+use Rattle.text.proofs.put_byte.Reads as put-byte-reads
+use Rattle.text.proofs.+put_decimal.{statement}
+use Rattle.text.proofs.+put_decimal.Tie.{close}
 
 abbrev μ-put-decimal : Measures 1 put-decimal-kinds.ps ℕ
 μ-put-decimal κs a = a .1 .1 .0

@@ -1,9 +1,9 @@
--- `dimacs_writer::width` meets its contract. Assumes nothing.
+-- `text::width` meets its contract. Assumes nothing.
 use native.Mathlib.Omega.{arith}
 use Prim.Native.Nat.{_/_}
-use Rattle.dimacs_writer.proofs.Decimals.{digits-after, digits-few}
-use Rattle.dimacs_writer.proofs.width.Statement.{statement}
-use Rattle.dimacs_writer.proofs.width.Tie as tie
+use Rattle.text.proofs.Decimals.{digits-after, digits-few}
+use Rattle.text.proofs.width.Statement.{statement}
+use Rattle.text.proofs.width.Tie as tie
 
 narrow-width-requires : tie.Need-narrow-width-requires
 narrow-width-requires c κs = c .if1 .taken
@@ -27,7 +27,9 @@ add-result-2 : tie.Need-add-result-2
 add-result-2 c = omega (arith, digits-few 7 (c .before .before .before .args .n / 100000000 / 100000000) (omega arith))
 
 returns-3 : tie.Need-returns-3
-returns-3 c = omega (arith, digits-after 8 (c .before .before .before .args .n) (c .before .before .if1 .left), digits-after 8 (c .before .before .before .args .n / 100000000) (c .before .if2 .left))
+returns-3 c =
+    let at-start = c .before .before .before in
+    omega (arith, digits-after 8 (at-start .args .n) (c .before .before .if1 .left), digits-after 8 (at-start .args .n / 100000000) (c .before .if2 .left))
 
 pub width-spec : {M : Type 1} → statement M
 width-spec =
