@@ -3,31 +3,26 @@ use Prim.Native.Nat.{ℕ, _≤_}
 use native.Mathlib.Omega.{arith}
 use lib.ListN.{length, take, drop, drop-of-length-le}
 use lib.Seq.{take-at, take-length}
-use borrow.Author.Tests.{eqb-true, ne-eqb, not-false}
+use borrow.Author.Tests.{eq-eqb, eqb-true, ne-eqb, not-false}
 use mathlib.Core.Path.{_≡_, refl, sym, _∙_, ap}
-use mathlib.Core.Bool.{cond}
+use mathlib.Core.Bool.{not, cond}
 use mathlib.Core.List.{List, _++_, map, append-nil}
 use Rattle.answers.specs.declared.Outcome.{Outcome}
-use Rattle.answers.specs.Outcome.{Row, firstRefusal}
+use Rattle.answers.specs.Outcome.{Row, cause, unless, firstRefusal}
 use Rattle.answers.specs.Lent.{filled, unlessRefused}
 use Rattle.answers.proofs.OneToOne.{number-not}
 use Rattle.answers.proofs.Rows.{Clear, answered-clear, clear-answered, no-cause, still-refused, refusals-append}
-use Rattle.rules.specs.Judge.{saysYes}
-use Rattle.rules.proofs.Records.{refusal-number}
-use Rattle.rules.proofs.Outcomes.{judge-numbers}
+use Rattle.rules.specs.Board.{Board}
+use Rattle.rules.specs.Judge.{ruleRows, judgeRows, saysYes}
 use Rattle.encoder.specs.Lists.{upTo}
 use Rattle.encoder.proofs.Lists.{made-long}
 use Rattle.decoder.specs.declared.DecodeRefusal.{DecodeRefusal}
-use Rattle.decoder.specs.declared.DecodeRefusal.the-variants.{Record, ValuesLength, DrawingLength, Value, Judged}
 use Rattle.decoder.specs.Answer.{decodeRefusalOutcome, valueRows}
+use Rattle.decoder.proofs.Outcomes.{decode-numbers}
 
 -- no refusal has the number 0
 undrawn-number : (u : DecodeRefusal) → decodeRefusalOutcome u .number ≡ 0 → ⊥
-undrawn-number (Record r) e = refusal-number r e
-undrawn-number ValuesLength e = omega arith
-undrawn-number DrawingLength e = omega arith
-undrawn-number (Value n) e = omega arith
-undrawn-number (Judged f) e = number-not judge-numbers f (omega arith) e
+undrawn-number u e = number-not decode-numbers u (omega arith) e
 
 -- a refusal leaves the drawing as it was; where the judge says yes it is what the values give
 module _ (rows : List Row) (lent drawn : List ℕ) where
@@ -62,3 +57,7 @@ front f m buf e h = (λ i. take (e i) (h i)) ∙ take-at (map f (upTo m)) _ m (m
 -- a whole copy
 pub copied : (src lent : List ℕ) → length lent ≡ length src → take (length src) src ++ drop (length src) lent ≡ src
 copied src lent e = let h : length lent ≤ length src = omega arith in (λ i. take-length src i ++ drop-of-length-le lent h i) ∙ append-nil src
+
+-- a drawing of N bytes: the judge's rows are the rules'
+pub rules-left : (b : Board) (ds : List ℕ) → length ds ≡ b .size → firstRefusal (ruleRows b ds) saysYes ≡ firstRefusal (judgeRows b ds) saysYes
+rules-left b ds e = sym (ap (λ t. unless 7 (cause (not t)) (firstRefusal (ruleRows b ds) saysYes)) (eq-eqb _ _ e))

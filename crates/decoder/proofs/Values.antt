@@ -1,32 +1,32 @@
 -- The values of variables by their places, and the links and bytes that they give. Assumes nothing.
-use Prim.Native.Nat.{ℕ, _+_, _<_, _≤_}
+use Prim.Native.Nat.{ℕ, _+_, _-_, _<_, _≤_}
 use native.Mathlib.Omega.{arith}
 use native.Mathlib.Nat.{zero-add}
 use lib.ListN.{length, getD}
 use borrow.Author.Tests.{eq-eqb, ne-eqb}
-use mathlib.Core.Path.{_≡_, sym, _∙_, ap}
-use mathlib.Core.Bool.{Bool, true, false, _||_}
-use mathlib.Core.Option.{none, some, Option·some-injective, Option·some-ne-none}
+use mathlib.Core.Path.{_≡_, refl, sym, _∙_, ap}
+use mathlib.Core.Bool.{Bool, true, false, cond, _||_}
+use mathlib.Core.Option.{Option, none, some, Option·some-ne-none}
 use mathlib.Core.List.{List}
-use Rattle.answers.proofs.Bools.{clash, off}
+use Rattle.answers.proofs.Bools.{off}
 use Rattle.rules.specs.declared.Direction.{Direction}
 use Rattle.rules.specs.declared.Direction.the-variants.{North as north, East as east, South as south, West as west}
 use Rattle.rules.specs.declared.Grid.{Grid}
 use Rattle.rules.specs.Directions.{opposite, bit}
-use Rattle.rules.specs.Record.{size, puzzle}
 use Rattle.rules.specs.Board.{Board, gridBoard}
 use Rattle.rules.specs.Drawing.{linkSum}
 use Rattle.rules.specs.Judge.{there}
-use Rattle.rules.proofs.Boards.{Laws, laws}
-use Rattle.rules.proofs.Records.{held-filled}
+use Rattle.rules.proofs.Boards.{Laws}
 use Rattle.judge_cells.proofs.Checks.{bit-small}
-use Rattle.encoder.specs.Variables.{Variable, Z, E, variables, place}
+use Rattle.encoder.specs.Variables.{Variable, Z, E, variables, place, number}
 use Rattle.encoder.specs.Decoding.{valueOf, drawnLink, drawnByte}
 use Rattle.encoder.proofs.Known.{Known, in-variables}
-use Rattle.encoder.proofs.Places.{rank, place-z, place-e}
+use Rattle.encoder.proofs.Places.{place-z}
 use Rattle.encoder.proofs.Values.{value-known}
 use Rattle.encoder.proofs.Bounds.{place-below}
-use Rattle.encoder_numbers.specs.Tables.{linkPlace}
+use Rattle.encoder_numbers.specs.declared.Sizes.{Sizes}
+use Rattle.encoder_numbers.specs.Tables.{sizesBelow, ifOpenCell, openNeighbour, OpenPair}
+use Rattle.encoder_numbers.proofs.Neighbours.{held-laws}
 use Rattle.decoder.specs.Values.{Valued}
 
 -- a link, by the values of E either way
@@ -40,7 +40,7 @@ module _ (b : Board) (w : Variable → Bool) where
   pub link-out : (x : ℕ) (d : Direction) → w (E x d) ≡ true → 1 ≡ bit (drawnLink b w x d)
   link-out x d h = (λ i. bit (sym h i || there (λ y. w (E y (opposite d))) (b .next d x)))
 
-module _ {g : Grid} {s values : List ℕ} {f : ℕ} {firsts : List ℕ} (p : Valued g s values f firsts) where
+module _ {g : Grid} {s values table : List ℕ} {sizes : Sizes} (p : Valued g s values sizes table) where
   abbrev b : Board
   b = gridBoard g s
 
@@ -48,14 +48,11 @@ module _ {g : Grid} {s values : List ℕ} {f : ℕ} {firsts : List ℕ} (p : Val
   w = valueOf b values
 
   law : Laws b
-  law = laws (puzzle g s) (held-filled (p .linkVariables .recordFits))
+  law = held-laws (p .tables .recordFits)
 
   -- only a variable has a value that holds
   proper : (v : Variable) → w v ≡ true → Known b v
   proper = value-known b values (p .long)
-
-  pub open-inside : {x : ℕ} → b .isOpen x ≡ true → x < size g
-  open-inside {x} h = law .open-stays x h
 
   -- a variable's place by the code's arithmetic, and what stands there
   pub known-inside : (v : Variable) {i : ℕ} → Known b v → i ≡ place v (variables b) → i < length values
@@ -67,25 +64,36 @@ module _ {g : Grid} {s values : List ℕ} {f : ℕ} {firsts : List ℕ} (p : Val
   pub value-false : (v : Variable) {i : ℕ} → i ≡ place v (variables b) → (getD values i 0 ≡ 1 → ⊥) → w v ≡ false
   value-false v e h = ne-eqb _ _ (λ k. h (ap (λ i. getD values i 0) e ∙ k))
 
-  pub at-z : (x : ℕ) {i : ℕ} → b .isOpen x ≡ true → i ≡ rank b x → i ≡ place (Z x) (variables b)
-  at-z x h e = e ∙ sym (place-z b law x h)
+  pub at-z : (x : ℕ) {z : Sizes} → b .isOpen x ≡ true → z ≡ sizesBelow g s x → z .opens ≡ place (Z x) (variables b)
+  at-z x h e = ap (λ (z : Sizes). z .opens) e ∙ sym (place-z b law x h)
 
-  pub at-e : (x : ℕ) (d : Direction) {i : ℕ} → Known b (E x d) → i ≡ linkPlace b x d → i ≡ place (E x d) (variables b)
-  at-e x d (h, (y, l, o)) e = e ∙ sym (place-e b law x d y h l o)
+  -- E(x,d) of two open cells: its number is one more than its place
+  module _ {x : ℕ} {d : Direction} {y : ℕ} (q : OpenPair g s x d y) {n : ℕ} (e : n ≡ number b (E x d)) where
+    pub link-known : Known b (E x d)
+    link-known = (q .here .opened, (y, q .leads, q .there .opened))
 
-  -- the other way of a link is a variable too
-  pub back-known : (x y : ℕ) (d : Direction) → b .isOpen x ≡ true → some y ≡ b .next d x → b .isOpen y ≡ true → Known b (E y (opposite d))
-  back-known x y d h e o = (o, (x, law .wired .back d x y (sym e), h))
+    pub link-at : n - 1 ≡ place (E x d) (variables b)
+    link-at = omega arith
+
+    pub link-inside : n - 1 < length values
+    link-inside = known-inside (E x d) link-known link-at
+
+    pub link-true : getD values (n - 1) 0 ≡ 1 → w (E x d) ≡ true
+    link-true = value-true (E x d) link-at
+
+    pub link-false : (getD values (n - 1) 0 ≡ 1 → ⊥) → w (E x d) ≡ false
+    link-false = value-false (E x d) link-at
 
   -- no link towards the edge or a clue
-  pub link-nowhere : (x : ℕ) (d : Direction) → none ≡ b .next d x → 0 ≡ bit (drawnLink b w x d)
-  link-nowhere x d e = link-none b w x d (off _ (λ h. let (k, (y, l, o)) = proper (E x d) h in Option·some-ne-none y (sym l ∙ sym e))) e
+  pub link-nowhere : (x : ℕ) (d : Direction) → none ≡ openNeighbour b d x → 0 ≡ bit (drawnLink b w x d)
+  link-nowhere x d e = by (b .next d x) refl e
+    where
+      none-out : (o : Option ℕ) → b .next d x ≡ o → none ≡ ifOpenCell b o → w (E x d) ≡ false
+      none-out o q e = off _ (λ h. let (k, (y, l, i)) = proper (E x d) h in Option·some-ne-none y (sym (e ∙ ap (ifOpenCell b) (sym q ∙ l) ∙ ap (λ t. cond t (some y) none) i)))
 
-  pub link-clue : (x y : ℕ) (d : Direction) → some y ≡ b .next d x → b .isOpen y ≡ false → 0 ≡ bit (drawnLink b w x d)
-  link-clue x y d e h =
-      link-some b w x y d e
-      (off _ (λ t. let (k, (z, l, o)) = proper (E x d) t in clash (ap (b .isOpen) (Option·some-injective y z (e ∙ l)) ∙ o) h))
-      (off _ (λ t. clash (proper (E y (opposite d)) t .0) h))
+      by : (o : Option ℕ) → b .next d x ≡ o → none ≡ ifOpenCell b o → 0 ≡ bit (drawnLink b w x d)
+      by none q e = link-none b w x d (none-out none q e) (sym q)
+      by (some y) q e = link-some b w x y d (sym q) (none-out (some y) q e) (off _ (λ t. Option·some-ne-none y (sym (e ∙ ap (λ t. cond t (some y) none) (proper (E y (opposite d)) t .0)))))
 
 -- the bytes of a clue and of an open cell
 module _ (b : Board) (w : Variable → Bool) (x : ℕ) where

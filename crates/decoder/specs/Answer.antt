@@ -7,15 +7,13 @@ use mathlib.Core.List.{List, [], _∷_, _++_}
 use Rattle.answers.specs.declared.Outcome.{Outcome}
 use Rattle.answers.specs.Outcome.{refusal, Row, row, cause}
 use Rattle.rules.specs.declared.Grid.{Grid}
-use Rattle.rules.specs.declared.Parsed.{Parsed}
-use Rattle.rules.specs.declared.Parsed.the-variants.{Accepted, Refused as NotRead}
 use Rattle.rules.specs.Record.{size, recordRefusalOutcome}
 use Rattle.rules.specs.Board.{gridBoard}
-use Rattle.rules.specs.Judge.{judgeRows, saysYes, judgeRefusalOutcome}
+use Rattle.rules.specs.Judge.{judgeRows, saysYes, ruleRefusalOutcome}
 use Rattle.encoder.specs.Variables.{variableCount}
 use Rattle.encoder.specs.Decoding.{decoded, wrongValue}
 use Rattle.decoder.specs.declared.DecodeRefusal.{DecodeRefusal}
-use Rattle.decoder.specs.declared.DecodeRefusal.the-variants.{Record, ValuesLength, DrawingLength, Value, Judged}
+use Rattle.decoder.specs.declared.DecodeRefusal.the-variants.{Record, ValuesLength, DrawingLength, Value, Rule}
 use Rattle.decoder.specs.declared.Decoded.{Decoded}
 use Rattle.decoder.specs.declared.Decoded.the-variants.{Drawn, Refused}
 
@@ -24,16 +22,11 @@ decodeRefusalOutcome (Record r) = recordRefusalOutcome r
 decodeRefusalOutcome ValuesLength = refusal 8 0
 decodeRefusalOutcome DrawingLength = refusal 7 0
 decodeRefusalOutcome (Value n) = refusal 9 n
-decodeRefusalOutcome (Judged f) = judgeRefusalOutcome f
+decodeRefusalOutcome (Rule f) = ruleRefusalOutcome f
 
 abbrev pub decodedOutcome : Decoded → Outcome
 decodedOutcome Drawn = saysYes
 decodedOutcome (Refused u) = decodeRefusalOutcome u
-
--- a refusal of the record reader is passed up unchanged (an accepted record has none to pass up)
-abbrev pub passedUp : Parsed → Decoded
-passedUp (Accepted g) = Drawn
-passedUp (NotRead r) = Refused (Record r)
 
 -- 8, 7 and 9, with V, N and the length of the lent drawing
 abbrev pub valueRows : ℕ → ℕ → List ℕ → ℕ → List Row

@@ -7,35 +7,36 @@ ghost use Rattle.answers.specs.Outcome.{firstRefusal};
 ghost use Rattle.answers.specs.Lent.{unlessRefused};
 ghost use Rattle.rules.specs.Record.{size, RecordFits};
 ghost use Rattle.rules.specs.Board.{gridBoard};
-ghost use Rattle.rules.specs.Judge.{judgeRows, saysYes, verdictOutcome};
+ghost use Rattle.rules.specs.Judge.{judgeRows, saysYes, ruleVerdictOutcome};
 ghost use Rattle.encoder.specs.Decoding.{decoded, decoderAnswer, decoderLeaves};
-ghost use Rattle.decoder.specs.Values.{Numbered};
-ghost use Rattle.decoder.specs.Answer.{valueRows, gridRows, passedUp, decodedOutcome};
+ghost use Rattle.decoder.specs.Values.{Valued};
+ghost use Rattle.decoder.specs.Answer.{valueRows, gridRows, decodedOutcome};
 use answers::Place;
 use drawing::draw;
-use encoder_numbers::tables::fill_first_links;
-use encoder_numbers::tables::fill_ranks;
+use encoder_numbers::Sizes;
+use encoder_numbers::TABLE;
+use encoder_numbers::tables::fill;
 use encoder_numbers::tables::variable_count;
-use judge::judge_grid;
+use judge::judge_rules;
 use rules::Grid;
-use rules::JudgeRefusal;
 use rules::MOST_CELLS;
 use rules::Parsed;
 use rules::RecordRefusal;
-use rules::Verdict;
+use rules::RuleRefusal;
+use rules::RuleVerdict;
 use rules::record::read;
 
 pub mod outcome; // the outcomes in document 01's numbers
 mod drawing; // from values to bytes
 
-// Why values are turned down: the record's refusal, else 8, 7 and 9 of document 01's table, else the judge's.
+// Why values are turned down: the record's refusal, else 8, 7 and 9 of document 01's table, else the rule that the drawing breaks.
 pub enum DecodeRefusal {
     Record(RecordRefusal),
     ValuesLength,
     DrawingLength,
     // The number of the first variable whose value is not 0 or 1.
     Value(usize),
-    Judged(JudgeRefusal),
+    Rule(RuleRefusal),
 }
 
 pub enum Decoded {
@@ -75,13 +76,13 @@ fn check(values: &[u8], v: usize, n: usize, lent: usize) -> Decoded
 }
 
 // What the judge's verdict makes of the call.
-fn answer(verdict: Verdict) -> Decoded
-    ensures { λ r. ⌜ decodedOutcome r ≡ verdictOutcome verdict ⌝ }
+fn answer(verdict: RuleVerdict) -> Decoded
+    ensures { λ r. ⌜ decodedOutcome r ≡ ruleVerdictOutcome verdict ⌝ }
 {
-    let Verdict::No(f) = verdict else {
+    let RuleVerdict::Broken(f) = verdict else {
         return Decoded::Drawn;
     };
-    Decoded::Refused(DecodeRefusal::Judged(f))
+    Decoded::Refused(DecodeRefusal::Rule(f))
 }
 
 // Draws into an array of its own, and hands the drawing out if the judge says yes.
@@ -89,20 +90,19 @@ fn judged(
     g: Grid,
     record: &[u8],
     values: &[u8],
-    open: usize,
-    ranks: &[usize],
-    firsts: &[usize],
+    sizes: Sizes,
+    table: &[usize],
     drawing: &mut [u8],
 ) -> Decoded
-    requires { ⌜ Numbered g (now «record») (now values) «open» (now ranks) (now firsts) ⌝ }
+    requires { ⌜ Valued g (now «record») (now values) sizes (now table) ⌝ }
     requires { ⌜ length (now drawing) ≡ size g ⌝ }
     ensures { λ r. ⌜ decodedOutcome r ≡ firstRefusal (judgeRows (gridBoard g (now («record» .entry))) (decoded (gridBoard g (now («record» .entry))) (now (values .entry)))) saysYes ⌝ }
     ensures { λ r. ⌜ now (drawing .exit) ≡ unlessRefused (firstRefusal (judgeRows (gridBoard g (now («record» .entry))) (decoded (gridBoard g (now («record» .entry))) (now (values .entry)))) saysYes) (now (drawing .entry)) (decoded (gridBoard g (now («record» .entry))) (now (values .entry))) ⌝ }
 {
     let mut own = [0u8; MOST_CELLS];
-    draw(g, record, values, open, ranks, firsts, &mut own);
+    draw(g, record, values, sizes, table, &mut own);
     let n = g.size();
-    let verdict = judge_grid(g, record, &own[..n]);
+    let verdict = judge_rules(g, record, &own[..n]);
     let answered = answer(verdict);
     let Decoded::Drawn = answered else {
         return answered;
@@ -117,27 +117,15 @@ pub fn decode_grid(g: Grid, record: &[u8], values: &[u8], drawing: &mut [u8]) ->
     ensures { λ r. ⌜ decodedOutcome r ≡ firstRefusal (gridRows g (now («record» .entry)) (now (values .entry)) (now (drawing .entry))) saysYes ⌝ }
     ensures { λ r. ⌜ now (drawing .exit) ≡ unlessRefused (firstRefusal (gridRows g (now («record» .entry)) (now (values .entry)) (now (drawing .entry))) saysYes) (now (drawing .entry)) (decoded (gridBoard g (now («record» .entry))) (now (values .entry))) ⌝ }
 {
-    let mut ranks = [0usize; MOST_CELLS];
-    let mut firsts = [0usize; MOST_CELLS];
-    let open = fill_ranks(g, record, &mut ranks);
-    let links = fill_first_links(g, record, &mut firsts);
-    let v = variable_count(g, record, open, links);
+    let mut table = [0usize; TABLE];
+    let sizes = fill(g, record, &mut table);
+    let v = variable_count(g, record, sizes);
     let n = g.size();
     let checked = check(values, v, n, drawing.len());
     let Decoded::Drawn = checked else {
         return checked;
     };
-    judged(g, record, values, open, &ranks, &firsts, drawing)
-}
-
-// A refusal of the record reader, passed up unchanged.
-fn passed_up(p: Parsed) -> Decoded
-    ensures { λ r. ⌜ r ≡ passedUp p ⌝ }
-{
-    let Parsed::Refused(r) = p else {
-        return Decoded::Drawn;
-    };
-    Decoded::Refused(DecodeRefusal::Record(r))
+    judged(g, record, values, sizes, &table, drawing)
 }
 
 // Draws the values, or names the first cause against it.
@@ -147,7 +135,7 @@ pub fn decode(record: &[u8], values: &[u8], drawing: &mut [u8]) -> Decoded
 {
     let p = read(record);
     let Parsed::Accepted(g) = p else {
-        return passed_up(p);
+        return Decoded::Refused(DecodeRefusal::Record(p.refusal()));
     };
     decode_grid(g, record, values, drawing)
 }

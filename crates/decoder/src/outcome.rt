@@ -17,7 +17,7 @@ impl DecodeRefusal {
             DecodeRefusal::ValuesLength => refused(8, 0),
             DecodeRefusal::DrawingLength => refused(7, 0),
             DecodeRefusal::Value(n) => refused(9, n as u64),
-            DecodeRefusal::Judged(f) => f.outcome(),
+            DecodeRefusal::Rule(f) => f.outcome(),
         }
     }
 }

@@ -2,51 +2,44 @@
 use Prim.Native.Nat.{ℕ, _≤_, _<_, _^_}
 use native.Mathlib.Omega.{arith}
 use lib.IntN.{ℤ}
-use lib.ListN.{length, replicate}
+use lib.ListN.{length}
 use mathlib.Core.Path.{_≡_, refl, sym, _∙_, ap, subst}
 use mathlib.Core.List.{List}
 use Rattle.answers.specs.declared.Outcome.{Outcome}
 use Rattle.answers.specs.Outcome.{refusal, firstRefusal}
 use Rattle.answers.specs.Lent.{Wrote, filled, unlessRefused}
 use Rattle.answers.proofs.Lent.{wrote-filled}
+use Rattle.answers.proofs.OneToOne.{number-not}
 use Rattle.answers.proofs.Rows.{Tells, answers, turns, passes}
 use Rattle.answers.proofs.Settled.{short-by, long-enough, untouched, settled}
 use Rattle.rules.specs.declared.Grid.{Grid}
 use Rattle.rules.specs.declared.Parsed.{Parsed}
 use Rattle.rules.specs.declared.Parsed.the-variants.{Accepted, Refused as NotRead}
 use Rattle.rules.specs.declared.RecordRefusal.{RecordRefusal}
-use Rattle.rules.specs.Record.{recordAnswer, size, mostCells, recordRefusalOutcome, parsedOutcome}
+use Rattle.rules.specs.Record.{recordAnswer, recordRefusalOutcome, parsedOutcome}
 use Rattle.rules.specs.Board.{gridBoard, boardOf}
 use Rattle.rules.proofs.Records.{refusal-number, passes-up, read-sides, read-fits, is-accepted, goes-on}
-use Rattle.encoder.specs.Variables.{openCount, linkVariables, variableCount}
+use Rattle.encoder.specs.Variables.{variableCount}
 use Rattle.encoder.specs.Clauses.{clauseList}
 use Rattle.encoder.specs.Encoding.{encoderAnswer, encoderLeaves}
 use Rattle.encoder.specs.Small.{Small}
 use Rattle.encoder.proofs.Lists.{all-in, all-at}
 use Rattle.encoder.proofs.Bounds.{Right, few-variables, list-within}
-use Rattle.encoder.proofs.Places.{rank, linksBelow}
 use Rattle.encoder.proofs.Lengths.{short-list}
 use Rattle.encoder.proofs.Sizes.{accepted-small}
-use Rattle.encoder_numbers.specs.Tables.{rankTable, firstLinkTable}
-use Rattle.encoder_numbers.proofs.FilledTables.{table-filled}
 use Rattle.encoder_shapes.specs.Writable as emit
-use Rattle.encoder_numbers.specs.Tables.{Tables}
 use Rattle.encoder_numbers.proofs.Neighbours.{held-laws}
 use Rattle.encoder_size.specs.declared.Counts.{Counts}
 use Rattle.encoder_size.specs.Counts.{countsOf}
 use Rattle.encoder_call.specs.declared.EncodeRefusal.{EncodeRefusal}
-use Rattle.encoder_call.specs.declared.EncodeRefusal.the-variants.{Record, TooShort}
 use Rattle.encoder_call.specs.declared.Encoded.{Encoded}
 use Rattle.encoder_call.specs.declared.Encoded.the-variants.{Refused}
-use Rattle.encoder_call.specs.Answer.{encodeRefusalOutcome, countsOutcome, encodedOutcome, roomRows, Encodable}
+use Rattle.encoder_call.specs.Answer.{countsOutcome, encodedOutcome, roomRows, Encodable}
+use Rattle.encoder_call.proofs.Outcomes.{encode-numbers}
 
 -- a refusal has a number
 pub refused-number : {e : Encoded} {u : EncodeRefusal} {t : Outcome} → e ≡ Refused u → t ≡ encodedOutcome e → t .number ≡ 0 → ⊥
-refused-number {u = u} q e z = by u (sym (ap (λ (t : Outcome). t .number) (e ∙ ap encodedOutcome q)) ∙ z)
-  where
-    by : (u : EncodeRefusal) → encodeRefusalOutcome u .number ≡ 0 → ⊥
-    by (Record r) e = refusal-number r e
-    by (TooShort n) e = omega arith
+refused-number {u = u} q e z = number-not encode-numbers u (omega arith) (sym (ap (λ (t : Outcome). t .number) (e ∙ ap encodedOutcome q)) ∙ z)
 
 module _ {g : Grid} {s : List ℕ} (w : Encodable g s) where
   abbrev list : List ℤ
@@ -60,17 +53,6 @@ module _ {g : Grid} {s : List ℕ} (w : Encodable g s) where
   writable =
       let many = few-variables (w .small) in
       record { room = omega (arith, few); right = all-in emit.Right list (λ l m. let h = all-at (Right (variableCount (gridBoard g s))) (list-within (gridBoard g s) (held-laws (w .recordFits))) m in omega arith) }
-
-  -- the tables, once they are filled
-  pub tables-filled : {f a : ℕ} {ranks firsts : List ℕ} → f ≡ openCount (gridBoard g s) → ranks ≡ filled (replicate mostCells 0) (rankTable (gridBoard g s)) → a ≡ length (linkVariables (gridBoard g s)) → firsts ≡ filled (replicate mostCells 0) (firstLinkTable (gridBoard g s))
-      → Tables g s f a ranks firsts
-  tables-filled F R A W =
-      let few = w .recordFits .sides .few in
-      record {
-        ranked = record { recordFits = w .recordFits; table = table-filled (rank (gridBoard g s)) (size g) (replicate mostCells 0) few R };
-        wayed = record { recordFits = w .recordFits; opens = F; table = table-filled (linksBelow (gridBoard g s)) (size g) (replicate mostCells 0) few W };
-        links = A;
-      }
 
   -- what the call tells after the reader's rows, and leaves
   abbrev pub GridEnds : List ℤ → Outcome → List ℤ → Type 0

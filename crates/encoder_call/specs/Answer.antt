@@ -7,8 +7,6 @@ use Rattle.answers.specs.declared.Outcome.{Outcome}
 use Rattle.answers.specs.Outcome.{refusal, answer, Row, row}
 use Rattle.answers.specs.Lent.{tooShort}
 use Rattle.rules.specs.declared.Grid.{Grid}
-use Rattle.rules.specs.declared.Parsed.{Parsed}
-use Rattle.rules.specs.declared.Parsed.the-variants.{Accepted, Refused as NotRead}
 use Rattle.rules.specs.Record.{recordRefusalOutcome, RecordFits}
 use Rattle.rules.specs.Board.{Board, gridBoard}
 use Rattle.encoder.specs.Clauses.{clauseList}
@@ -30,11 +28,6 @@ countsOutcome c = answer (c .elements) (c .variables) (c .clauses)
 abbrev pub encodedOutcome : Encoded → Outcome
 encodedOutcome (Written c) = countsOutcome c
 encodedOutcome (Refused u) = encodeRefusalOutcome u
-
--- a refusal of the record reader is passed up unchanged (an accepted record has none to pass up)
-abbrev pub passedUp : Parsed → Encoded
-passedUp (Accepted g) = Written (record { elements = 0; variables = 0; clauses = 0 })
-passedUp (NotRead r) = Refused (Record r)
 
 -- 6, over the grid that was read
 abbrev pub roomRows : Board → List ℤ → List Row

@@ -1,13 +1,14 @@
 // Writes the families of clauses, in document 01's order.
-ghost use Prim.Native.Nat.{_<_};
+ghost use Prim.Native.Nat.{_≤_, _<_};
 ghost use Rattle.answers.specs.Lent.{Wrote};
 ghost use Rattle.rules.specs.Record.{size};
 ghost use Rattle.rules.specs.Board.{gridBoard};
+ghost use Rattle.cnf.specs.Literals.{mostVariables};
 ghost use Rattle.encoder.specs.Lists.{each, joined};
 ghost use Rattle.encoder.specs.Variables.{opens};
 ghost use Rattle.encoder.specs.Clauses.{start, clauseList};
 ghost use Rattle.encoder.proofs.ClauseLists.{listOf, atCell};
-ghost use Rattle.encoder_shapes.specs.Writable.{Writable};
+ghost use Rattle.encoder_shapes.specs.Writable.{Writable, Parts};
 ghost use Rattle.encoder_numbers.specs.Tables.{Tables};
 ghost use Rattle.encoder_call.specs.Families.{familyAt, familyParts};
 use super::Family;
@@ -17,15 +18,16 @@ use encoder_cells::start_at;
 use encoder_cells::touching_at;
 use encoder_lines::clue_lines;
 use encoder_numbers::CellNumbers;
+use encoder_numbers::Sizes;
 use encoder_numbers::cells::cell_numbers;
-use encoder_numbers::tables::open_bit;
 use encoder_shapes::at_least_one;
+use judge_cells::cells::is_open;
 use rules::Grid;
 
 // What a family says of an open cell.
 fn open_cell(family: Family, list: &mut [i32], at: usize, f: usize, x: CellNumbers) -> usize
-    requires { ⌜ Writable at (joined (familyParts «family» f x)) ⌝ }
-    requires { ⌜ (0 < f) × (x .distance < 16777217) ⌝ }
+    requires { ⌜ Parts at (familyParts «family» f x) ⌝ }
+    requires { ⌜ (0 < f) × (x .distance ≤ mostVariables) ⌝ }
     ensures { λ r. ⌜ Wrote (now (list .entry)) at (joined (familyParts «family» f x)) (now (list .exit)) r ⌝ }
 {
     match family {
@@ -43,23 +45,21 @@ fn cell(
     at: usize,
     g: Grid,
     record: &[u8],
-    f: usize,
-    a: usize,
-    ranks: &[usize],
-    firsts: &[usize],
+    sizes: Sizes,
+    table: &[usize],
     x: usize,
 ) -> usize
     requires { ⌜ Writable at (listOf (gridBoard g (now «record»)) (atCell (gridBoard g (now «record»)) (familyAt «family» (gridBoard g (now «record»))) x)) ⌝ }
-    requires { ⌜ Tables g (now «record») f a (now ranks) (now firsts) ⌝ }
+    requires { ⌜ Tables g (now «record») sizes (now table) ⌝ }
     requires { ⌜ x < size g ⌝ }
     ensures { λ r. ⌜ Wrote (now (list .entry)) at (listOf (gridBoard g (now («record» .entry))) (atCell (gridBoard g (now («record» .entry))) (familyAt «family» (gridBoard g (now («record» .entry)))) x)) (now (list .exit)) r ⌝ }
 {
-    let open = open_bit(g, record, x);
-    if open == 0 {
+    let open = is_open(g, record, x);
+    if !open {
         return at;
     }
-    let near = cell_numbers(g, record, f, a, ranks, firsts, x);
-    open_cell(family, list, at, f, near)
+    let numbers = cell_numbers(g, record, sizes, table, x);
+    open_cell(family, list, at, sizes.opens, numbers)
 }
 
 // What a family says of all cells.
@@ -69,20 +69,18 @@ fn cells(
     at: usize,
     g: Grid,
     record: &[u8],
-    f: usize,
-    a: usize,
-    ranks: &[usize],
-    firsts: &[usize],
+    sizes: Sizes,
+    table: &[usize],
 ) -> usize
     requires { ⌜ Writable at (listOf (gridBoard g (now «record»)) (each (opens (gridBoard g (now «record»))) (familyAt «family» (gridBoard g (now «record»))))) ⌝ }
-    requires { ⌜ Tables g (now «record») f a (now ranks) (now firsts) ⌝ }
+    requires { ⌜ Tables g (now «record») sizes (now table) ⌝ }
     ensures { λ r. ⌜ Wrote (now (list .entry)) at (listOf (gridBoard g (now («record» .entry))) (each (opens (gridBoard g (now («record» .entry)))) (familyAt «family» (gridBoard g (now («record» .entry)))))) (now (list .exit)) r ⌝ }
 {
     let n = g.size();
     let mut i = at;
     let mut k = 0;
     while k < n {
-        i = cell(family, list, i, g, record, f, a, ranks, firsts, k);
+        i = cell(family, list, i, g, record, sizes, table, k);
         k += 1;
     }
     i
@@ -94,17 +92,16 @@ fn start(
     at: usize,
     g: Grid,
     record: &[u8],
-    f: usize,
-    a: usize,
-    ranks: &[usize],
-    firsts: &[usize],
+    sizes: Sizes,
+    table: &[usize],
 ) -> usize
     requires { ⌜ Writable at (listOf (gridBoard g (now «record»)) (start (gridBoard g (now «record»)))) ⌝ }
-    requires { ⌜ Tables g (now «record») f a (now ranks) (now firsts) ⌝ }
+    requires { ⌜ Tables g (now «record») sizes (now table) ⌝ }
     ensures { λ r. ⌜ Wrote (now (list .entry)) at (listOf (gridBoard g (now («record» .entry))) (start (gridBoard g (now («record» .entry))))) (now (list .exit)) r ⌝ }
 {
+    let f = sizes.opens;
     let i = at_least_one(list, at, f + 1, f);
-    cells(Family::Start, list, i, g, record, f, a, ranks, firsts)
+    cells(Family::Start, list, i, g, record, sizes, table)
 }
 
 // All families, in order.
@@ -113,19 +110,16 @@ pub fn all_families(
     at: usize,
     g: Grid,
     record: &[u8],
-    f: usize,
-    a: usize,
-    ranks: &[usize],
-    firsts: &[usize],
+    sizes: Sizes,
+    table: &[usize],
 ) -> usize
     requires { ⌜ Writable at (clauseList (gridBoard g (now «record»))) ⌝ }
-    requires { ⌜ Tables g (now «record») f a (now ranks) (now firsts) ⌝ }
+    requires { ⌜ Tables g (now «record») sizes (now table) ⌝ }
     ensures { λ r. ⌜ Wrote (now (list .entry)) at (clauseList (gridBoard g (now («record» .entry)))) (now (list .exit)) r ⌝ }
 {
-    let counts = f + f + a + f * f + 1;
-    let i = cells(Family::Touching, list, at, g, record, f, a, ranks, firsts);
-    let i = clue_lines(list, i, g, record, ranks, counts);
-    let i = cells(Family::Links, list, i, g, record, f, a, ranks, firsts);
-    let i = start(list, i, g, record, f, a, ranks, firsts);
-    cells(Family::Distance, list, i, g, record, f, a, ranks, firsts)
+    let i = cells(Family::Touching, list, at, g, record, sizes, table);
+    let i = clue_lines(list, i, g, record, sizes, table);
+    let i = cells(Family::Links, list, i, g, record, sizes, table);
+    let i = start(list, i, g, record, sizes, table);
+    cells(Family::Distance, list, i, g, record, sizes, table)
 }

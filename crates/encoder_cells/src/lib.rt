@@ -1,8 +1,9 @@
 // Writes the clauses of an open cell: families 1, 3, 4 and 5 of document 01, by the numbers of their variables.
-ghost use Prim.Native.Nat.{_+_, _-_, _<_};
+ghost use Prim.Native.Nat.{_+_, _-_, _≤_, _<_};
 ghost use Rattle.answers.specs.Lent.{Wrote};
+ghost use Rattle.cnf.specs.Literals.{mostVariables};
 ghost use Rattle.encoder.specs.Lists.{joined};
-ghost use Rattle.encoder_shapes.specs.Writable.{Writable};
+ghost use Rattle.encoder_shapes.specs.Writable.{Writable, Parts};
 ghost use Rattle.encoder_cells.specs.Cell.{literalIf, notBothIf, anyParts, pairParts, touchingParts, whiteEnds, whiteParts, oneWayParts, linkParts, eastwardParts, startParts, nearer, nearerParts, distanceParts};
 use cnf::put;
 use cnf::put_not;
@@ -42,7 +43,7 @@ fn not_both_if(list: &mut [i32], at: usize, a: usize, b: usize) -> usize
 
 // 1. Touching.
 pub fn touching_at(list: &mut [i32], at: usize, x: CellNumbers) -> usize
-    requires { ⌜ Writable at (joined (touchingParts x)) ⌝ }
+    requires { ⌜ Parts at (touchingParts x) ⌝ }
     ensures { λ r. ⌜ Wrote (now (list .entry)) at (joined (touchingParts x)) (now (list .exit)) r ⌝ }
 {
     let i = not_both_if(list, at, x.black, x.east.black);
@@ -51,7 +52,7 @@ pub fn touching_at(list: &mut [i32], at: usize, x: CellNumbers) -> usize
 
 // [z, those of the four that are there]
 fn any_four(list: &mut [i32], at: usize, z: usize, n: usize, e: usize, s: usize, w: usize) -> usize
-    requires { ⌜ Writable at (joined (anyParts z n e s w)) ⌝ }
+    requires { ⌜ Parts at (anyParts z n e s w) ⌝ }
     ensures { λ r. ⌜ Wrote (now (list .entry)) at (joined (anyParts z n e s w)) (now (list .exit)) r ⌝ }
 {
     let i = put(list, at, z);
@@ -64,7 +65,7 @@ fn any_four(list: &mut [i32], at: usize, z: usize, n: usize, e: usize, s: usize,
 
 // [−a −b], for each pair of the four that are there.
 fn pairs_four(list: &mut [i32], at: usize, n: usize, e: usize, s: usize, w: usize) -> usize
-    requires { ⌜ Writable at (joined (pairParts n e s w)) ⌝ }
+    requires { ⌜ Parts at (pairParts n e s w) ⌝ }
     ensures { λ r. ⌜ Wrote (now (list .entry)) at (joined (pairParts n e s w)) (now (list .exit)) r ⌝ }
 {
     let i = not_both_if(list, at, n, e);
@@ -88,7 +89,7 @@ fn white_ends(list: &mut [i32], at: usize, z: usize, y: NeighbourNumbers) -> usi
 }
 
 fn all_white_ends(list: &mut [i32], at: usize, x: CellNumbers) -> usize
-    requires { ⌜ Writable at (joined (whiteParts x)) ⌝ }
+    requires { ⌜ Parts at (whiteParts x) ⌝ }
     ensures { λ r. ⌜ Wrote (now (list .entry)) at (joined (whiteParts x)) (now (list .exit)) r ⌝ }
 {
     let i = white_ends(list, at, x.black, x.north);
@@ -99,7 +100,7 @@ fn all_white_ends(list: &mut [i32], at: usize, x: CellNumbers) -> usize
 
 // [−(x→y) −(y→x)], east then south.
 fn one_ways(list: &mut [i32], at: usize, x: CellNumbers) -> usize
-    requires { ⌜ Writable at (joined (oneWayParts x)) ⌝ }
+    requires { ⌜ Parts at (oneWayParts x) ⌝ }
     ensures { λ r. ⌜ Wrote (now (list .entry)) at (joined (oneWayParts x)) (now (list .exit)) r ⌝ }
 {
     let i = not_both_if(list, at, x.east.out, x.east.back);
@@ -108,7 +109,7 @@ fn one_ways(list: &mut [i32], at: usize, x: CellNumbers) -> usize
 
 // 3. Links.
 pub fn links_at(list: &mut [i32], at: usize, x: CellNumbers) -> usize
-    requires { ⌜ Writable at (joined (linkParts x)) ⌝ }
+    requires { ⌜ Parts at (linkParts x) ⌝ }
     ensures { λ r. ⌜ Wrote (now (list .entry)) at (joined (linkParts x)) (now (list .exit)) r ⌝ }
 {
     let i = all_white_ends(list, at, x);
@@ -144,7 +145,7 @@ pub fn links_at(list: &mut [i32], at: usize, x: CellNumbers) -> usize
 
 // [−Sx x→east], or [−Sx] without an open east neighbour.
 fn eastward(list: &mut [i32], at: usize, s: usize, e: usize) -> usize
-    requires { ⌜ Writable at (joined (eastwardParts s e)) ⌝ }
+    requires { ⌜ Parts at (eastwardParts s e) ⌝ }
     ensures { λ r. ⌜ Wrote (now (list .entry)) at (joined (eastwardParts s e)) (now (list .exit)) r ⌝ }
 {
     let i = put_not(list, at, s);
@@ -154,7 +155,7 @@ fn eastward(list: &mut [i32], at: usize, s: usize, e: usize) -> usize
 
 // 4. Start.
 pub fn start_at(list: &mut [i32], at: usize, x: CellNumbers) -> usize
-    requires { ⌜ Writable at (joined (startParts x)) ⌝ }
+    requires { ⌜ Parts at (startParts x) ⌝ }
     ensures { λ r. ⌜ Wrote (now (list .entry)) at (joined (startParts x)) (now (list .exit)) r ⌝ }
 {
     let i = not_both(list, at, x.start, x.black);
@@ -165,7 +166,7 @@ pub fn start_at(list: &mut [i32], at: usize, x: CellNumbers) -> usize
 // [−(x→y) −Q(x,k) Q(y,k−1)], k = 1 to F − 1.
 fn nearer(list: &mut [i32], at: usize, q: usize, f: usize, y: NeighbourNumbers) -> usize
     requires { ⌜ Writable at (nearer q f y) ⌝ }
-    requires { ⌜ (0 < f) × (q < 16777217) ⌝ }
+    requires { ⌜ (0 < f) × (q ≤ mostVariables) ⌝ }
     ensures { λ r. ⌜ Wrote (now (list .entry)) at (nearer q f y) (now (list .exit)) r ⌝ }
 {
     if y.out == 0 {
@@ -175,8 +176,8 @@ fn nearer(list: &mut [i32], at: usize, q: usize, f: usize, y: NeighbourNumbers) 
 }
 
 fn all_nearer(list: &mut [i32], at: usize, f: usize, x: CellNumbers) -> usize
-    requires { ⌜ Writable at (joined (nearerParts f x)) ⌝ }
-    requires { ⌜ (0 < f) × (x .distance < 16777217) ⌝ }
+    requires { ⌜ Parts at (nearerParts f x) ⌝ }
+    requires { ⌜ (0 < f) × (x .distance ≤ mostVariables) ⌝ }
     ensures { λ r. ⌜ Wrote (now (list .entry)) at (joined (nearerParts f x)) (now (list .exit)) r ⌝ }
 {
     let i = nearer(list, at, x.distance, f, x.north);
@@ -187,8 +188,8 @@ fn all_nearer(list: &mut [i32], at: usize, f: usize, x: CellNumbers) -> usize
 
 // 5. Distance.
 pub fn distance_at(list: &mut [i32], at: usize, f: usize, x: CellNumbers) -> usize
-    requires { ⌜ Writable at (joined (distanceParts f x)) ⌝ }
-    requires { ⌜ (0 < f) × (x .distance < 16777217) ⌝ }
+    requires { ⌜ Parts at (distanceParts f x) ⌝ }
+    requires { ⌜ (0 < f) × (x .distance ≤ mostVariables) ⌝ }
     ensures { λ r. ⌜ Wrote (now (list .entry)) at (joined (distanceParts f x)) (now (list .exit)) r ⌝ }
 {
     let i = or_at_least_one(list, at, x.black, x.distance, f);

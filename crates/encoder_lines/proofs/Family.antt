@@ -11,35 +11,38 @@ use Rattle.rules.specs.declared.Direction.{Direction}
 use Rattle.rules.specs.declared.Cell.{Cell}
 use Rattle.rules.specs.declared.Cell.the-variants.{Open, Clue as Clued}
 use Rattle.rules.specs.declared.Grid.{Grid}
-use Rattle.rules.specs.Record.{size, puzzle, RecordFits}
+use Rattle.rules.specs.Record.{size, puzzle, mostCells, RecordFits}
 use Rattle.rules.specs.Board.{Clue, line, clueOf, cluesFrom, gridBoard}
 use Rattle.rules.proofs.Records.{held-filled}
 use Rattle.encoder.specs.Lists.{upTo, each, joined}
-use Rattle.encoder.specs.Variables.{T, openCount, number}
+use Rattle.encoder.specs.Variables.{T, number}
 use Rattle.encoder.specs.Clauses.{clueClauses, clueLines}
 use Rattle.encoder.proofs.Lists.{each-append}
 use Rattle.encoder.proofs.Places.{place-t}
 use Rattle.encoder.proofs.Clues.{clues-next, at-clue}
 use Rattle.encoder.proofs.ClauseLists.{each-next, listOf, list-each}
-use Rattle.encoder_numbers.proofs.Numbers.{countsOf, counts-on, line-few, below-few, rank-few, links-few}
+use Rattle.encoder_numbers.proofs.Numbers.{line-few}
+use Rattle.encoder_numbers.specs.Tables.{firstCount}
 use Rattle.encoder_numbers.specs.Numbered.{blackOf}
 use Rattle.encoder_numbers.proofs.Neighbours.{held-laws}
-use Rattle.encoder_lines.specs.Line.{clueNumbers, clueAt, firstCount}
+use Rattle.encoder_lines.specs.Line.{blacksOf, clueNumbers, clueAt}
 use Rattle.encoder_lines.proofs.Numbers.{clue-list}
 
 -- the number of the last T variable, with the line's length counted
-pub last-is : (first n : ℕ) (black : ℕ → ℕ) (xs : List ℕ) {cells : ℕ} → cells ≡ length xs → first + cells * (n + 1) + n ≡ first + length (map black xs) * (n + 1) + n
-last-is first n black xs e = ap (λ k. first + k * (n + 1) + n) (e ∙ sym (length-map xs black))
+module _ (g : Grid) (s : List ℕ) (d : Direction) (x n : ℕ) {cells : ℕ} (e : cells ≡ length (line (puzzle g s) d x)) where
+  pub last-is : (first : ℕ) → first + cells * (n + 1) + n ≡ first + length (blacksOf g s d x) * (n + 1) + n
+  last-is first = ap (λ k. first + k * (n + 1) + n) (e ∙ sym (length-map (line (puzzle g s) d x) (blackOf (gridBoard g s))))
 
-pub last-few : {g : Grid} {s : List ℕ} {x n cells : ℕ} (d : Direction) → RecordFits g s → x < size g → n < 256 → cells ≡ length (line (puzzle g s) d x) → cells * (n + 1) ≤ 576 * 256
-last-few d h l k e = mul-le-mul {n₂ = 576} {m₂ = 256} (omega (arith, line-few h l d)) (omega arith)
+  pub last-few : RecordFits g s → x < size g → n < 256 → cells * (n + 1) ≤ mostCells * 256
+  last-few h l k = mul-le-mul {n₂ = mostCells} {m₂ = 256} (omega (arith, line-few h l d)) (omega arith)
 
 module _ {g : Grid} {s : List ℕ} (h : RecordFits g s) (x : ℕ) (l : x < size g) {c : Cell} (e : c ≡ getD (puzzle g s .cells) x Open) where
   -- no clue, or a clue
   pub clue-none : c ≡ Open → [] ≡ listOf (gridBoard g s) (clueAt (puzzle g s) x)
   clue-none q = ap (λ c. listOf (gridBoard g s) (each (clueOf (puzzle g s) x c) (clueClauses (gridBoard g s .isOpen)))) (sym q ∙ e)
 
-  pub clue-some : {d : Direction} {n first : ℕ} → c ≡ Clued d n → first ≡ firstCount g s x → listOf (gridBoard g s) (clueAt (puzzle g s) x) ≡ joined (clueNumbers first n (map (blackOf (gridBoard g s)) (line (puzzle g s) d x)))
+  pub clue-some : {d : Direction} {n first : ℕ} → c ≡ Clued d n → first ≡ firstCount g s x
+      → listOf (gridBoard g s) (clueAt (puzzle g s) x) ≡ joined (clueNumbers first n (blacksOf g s d x))
   clue-some {d} {n} {first} q f =
       let b = gridBoard g s in
       let p = puzzle g s in
@@ -51,18 +54,6 @@ module _ {g : Grid} {s : List ℕ} (h : RecordFits g s) (x : ℕ) (l : x < size 
       ∙ clue-list b (held-laws h) k (cluesFrom p 0 (take x (p .cells))) m ∙ ap (λ r. joined (clueNumbers r n (map (blackOf b) (line p d x)))) z
 
 module _ {g : Grid} {s : List ℕ} (h : RecordFits g s) where
-  -- the number of the first T variable, one cell more
-  pub count-next : (x : ℕ) → x < size g → firstCount g s (x + 1) ≡ firstCount g s x + countsOf (puzzle g s) x
-  count-next x l = let w = held-filled h in let e = counts-on (puzzle g s) x (omega arith) in omega arith
-
-  pub count-few : (x : ℕ) → x ≤ size g → firstCount g s x ≤ 2 ^ 32
-  count-few x l =
-      let b = gridBoard g s in
-      let w = h .sides .few in
-      let f : openCount b ≤ 576 = omega (arith, rank-few b (size g)) in
-      let q : openCount b * openCount b ≤ 576 * 576 = mul-le-mul f f in
-      omega (arith, links-few b (size g), below-few h x l)
-
   -- the family, cell by cell
   so-far : (x : ℕ) → x ≤ size g → each (cluesFrom (puzzle g s) 0 (take x (puzzle g s .cells))) (clueClauses (gridBoard g s .isOpen)) ≡ each (upTo x) (clueAt (puzzle g s))
   so-far zero l = refl

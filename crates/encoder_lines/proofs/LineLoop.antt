@@ -18,14 +18,14 @@ use Rattle.rules.proofs.Lines.{line-inside, line-go}
 use Rattle.cnf.specs.Literals.{mostVariables}
 use Rattle.encoder.specs.Lists.{joined}
 use Rattle.encoder.proofs.Lists.{all-right}
-use Rattle.encoder_shapes.specs.Writable.{Right, Writable}
+use Rattle.encoder_shapes.specs.Writable.{Right, Writable, Parts}
 use Rattle.encoder_shapes.specs.Shapes.{notBoth, impliesEither}
-use Rattle.encoder_shapes.proofs.Written.{in-parts, first-part, next-parts, no-small, writable-recast}
+use Rattle.encoder_shapes.proofs.Written.{in-parts, begun, part-needs, writable-left, writable-right, no-small, writable-recast}
 use Rattle.encoder_lines.specs.Line.{countStepClue, countStepBelow, countStepRow, countStepParts, countStepEach}
 
 -- a row that can be written begins at a variable's number
 row-few : (row z n : ℕ) {at : ℕ} → Writable at (joined (countStepParts row z n)) → row ≤ mostVariables
-row-few row z n w = by z (first-part (in-parts (countStepParts row z n) w))
+row-few row z n w = by z (part-needs (begun [] (in-parts (countStepParts row z n) w)))
   where
     by : (z : ℕ) {at : ℕ} → Writable at (countStepRow z row (row + (n + 1)) n) → row ≤ mostVariables
     by zero w = let v = writable-recast (ap (countStepClue row (row + (n + 1))) (add-one n)) w in omega (arith, no-small (row + 0) (v .right .0))
@@ -65,13 +65,11 @@ module _ {p : Puzzle} {d : Direction} {x : ℕ} {black : ℕ → ℕ} {first n :
       unfolding rest
       split = w .whole ∙ ap (λ l. w .done ++ countStepEach row n (map black l)) (drop-cons (line p d x) j x h) ∙ ap (λ z. w .done ++ (joined (countStepParts row z n) ++ rest)) (ap black (sym (w .here)) ∙ sym e)
 
-      pub line-needs : Writable i (joined (countStepParts row z n))
-      line-needs =
-          let a : w .done ++ (joined (countStepParts row z n) ++ rest) ≡ joined (w .done ∷ joined (countStepParts row z n) ∷ rest ∷ []) = ap (λ l. w .done ++ (joined (countStepParts row z n) ++ l)) (sym (append-nil rest)) in
-          first-part (next-parts (in-parts (w .done ∷ joined (countStepParts row z n) ∷ rest ∷ []) (writable-recast (split ∙ a) (w .writable))) (w .wrote))
+      pub line-needs : Parts i (countStepParts row z n)
+      line-needs = in-parts (countStepParts row z n) (writable-left (joined (countStepParts row z n)) rest (writable-right (w .done) _ (writable-recast split (w .writable)) (w .wrote)))
 
       pub line-row : row ≤ mostVariables
-      line-row = row-few row z n line-needs
+      line-row = row-few row z n (line-needs .writable)
 
       pub line-on : {new₂ : List ℤ} {i₂ y₂ : ℕ} {back : Direction} → Wrote new i (joined (countStepParts row z n)) new₂ i₂ → back ≡ opposite d → y₂ ≡ go (neighbour (p .grid)) back y → Lining p d x black first n buf at new₂ y₂ (row + (n + 1)) i₂ (j + 1)
       unfolding rest

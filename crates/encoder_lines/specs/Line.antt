@@ -2,20 +2,22 @@
 use Prim.Native.Nat.{ℕ, zero, suc, _+_, _*_}
 use lib.IntN.{ℤ}
 use lib.ListN.{length, getD}
-use mathlib.Core.List.{List, [], _∷_, _++_}
+use mathlib.Core.Path.{_≡_}
+use mathlib.Core.List.{List, [], _∷_, _++_, map}
 use Rattle.rules.specs.declared.Cell.the-variants.{Open}
+use Rattle.rules.specs.declared.Direction.{Direction}
 use Rattle.rules.specs.declared.Grid.{Grid}
+use Rattle.rules.specs.declared.board.End.{End}
 use Rattle.rules.specs.Record.{Puzzle, puzzle}
-use Rattle.rules.specs.Board.{openAt, clueOf, gridBoard}
+use Rattle.rules.specs.Board.{openAt, line, clueOf, gridBoard}
 use Rattle.encoder.specs.Lists.{upTo, each, joined}
-use Rattle.encoder.specs.Variables.{openCount, linkVariables}
 use Rattle.encoder.specs.Clauses.{Clause, clueClauses}
-use Rattle.encoder_numbers.proofs.Numbers.{countsBelow}
+use Rattle.encoder_numbers.specs.Numbered.{blackOf}
 use Rattle.encoder_shapes.specs.Shapes.{unit, notBoth, implies, impliesEither, bothImply, eachUnitNot, atMostOne}
 
--- past a clue: [−T(j,t) T(j+1,t)], m of them
+-- past a clue: [−T(j,t) T(j+1,t)], for the counts t below n
 abbrev pub countStepClue : ℕ → ℕ → ℕ → List ℤ
-countStepClue row next m = each (upTo m) (λ t. implies (row + t) (next + t))
+countStepClue row next n = each (upTo n) (λ t. implies (row + t) (next + t))
 
 -- past an open cell: [−T(j,t) Zc T(j+1,t)] [−T(j,t) −Zc T(j+1,t+1)] for t below n, at last [−T(j,n) Zc T(j+1,n)] [−T(j,n) −Zc]
 abbrev pub countStepBoth : ℕ → ℕ → ℕ → List (List ℤ)
@@ -41,6 +43,15 @@ abbrev pub countStepEach : ℕ → ℕ → List ℕ → List ℤ
 countStepEach row n [] = []
 countStepEach row n (z ∷ zs) = joined (countStepParts row z n) ++ countStepEach (row + (n + 1)) n zs
 
+-- the numbers of the Z variables along the line that leaves x, 0 for a clue
+abbrev pub blacksOf : Grid → List ℕ → Direction → ℕ → List ℕ
+blacksOf g s d x = map (blackOf (gridBoard g s)) (line (puzzle g s) d x)
+
+-- where that line ends, as `rules::board::line_end` answers
+pub record LineEnd (p : Puzzle) (d : Direction) (x : ℕ) (end : End) : Type 0 where
+  pub cell : end .cell ≡ getD (line p d x) 0 x
+  pub cells : end .cells ≡ length (line p d x)
+
 -- [T(0,0)]; [−T(0,t)] for t = 1 to n; the line; last [T(L,n)]
 abbrev pub clueNumbers : ℕ → ℕ → List ℕ → List (List ℤ)
 clueNumbers first n zs = unit first ∷ eachUnitNot (first + 1) n ∷ countStepEach first n zs ∷ unit (first + length zs * (n + 1) + n) ∷ []
@@ -48,9 +59,3 @@ clueNumbers first n zs = unit first ∷ eachUnitNot (first + 1) n ∷ countStepE
 -- the clauses of the clue in cell x, if it is one
 abbrev pub clueAt : Puzzle → ℕ → List Clause
 clueAt p x = each (clueOf p x (getD (p .cells) x Open)) (clueClauses (openAt (p .cells)))
-
--- the number of the first T variable of the clues from cell x on
-abbrev pub firstCount : Grid → List ℕ → ℕ → ℕ
-firstCount g s x =
-    openCount (gridBoard g s) + openCount (gridBoard g s) + length (linkVariables (gridBoard g s)) + openCount (gridBoard g s) * openCount (gridBoard g s)
-    + countsBelow (puzzle g s) x + 1

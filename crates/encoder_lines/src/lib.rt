@@ -1,19 +1,17 @@
 // Writes the clauses of clue lines: family 2 of document 01.
-ghost use mathlib.Core.Path.{_≡_};
-ghost use mathlib.Core.List.{map};
 ghost use Prim.Native.Nat.{_+_, _<_, _^_};
 ghost use Rattle.answers.specs.Lent.{Wrote};
 ghost use Rattle.rules.specs.Record.{size, puzzle};
-ghost use Rattle.rules.specs.Board.{line, gridBoard};
+ghost use Rattle.rules.specs.Board.{gridBoard};
 ghost use Rattle.encoder.specs.Lists.{joined};
 ghost use Rattle.encoder.specs.Clauses.{clueLines};
 ghost use Rattle.encoder.proofs.ClauseLists.{listOf};
-ghost use Rattle.encoder_shapes.specs.Writable.{Writable};
-ghost use Rattle.encoder_numbers.specs.Numbered.{blackOf};
-ghost use Rattle.encoder_numbers.specs.Tables.{RankTableFits};
-ghost use Rattle.encoder_lines.specs.Line.{countStepClue, countStepBoth, countStepBelow, countStepOpen, countStepRow, countStepParts, countStepEach, clueNumbers, clueAt, firstCount};
+ghost use Rattle.encoder_shapes.specs.Writable.{Writable, Parts};
+ghost use Rattle.encoder_numbers.specs.Tables.{Tables};
+ghost use Rattle.encoder_lines.specs.Line.{countStepClue, countStepBoth, countStepBelow, countStepOpen, countStepRow, countStepParts, countStepEach, blacksOf, LineEnd, clueNumbers, clueAt};
+use encoder_numbers::Sizes;
 use encoder_numbers::cells::black_number;
-use encoder_numbers::tables::counts_at;
+use encoder_numbers::cells::count_number;
 use encoder_shapes::at_most_one;
 use encoder_shapes::both_imply;
 use encoder_shapes::each_unit_not;
@@ -24,11 +22,12 @@ use encoder_shapes::unit;
 use rules::Cell;
 use rules::Direction;
 use rules::Grid;
+use rules::board::End;
 use rules::board::go;
 use rules::board::line_end;
 use rules::board::opposite;
 
-// [−T(j,t) T(j+1,t)], m of them.
+// [−T(j,t) T(j+1,t)], for the n counts t from 0 on.
 fn count_step_clue(list: &mut [i32], at: usize, row: usize, next: usize, n: usize) -> usize
     requires { ⌜ Writable at (countStepClue row next n) ⌝ }
     ensures { λ r. ⌜ Wrote (now (list .entry)) at (countStepClue row next n) (now (list .exit)) r ⌝ }
@@ -44,13 +43,14 @@ fn count_step_clue(list: &mut [i32], at: usize, row: usize, next: usize, n: usiz
 
 // [−a z b] [−a −z b+1]
 fn count_step_both(list: &mut [i32], at: usize, a: usize, z: usize, b: usize) -> usize
-    requires { ⌜ Writable at (joined (countStepBoth a z b)) ⌝ }
+    requires { ⌜ Parts at (countStepBoth a z b) ⌝ }
     ensures { λ r. ⌜ Wrote (now (list .entry)) at (joined (countStepBoth a z b)) (now (list .exit)) r ⌝ }
 {
     let i = implies_either(list, at, a, z, b);
     both_imply(list, i, a, z, b + 1)
 }
 
+// [−T(j,t) Zc T(j+1,t)] [−T(j,t) −Zc T(j+1,t+1)], for t below n.
 fn count_step_below(
     list: &mut [i32],
     at: usize,
@@ -80,7 +80,7 @@ fn count_step_open(
     z: usize,
     n: usize,
 ) -> usize
-    requires { ⌜ Writable at (joined (countStepOpen row next z n)) ⌝ }
+    requires { ⌜ Parts at (countStepOpen row next z n) ⌝ }
     ensures { λ r. ⌜ Wrote (now (list .entry)) at (joined (countStepOpen row next z n)) (now (list .exit)) r ⌝ }
 {
     let i = count_step_below(list, at, row, next, z, n);
@@ -102,7 +102,7 @@ fn count_step_row(list: &mut [i32], at: usize, z: usize, row: usize, next: usize
 
 // Past a cell: from the row that begins at row to the next one.
 fn count_step_cell(list: &mut [i32], at: usize, row: usize, z: usize, n: usize) -> usize
-    requires { ⌜ Writable at (joined (countStepParts row z n)) ⌝ }
+    requires { ⌜ Parts at (countStepParts row z n) ⌝ }
     requires { ⌜ (row < 2 ^ 32) × (n < 256) ⌝ }
     ensures { λ r. ⌜ Wrote (now (list .entry)) at (joined (countStepParts row z n)) (now (list .exit)) r ⌝ }
 {
@@ -111,31 +111,33 @@ fn count_step_cell(list: &mut [i32], at: usize, row: usize, z: usize, n: usize) 
     at_most_one(list, i, next, n + 1)
 }
 
-// The line that leaves x in direction d, from the cell nearest the edge on; first is the number of T(0,0).
+// The line that leaves x in direction d and ends there, from the cell nearest the edge on; first is the number of T(0,0).
 fn count_step_each(
     list: &mut [i32],
     at: usize,
     g: Grid,
     record: &[u8],
-    ranks: &[usize],
+    sizes: Sizes,
+    table: &[usize],
     x: usize,
     d: Direction,
+    end: End,
     n: usize,
     first: usize,
 ) -> usize
-    requires { ⌜ Writable at (countStepEach first n (map (blackOf (gridBoard g (now «record»))) (line (puzzle g (now «record»)) d x))) ⌝ }
-    requires { ⌜ RankTableFits g (now «record») (now ranks) ⌝ }
+    requires { ⌜ Writable at (countStepEach first n (blacksOf g (now «record») d x)) ⌝ }
+    requires { ⌜ Tables g (now «record») sizes (now table) ⌝ }
+    requires { ⌜ LineEnd (puzzle g (now «record»)) d x end ⌝ }
     requires { ⌜ (x < size g) × (n < 256) ⌝ }
-    ensures { λ r. ⌜ Wrote (now (list .entry)) at (countStepEach first n (map (blackOf (gridBoard g (now («record» .entry)))) (line (puzzle g (now («record» .entry))) d x))) (now (list .exit)) r ⌝ }
+    ensures { λ r. ⌜ Wrote (now (list .entry)) at (countStepEach first n (blacksOf g (now («record» .entry)) d x)) (now (list .exit)) r ⌝ }
 {
-    let end = line_end(g, record, x, d);
     let cells = end.cells;
     let mut y = end.cell;
     let mut row = first;
     let mut i = at;
     let mut j = 0;
     while j < cells {
-        let z = black_number(g, record, ranks, y);
+        let z = black_number(g, record, sizes, table, y);
         i = count_step_cell(list, i, row, z, n);
         let back = opposite(d);
         y = go(g, y, back);
@@ -151,21 +153,22 @@ fn clue(
     at: usize,
     g: Grid,
     record: &[u8],
-    ranks: &[usize],
+    sizes: Sizes,
+    table: &[usize],
     x: usize,
     d: Direction,
     n: usize,
     first: usize,
 ) -> usize
-    requires { ⌜ Writable at (joined (clueNumbers first n (map (blackOf (gridBoard g (now «record»))) (line (puzzle g (now «record»)) d x)))) ⌝ }
-    requires { ⌜ RankTableFits g (now «record») (now ranks) ⌝ }
+    requires { ⌜ Parts at (clueNumbers first n (blacksOf g (now «record») d x)) ⌝ }
+    requires { ⌜ Tables g (now «record») sizes (now table) ⌝ }
     requires { ⌜ (x < size g) × (n < 256) ⌝ }
-    ensures { λ r. ⌜ Wrote (now (list .entry)) at (joined (clueNumbers first n (map (blackOf (gridBoard g (now («record» .entry)))) (line (puzzle g (now («record» .entry))) d x)))) (now (list .exit)) r ⌝ }
+    ensures { λ r. ⌜ Wrote (now (list .entry)) at (joined (clueNumbers first n (blacksOf g (now («record» .entry)) d x))) (now (list .exit)) r ⌝ }
 {
+    let end = line_end(g, record, x, d);
     let i = unit(list, at, first);
     let i = each_unit_not(list, i, first + 1, n);
-    let i = count_step_each(list, i, g, record, ranks, x, d, n, first);
-    let end = line_end(g, record, x, d);
+    let i = count_step_each(list, i, g, record, sizes, table, x, d, end, n, first);
     let cells = end.cells;
     unit(list, i, first + cells * (n + 1) + n)
 }
@@ -176,44 +179,41 @@ fn clue_at(
     at: usize,
     g: Grid,
     record: &[u8],
-    ranks: &[usize],
+    sizes: Sizes,
+    table: &[usize],
     x: usize,
-    first: usize,
 ) -> usize
     requires { ⌜ Writable at (listOf (gridBoard g (now «record»)) (clueAt (puzzle g (now «record»)) x)) ⌝ }
-    requires { ⌜ RankTableFits g (now «record») (now ranks) ⌝ }
-    requires { ⌜ (x < size g) × (first ≡ firstCount g (now «record») x) ⌝ }
+    requires { ⌜ Tables g (now «record») sizes (now table) ⌝ }
+    requires { ⌜ x < size g ⌝ }
     ensures { λ r. ⌜ Wrote (now (list .entry)) at (listOf (gridBoard g (now («record» .entry))) (clueAt (puzzle g (now («record» .entry))) x)) (now (list .exit)) r ⌝ }
 {
     let c = g.cell(record, x);
     let Cell::Clue(d, n) = c else {
         return at;
     };
-    clue(list, at, g, record, ranks, x, d, n as usize, first)
+    let first = count_number(g, record, sizes, table, x);
+    clue(list, at, g, record, sizes, table, x, d, n as usize, first)
 }
 
-// 2. Clue lines; first is the number of the first T variable.
+// 2. Clue lines.
 pub fn clue_lines(
     list: &mut [i32],
     at: usize,
     g: Grid,
     record: &[u8],
-    ranks: &[usize],
-    first: usize,
+    sizes: Sizes,
+    table: &[usize],
 ) -> usize
     requires { ⌜ Writable at (listOf (gridBoard g (now «record»)) (clueLines (gridBoard g (now «record»)))) ⌝ }
-    requires { ⌜ RankTableFits g (now «record») (now ranks) ⌝ }
-    requires { ⌜ first ≡ firstCount g (now «record») 0 ⌝ }
+    requires { ⌜ Tables g (now «record») sizes (now table) ⌝ }
     ensures { λ r. ⌜ Wrote (now (list .entry)) at (listOf (gridBoard g (now («record» .entry))) (clueLines (gridBoard g (now («record» .entry))))) (now (list .exit)) r ⌝ }
 {
     let n = g.size();
-    let mut t = first;
     let mut i = at;
     let mut k = 0;
     while k < n {
-        i = clue_at(list, i, g, record, ranks, k, t);
-        let more = counts_at(g, record, k);
-        t += more;
+        i = clue_at(list, i, g, record, sizes, table, k);
         k += 1;
     }
     i

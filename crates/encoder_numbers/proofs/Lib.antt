@@ -1,4 +1,4 @@
 -- Laws that the proofs of this crate and of those above share.
-pub mod FilledTables
+pub mod FilledTable
 pub mod Numbers
 pub mod Neighbours

@@ -1,28 +1,29 @@
--- The numbers of a cell's variables by the tables, and the neighbour in a direction, the same for all four. Assumes nothing.
+-- The numbers of a cell's variables by the table, and the neighbour in a direction, the same for all four. Assumes nothing.
 use Prim.Native.Nat.{ℕ, _+_, _*_, _≤_, _<_}
 use native.Mathlib.Omega.{arith}
+use native.Mathlib.Nat.{mul-le-mul}
 use lib.ListN.{length, getD}
 use mathlib.Core.Path.{_≡_, refl, sym, _∙_, ap}
-use mathlib.Core.Bool.{Bool, true, false, cond}
+use mathlib.Core.Bool.{true, false, cond}
 use mathlib.Core.Option.{none, some}
 use mathlib.Core.List.{List, List·Memᴰ·head, List·Memᴰ·tail}
 use Rattle.answers.specs.Lists.{_∈_}
 use Rattle.rules.specs.declared.Direction.{Direction}
 use Rattle.rules.specs.declared.Grid.{Grid}
-use Rattle.rules.specs.Directions.{opposite, bit}
-use Rattle.rules.specs.Record.{size, puzzle, OnBoard, RecordFits}
-use Rattle.rules.specs.Board.{Board, neighbour, gridBoard}
+use Rattle.rules.specs.Directions.{opposite}
+use Rattle.rules.specs.Record.{size, puzzle, mostCells, RecordFits}
+use Rattle.rules.specs.Board.{Board, gridBoard}
 use Rattle.rules.proofs.Boards.{Laws, laws}
 use Rattle.rules.proofs.Records.{held-filled}
-use Rattle.encoder.specs.Variables.{Z, S, E, Q, opens, openCount, ifThere, number}
+use Rattle.encoder.specs.Variables.{Z, S, E, Q, neighbours, openCount, number}
 use Rattle.encoder.proofs.Neighbours.{in-opens}
-use Rattle.encoder.proofs.Places.{rank, place-z, place-s, place-e, place-q}
-use Rattle.encoder_numbers.specs.Tables.{linkPlace}
-use Rattle.encoder_numbers.proofs.Numbers.{bit-off, bit-on, rank-few, links-few, earlier-few}
+use Rattle.encoder.proofs.Places.{rank, linksBelow, earlier, place-z, place-s, place-e, place-q}
+use Rattle.encoder_numbers.specs.declared.Sizes.{Sizes}
 use Rattle.encoder_numbers.specs.declared.NeighbourNumbers.{NeighbourNumbers}
 use Rattle.encoder_numbers.specs.declared.CellNumbers.{CellNumbers}
-use Rattle.encoder_numbers.specs.Numbered.{blackOf, noNeighbour, neighbourNumbersIf, neighbourNumbersOf, cellNumbersOf}
-use Rattle.encoder_numbers.specs.Tables.{RankTableFits, Tables, OpenCell}
+use Rattle.encoder_numbers.specs.Tables.{sizesBelow, sizesOf, openNeighbour, Tables, OpenCell, OpenPair}
+use Rattle.encoder_numbers.specs.Numbered.{blackOf, noNeighbour, neighbourNumbersIf, neighbourNumbersTo, neighbourNumbersOf, cellNumbersOf}
+use Rattle.encoder_numbers.proofs.Numbers.{Few, sizes-few, there-none, there-some, earlier-few}
 
 pub held-laws : {g : Grid} {s : List ℕ} → RecordFits g s → Laws (gridBoard g s)
 held-laws {g} {s} h = laws (puzzle g s) (held-filled h)
@@ -35,89 +36,76 @@ some-member (List·Memᴰ·tail m) = omega arith
 pub some-open : {g : Grid} {s : List ℕ} {x : ℕ} → RecordFits g s → OpenCell g s x → 0 < openCount (gridBoard g s)
 some-open {g} {s} h o = some-member (in-opens (gridBoard g s) (held-laws h) (o .opened))
 
--- the number of Z, or 0
-module _ {g : Grid} {s ranks : List ℕ} (r : RankTableFits g s ranks) (x : ℕ) where
-  pub black-clue : {k : ℕ} → k ≡ bit (gridBoard g s .isOpen x) → k ≡ 0 → 0 ≡ blackOf (gridBoard g s) x
-  black-clue e z = sym (ap (λ t. cond t (number (gridBoard g s) (Z x)) 0) (bit-off (gridBoard g s .isOpen x) (sym e ∙ z)))
+-- an open neighbour, and the same link seen from there
+module _ {g : Grid} {s : List ℕ} (h : RecordFits g s) {x : ℕ} {d : Direction} {y : ℕ} where
+  pub open-pair : OpenCell g s x → some y ≡ openNeighbour (gridBoard g s) d x → OpenPair g s x d y
+  open-pair o e =
+      let r = there-some (gridBoard g s) x d e in
+      record { here = o; leads = r .0; there = record { inside = held-laws h .wired .inside d x y (r .0) .1; opened = r .1 } }
 
-  pub black-open : {k : ℕ} → x < size g → k ≡ bit (gridBoard g s .isOpen x) → (k ≡ 0 → ⊥) → getD ranks x 0 + 1 ≡ blackOf (gridBoard g s) x
-  black-open l e z =
-      let o : gridBoard g s .isOpen x ≡ true = bit-on (gridBoard g s .isOpen x) (λ q. z (e ∙ q)) in
-      let p = place-z (gridBoard g s) (held-laws (r .recordFits)) x o in
-      let t = r .table .holds x l in
-      let n : getD ranks x 0 + 1 ≡ number (gridBoard g s) (Z x) = omega arith in
-      n ∙ sym (ap (λ t. cond t (number (gridBoard g s) (Z x)) 0) o)
+  pub pair-back : {c : Direction} → c ≡ opposite d → OpenPair g s x d y → OpenPair g s y c x
+  pair-back q p = record { here = p .there; leads = ap (λ d. gridBoard g s .next d y) q ∙ held-laws h .wired .back d x y (p .leads); there = p .here }
 
-  pub rank-small : x < size g → getD ranks x 0 ≤ 576
-  rank-small l = let t = r .table .holds x l in let w = r .recordFits .sides .few in omega (arith, rank-few (gridBoard g s) x)
+module _ {g : Grid} {s table : List ℕ} {sizes : Sizes} (t : Tables g s sizes table) where
+  -- the sizes, all and those of the cells before x, and their bounds
+  pub few : Few sizes
+  few = sizes-few (t .recordFits) (size g) (omega arith) (t .sized)
 
--- what the number of Z tells
-module _ (b : Board) {y k : ℕ} (e : k ≡ blackOf b y) where
-  pub told-clue : k ≡ 0 → b .isOpen y ≡ false
-  told-clue z = by (b .isOpen y) (sym e ∙ z)
-    where
-      by : (t : Bool) → cond t (number b (Z y)) 0 ≡ 0 → t ≡ false
-      by true q = absurd (omega arith)
-      by false q = refl
+  pub few-below : {x : ℕ} {z : Sizes} → x < size g → z ≡ sizesBelow g s x → Few z
+  few-below {x} l e = sizes-few (t .recordFits) x (omega arith) e
 
-  pub told-open : (k ≡ 0 → ⊥) → (b .isOpen y ≡ true) × (k ≡ number b (Z y))
-  told-open z = by (b .isOpen y) refl
-    where
-      by : (t : Bool) → b .isOpen y ≡ t → (b .isOpen y ≡ true) × (k ≡ number b (Z y))
-      by true o = (o, e ∙ ap (λ t. cond t (number b (Z y)) 0) o)
-      by false o = absurd (z (e ∙ ap (λ t. cond t (number b (Z y)) 0) o))
+  pub product-few : {x : ℕ} {z : Sizes} → x < size g → z ≡ sizesBelow g s x → z .opens * sizes .opens ≤ mostCells * mostCells
+  product-few l e = mul-le-mul (few-below l e .opens) (few .opens)
 
-module _ {g : Grid} {s ranks firsts : List ℕ} {f a : ℕ} (t : Tables g s f a ranks firsts) where
-  pub on-cell : {x : ℕ} → OpenCell g s x → OnBoard g x
-  on-cell o = record { sides = t .ranked .recordFits .sides; inside = o .inside }
+  -- Z, S, Q and E of an open cell
+  module _ {x : ℕ} (o : OpenCell g s x) {z : Sizes} (e : z ≡ sizesBelow g s x) where
+    pub number-z : z .opens + 1 ≡ number (gridBoard g s) (Z x)
+    number-z = let p = place-z (gridBoard g s) (held-laws (t .recordFits)) x (o .opened) in omega (arith, ap (λ (z : Sizes). z .opens) e)
 
-  pub f-few : f ≤ 576
-  f-few = let w = t .ranked .recordFits .sides .few in let e = t .wayed .opens in omega (arith, rank-few (gridBoard g s) (size g))
+    pub number-s : sizes .opens + z .opens + 1 ≡ number (gridBoard g s) (S x)
+    number-s =
+        let p = place-s (gridBoard g s) (held-laws (t .recordFits)) x (o .opened) in
+        omega (arith, ap (λ (z : Sizes). z .opens) e, ap (λ (z : Sizes). z .opens) (t .sized))
 
-  pub a-few : a ≤ 2304
-  a-few = let w = t .ranked .recordFits .sides .few in let e = t .links in omega (arith, links-few (gridBoard g s) (size g))
-
-  pub place-small : (x : ℕ) (d : Direction) → x < size g → linkPlace (gridBoard g s) x d ≤ 3460
-  place-small x d l =
-      let w = t .ranked .recordFits .sides .few in
-      omega (arith, rank-few (gridBoard g s) (size g), links-few (gridBoard g s) x, earlier-few (gridBoard g s) x d)
-
-  -- the number of Q(x,0)
-  pub ahead-is : {x : ℕ} → OpenCell g s x → f + f + a + getD ranks x 0 * f + 1 ≡ number (gridBoard g s) (Q x 0)
-  ahead-is {x} o =
-      let b = gridBoard g s in
-      let p = place-q b (held-laws (t .ranked .recordFits)) x 0 (o .opened) (some-open (t .ranked .recordFits) o) in
-      let q : getD ranks x 0 * f ≡ rank b x * openCount b = (λ i. t .ranked .table .holds x (o .inside) i * t .wayed .opens i) in
-      omega (arith, t .wayed .opens, t .links)
-
-  module _ {x : ℕ} (o : OpenCell g s x) (d : Direction) where
-    -- none, a clue, or an open neighbour
-    pub side-none : none ≡ neighbour g d x → noNeighbour ≡ neighbourNumbersOf (gridBoard g s) x d
-    side-none e = ap (λ p. neighbourNumbersIf (gridBoard g s) x (ifThere (gridBoard g s) d p)) e
-
-    pub side-clue : {y k : ℕ} → some y ≡ neighbour g d x → k ≡ blackOf (gridBoard g s) y → k ≡ 0 → noNeighbour ≡ neighbourNumbersOf (gridBoard g s) x d
-    side-clue {y} e h z = sym (rw (sym e, told-clue (gridBoard g s) h z))
-
-    pub side-open : {y k i j n : ℕ} {c : Direction} → some y ≡ neighbour g d x → k ≡ blackOf (gridBoard g s) y → (k ≡ 0 → ⊥) → i ≡ linkPlace (gridBoard g s) x d → c ≡ opposite d → j ≡ linkPlace (gridBoard g s) y c → n ≡ f + f + a + getD ranks y 0 * f + 1
-        → _≡_ {A = NeighbourNumbers} (record { out = i + 1; back = j + 1; black = k; distance = n }) (neighbourNumbersOf (gridBoard g s) x d)
-    side-open {y} {k} {i} {j} e h z wi c wj n =
+    pub number-q : sizes .opens + sizes .opens + sizes .links + z .opens * sizes .opens + 1 ≡ number (gridBoard g s) (Q x 0)
+    number-q =
         let b = gridBoard g s in
-        let law = held-laws (t .ranked .recordFits) in
-        let r = told-open b h z in
-        let there : OpenCell g s y = record { inside = law .wired .inside d x y (sym e) .1; opened = r .0 } in
-        let p : i + 1 ≡ number b (E x d) = (let q = place-e b law x d y (o .opened) (sym e) (r .0) in omega (arith, wi)) in
-        let q : j + 1 ≡ number b (E y (opposite d)) = (let q = place-e b law y (opposite d) x (r .0) (law .wired .back d x y (sym e)) (o .opened) in let w = ap (linkPlace b y) c in omega (arith, wj)) in
-        (λ t. record { out = p t; back = q t; black = r .1 t; distance = (n ∙ ahead-is there) t }) ∙ sym (rw (sym e, r .0))
+        let p = place-q b (held-laws (t .recordFits)) x 0 (o .opened) (some-open (t .recordFits) o) in
+        let q : z .opens * sizes .opens ≡ rank b x * openCount b = (λ i. e i .opens * t .sized i .opens) in
+        omega (arith, ap (λ (z : Sizes). z .opens) (t .sized), ap (λ (z : Sizes). z .links) (t .sized))
 
-  -- the whole
-  pub around-is : {x : ℕ} → OpenCell g s x → {r n : ℕ} {north east south west : NeighbourNumbers} → r ≡ getD ranks x 0 → n ≡ f + f + a + r * f + 1
-      → north ≡ cellNumbersOf (gridBoard g s) x .north → east ≡ cellNumbersOf (gridBoard g s) x .east → south ≡ cellNumbersOf (gridBoard g s) x .south → west ≡ cellNumbersOf (gridBoard g s) x .west
-      → _≡_ {A = CellNumbers} (record { rank = r; black = r + 1; start = f + r + 1; distance = n; north = north; east = east; south = south; west = west }) (cellNumbersOf (gridBoard g s) x)
-  around-is {x} o {r} {n} e q hn he hs hw =
-      let b = gridBoard g s in
-      let law = held-laws (t .ranked .recordFits) in
-      let k : r ≡ rank b x = e ∙ t .ranked .table .holds x (o .inside) in
-      let z : r + 1 ≡ number b (Z x) = (let p = place-z b law x (o .opened) in omega arith) in
-      let i : f + r + 1 ≡ number b (S x) = (let p = place-s b law x (o .opened) in omega (arith, t .wayed .opens)) in
-      let j : n ≡ number b (Q x 0) = q ∙ ap (λ r. f + f + a + r * f + 1) e ∙ ahead-is o in
-      (λ t. record { rank = k t; black = z t; start = i t; distance = j t; north = hn t; east = he t; south = hs t; west = hw t })
+    pub number-e : {d : Direction} {y n : ℕ} → OpenPair g s x d y → n ≡ length (neighbours (gridBoard g s) x (earlier d)) → sizes .opens + sizes .opens + z .links + n + 1 ≡ number (gridBoard g s) (E x d)
+    number-e {d} {y} p q =
+        let k = place-e (gridBoard g s) (held-laws (t .recordFits)) x d y (o .opened) (p .leads) (p .there .opened) in
+        omega (arith, ap (λ (z : Sizes). z .links) e, ap (λ (z : Sizes). z .opens) (t .sized))
+
+    -- the number of Z, or 0
+    pub black-open : z .opens + 1 ≡ blackOf (gridBoard g s) x
+    black-open = number-z ∙ sym (ap (λ t. cond t (number (gridBoard g s) (Z x)) 0) (o .opened))
+
+  -- all of a cell
+  pub cell-is : {x : ℕ} → OpenCell g s x → {z : Sizes} {n : ℕ} {north east south west : NeighbourNumbers} → z ≡ sizesBelow g s x → n ≡ number (gridBoard g s) (Q x 0)
+      → north ≡ cellNumbersOf (gridBoard g s) x .north → east ≡ cellNumbersOf (gridBoard g s) x .east
+      → south ≡ cellNumbersOf (gridBoard g s) x .south → west ≡ cellNumbersOf (gridBoard g s) x .west
+      → _≡_ {A = CellNumbers}
+      (record { rank = z .opens; black = z .opens + 1; start = sizes .opens + z .opens + 1; distance = n; north = north; east = east; south = south; west = west })
+      (cellNumbersOf (gridBoard g s) x)
+  cell-is o e q hn he hs hw =
+      (λ i. record { rank = e i .opens; black = number-z o e i; start = number-s o e i; distance = q i; north = hn i; east = he i; south = hs i; west = hw i })
+
+pub black-clue : (b : Board) (x : ℕ) → b .isOpen x ≡ false → 0 ≡ blackOf b x
+black-clue b x h = sym (ap (λ t. cond t (number b (Z x)) 0) h)
+
+-- the neighbour in a direction: none, or an open one
+pub no-neighbour-is : (b : Board) (x : ℕ) (d : Direction) → none ≡ openNeighbour b d x → noNeighbour ≡ neighbourNumbersOf b x d
+no-neighbour-is b x d e = sym (ap (neighbourNumbersIf b x) (there-none b x d e))
+
+pub neighbour-is : (b : Board) (x : ℕ) (d : Direction) {y : ℕ} {n : NeighbourNumbers} → some y ≡ openNeighbour b d x → n ≡ neighbourNumbersTo b x (record { way = d; cell = y }) → n ≡ neighbourNumbersOf b x d
+neighbour-is b x d e h = let r = there-some b x d e in h ∙ sym (rw (r .0, r .1))
+
+-- a pair's numbers
+pub pair-is : (b : Board) (x : ℕ) (d : Direction) (y : ℕ) {i j k n : ℕ} {c : Direction} → b .isOpen y ≡ true → c ≡ opposite d
+    → i ≡ number b (E x d) → j ≡ number b (E y c) → k ≡ blackOf b y → n ≡ number b (Q y 0)
+    → _≡_ {A = NeighbourNumbers} (record { out = i; back = j; black = k; distance = n }) (neighbourNumbersTo b x (record { way = d; cell = y }))
+pair-is b x d y o q ei ej ek en =
+    (λ t. record { out = ei t; back = (ej ∙ ap (λ c. number b (E y c)) q) t; black = (ek ∙ ap (λ t. cond t (number b (Z y)) 0) o) t; distance = en t })

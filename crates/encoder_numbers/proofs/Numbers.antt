@@ -8,7 +8,7 @@ use lib.ListN.{length, getD, take, length-append, length-map}
 use lib.Seq.{take-all}
 use mathlib.Core.Path.{_≡_, refl, sym, _∙_, ap}
 use mathlib.Core.Bool.{Bool, true, false, _&&_, cond}
-use mathlib.Core.Option.{none, some}
+use mathlib.Core.Option.{Option, none, some, Option·some-injective, Option·some-ne-none}
 use mathlib.Core.List.{List, [], _∷_, _++_, append-nil}
 use Rattle.rules.specs.declared.Direction.{Direction}
 use Rattle.rules.specs.declared.Direction.the-variants.{North as north, East as east, South as south, West as west}
@@ -16,40 +16,63 @@ use Rattle.rules.specs.declared.Cell.{Cell}
 use Rattle.rules.specs.declared.Cell.the-variants.{Open, Clue as Clued}
 use Rattle.rules.specs.declared.CellByte.the-variants.{Is, NotAllowed}
 use Rattle.rules.specs.declared.Grid.{Grid}
-use Rattle.rules.specs.Directions.{bit}
 use Rattle.rules.specs.Record.{Puzzle, directionOf, isCell, cellOf, cellByte, size, puzzle, mostCells, RecordFits}
-use Rattle.rules.specs.Board.{Clue, Board, line, clueOf, cluesFrom, gridBoard}
+use Rattle.rules.specs.Board.{Clue, Board, openCell, line, clueOf, cluesFrom, gridBoard}
 use Rattle.rules.proofs.Records.{cell-at, held-filled}
 use Rattle.encoder.specs.Lists.{upTo, each}
-use Rattle.encoder.specs.Variables.{directions, openCount, ifOpen, ifThere, neighbours, out, outgoing, clueCounts, counts, variableCount}
+use Rattle.encoder.specs.Variables.{directions, openCount, ifOpen, ifThere, neighbours, out, outgoing, linkVariables, clueCounts, counts, variableCount}
 use Rattle.encoder.proofs.Lists.{each-append, length-from, length-each-most, keep-most, map-most}
 use Rattle.encoder.proofs.Places.{below, rank, linksBelow, earlier, clue-long, total}
 use Rattle.encoder.proofs.Clues.{clues-next}
 use Rattle.encoder.proofs.Lines.{line-short}
 use Rattle.encoder.proofs.Bounds.{neighbours-most}
-use Rattle.encoder.proofs.ClauseLists.{atCell, each-cell, at-open, at-shut, rank-open, rank-shut}
+use Rattle.encoder.proofs.ClauseLists.{rank-open, rank-shut, ways-open, ways-shut}
+use Rattle.judge_cells.proofs.Checks.{is-opened}
+use Rattle.encoder_numbers.specs.declared.Sizes.{Sizes}
+use Rattle.encoder_numbers.specs.Tables.{countsBelow, sizesBelow, sizesOf, ifOpenCell, openNeighbour}
 
 -- 1. Open cells and links
 
-pub bit-off : (t : Bool) → bit t ≡ 0 → t ≡ false
-bit-off true e = absurd (omega arith)
-bit-off false e = refl
+-- the neighbour in a direction, open or not
+module _ (b : Board) {o : Option ℕ} {y : ℕ} (e : some y ≡ o) where
+  pub neighbour-open : b .isOpen y ≡ true → some y ≡ ifOpenCell b o
+  neighbour-open h = sym (ap (λ t. cond t (some y) none) h) ∙ ap (ifOpenCell b) e
 
-pub bit-on : (t : Bool) → (bit t ≡ 0 → ⊥) → t ≡ true
-bit-on true e = refl
-bit-on false e = absurd (e refl)
+  pub neighbour-shut : b .isOpen y ≡ false → none ≡ ifOpenCell b o
+  neighbour-shut h = sym (ap (λ t. cond t (some y) none) h) ∙ ap (ifOpenCell b) e
 
 module _ (b : Board) (x : ℕ) where
-  -- in one direction: there is none, or it is open or not
-  pub there-none : (d : Direction) → none ≡ b .next d x → 0 ≡ length (neighbours b x (d ∷ []))
-  there-none d e = ap (λ o. length (ifThere b d o ++ [])) e
-
-  pub there-some : (d : Direction) {n y : ℕ} → some y ≡ b .next d x → n ≡ bit (b .isOpen y) → n ≡ length (neighbours b x (d ∷ []))
-  there-some d {y = y} e h = h ∙ by (b .isOpen y) ∙ ap (λ o. length (ifThere b d o ++ [])) e
+  -- in one direction: there is an open one or not
+  pub there-none : (d : Direction) → none ≡ openNeighbour b d x → ifThere b d (b .next d x) ≡ []
+  there-none d e = by (b .next d x) e
     where
-      by : (t : Bool) → bit t ≡ length (ifOpen t d y ++ [])
-      by true = refl
-      by false = refl
+      by : (o : Option ℕ) → none ≡ ifOpenCell b o → ifThere b d o ≡ []
+      by none e = refl
+      by (some y) e = at (b .isOpen y) e
+        where
+          at : (t : Bool) → none ≡ cond t (some y) none → ifOpen t d y ≡ []
+          at true e = absurd (Option·some-ne-none y (sym e))
+          at false e = refl
+
+  pub there-some : (d : Direction) {y : ℕ} → some y ≡ openNeighbour b d x → (b .next d x ≡ some y) × (b .isOpen y ≡ true)
+  there-some d {y} e = by (b .next d x) refl e
+    where
+      by : (o : Option ℕ) → b .next d x ≡ o → some y ≡ ifOpenCell b o → (b .next d x ≡ some y) × (b .isOpen y ≡ true)
+      by none q e = absurd (Option·some-ne-none y e)
+      by (some z) q e = at (b .isOpen z) refl e
+        where
+          at : (t : Bool) → b .isOpen z ≡ t → some y ≡ cond t (some z) none → (b .next d x ≡ some y) × (b .isOpen y ≡ true)
+          at true k e = let r = Option·some-injective y z e in (q ∙ sym e, ap (b .isOpen) r ∙ k)
+          at false k e = absurd (Option·some-ne-none y e)
+
+  pub none-there : (d : Direction) → none ≡ openNeighbour b d x → 0 ≡ length (neighbours b x (d ∷ []))
+  none-there d e = sym (ap (λ l. length (l ++ [])) (there-none d e))
+
+  pub one-there : (d : Direction) {y : ℕ} → some y ≡ openNeighbour b d x → 1 ≡ length (neighbours b x (d ∷ []))
+  one-there d e = let r = there-some d e in sym (rw (r .0, r .1))
+
+  pub one-few : (d : Direction) {n : ℕ} → n ≡ length (neighbours b x (d ∷ [])) → n ≤ 1
+  one-few d e = omega (arith, neighbours-most b x (d ∷ []))
 
   -- in two groups of directions
   pub links-sum : (ds es : List Direction) {m n : ℕ} → m ≡ length (neighbours b x ds) → n ≡ length (neighbours b x es) → m + n ≡ length (neighbours b x (ds ++ es))
@@ -64,23 +87,6 @@ module _ (b : Board) (x : ℕ) where
   earlier-few south = omega (arith, neighbours-most b x (earlier south))
   earlier-few west = neighbours-most b x (earlier west)
 
-  -- the E variables of a cell
-  pub links-all : {n : ℕ} → b .isOpen x ≡ true → n ≡ length (neighbours b x directions) → n ≡ length (atCell b (outgoing b) x)
-  links-all h e = e ∙ sym (ap length (at-open b x (outgoing b) h) ∙ length-map (neighbours b x directions) (out x))
-
-  pub links-none : b .isOpen x ≡ false → 0 ≡ length (atCell b (outgoing b) x)
-  links-none h = sym (ap length (at-shut b x (outgoing b) h))
-
-  pub rank-on : rank b (x + 1) ≡ rank b x + bit (b .isOpen x)
-  rank-on = by (b .isOpen x) refl
-    where
-      by : (t : Bool) → b .isOpen x ≡ t → rank b (x + 1) ≡ rank b x + bit t
-      by true h = rank-open b x h
-      by false h = rank-shut b x h ∙ omega arith
-
-  pub ways-on : linksBelow b (x + 1) ≡ linksBelow b x + length (atCell b (outgoing b) x)
-  ways-on = ap length (each-cell b x (outgoing b)) ∙ length-append (each (below b x) (outgoing b)) (atCell b (outgoing b) x)
-
   pub rank-few : rank b x ≤ x
   rank-few = omega (arith, keep-most (b .isOpen) (upTo x), length-from 0 x)
 
@@ -91,10 +97,7 @@ module _ (b : Board) (x : ℕ) where
 
 -- 2. T variables
 
--- those of the first x cells
-abbrev pub countsBelow : Puzzle → ℕ → ℕ
-countsBelow p x = length (each (cluesFrom p 0 (take x (p .cells))) clueCounts)
-
+-- those of a cell
 abbrev pub countsOf : Puzzle → ℕ → ℕ
 countsOf p x = length (each (clueOf p x (getD (p .cells) x Open)) clueCounts)
 
@@ -153,27 +156,61 @@ below-few {g} {s} h (suc x) l =
 pub counts-are : {g : Grid} {s : List ℕ} → RecordFits g s → countsBelow (puzzle g s) (size g) ≡ length (counts (gridBoard g s))
 counts-are {g} {s} h = let f = held-filled h in ap (λ cs. length (each (cluesFrom (puzzle g s) 0 cs) clueCounts)) (take-all (size g) (puzzle g s .cells) (omega arith))
 
--- at the head of the loop that adds them up
-pub record Totalling (p : Puzzle) (total x : ℕ) : Type 0 where
-  pub within : x ≤ size (p .grid)
-  pub is : total ≡ countsBelow p x
+-- 3. The sizes of the cells before x, one cell more, and their bounds
 
-pub total-start : {p : Puzzle} → Totalling p 0 0
-total-start = record { within = omega arith; is = refl }
+module _ {g : Grid} {s : List ℕ} (h : RecordFits g s) {x : ℕ} (l : x < size g) {z : Sizes} (e : z ≡ sizesBelow g s x) {c : Cell} (q : c ≡ getD (puzzle g s .cells) x Open) where
+  counts-next : countsBelow (puzzle g s) (x + 1) ≡ countsBelow (puzzle g s) x + countsOf (puzzle g s) x
+  counts-next = let f = held-filled h in counts-on (puzzle g s) x (omega arith)
 
-module _ {g : Grid} {s : List ℕ} {total x : ℕ} (h : RecordFits g s) (p : Totalling (puzzle g s) total x) where
-  pub total-on : {n : ℕ} → x < size g → n ≡ countsOf (puzzle g s) x → Totalling (puzzle g s) (total + n) (x + 1)
-  total-on l e = let f = held-filled h in record { within = omega arith; is = (λ i. p .is i + e i) ∙ sym (counts-on (puzzle g s) x (omega arith)) }
+  opens-is : z .opens ≡ rank (gridBoard g s) x
+  opens-is = ap (λ (z : Sizes). z .opens) e
 
-  pub total-end : size g ≤ x → total ≡ length (counts (gridBoard g s))
-  total-end l = let w = p .within in let e : x ≡ size g = omega arith in p .is ∙ ap (countsBelow (puzzle g s)) e ∙ counts-are h
+  links-is : z .links ≡ linksBelow (gridBoard g s) x
+  links-is = ap (λ (z : Sizes). z .links) e
 
--- 3. V
+  counts-is : z .counts ≡ countsBelow (puzzle g s) x
+  counts-is = ap (λ (z : Sizes). z .counts) e
 
-pub V-few : {g : Grid} {s : List ℕ} → RecordFits g s → variableCount (gridBoard g s) < 2 ^ 60
-V-few {g} {s} h =
+  pub sizes-open : {n : ℕ} → c ≡ Open → n ≡ length (neighbours (gridBoard g s) x directions)
+      → _≡_ {A = Sizes} (record { opens = z .opens + 1; links = z .links + n; counts = z .counts }) (sizesBelow g s (x + 1))
+  sizes-open {n} k m =
+      let b = gridBoard g s in
+      let o : b .isOpen x ≡ true = sym (is-opened h l q) ∙ ap openCell k in
+      let i : z .opens + 1 ≡ rank b (x + 1) = ap (λ n. n + 1) opens-is ∙ sym (rank-open b x o) in
+      let j : z .links + n ≡ linksBelow b (x + 1) = (λ t. links-is t + m t) ∙ sym (ways-open b x o ∙ ap (λ n. linksBelow b x + n) (length-map (neighbours b x directions) (out x))) in
+      let u : z .counts ≡ countsBelow (puzzle g s) (x + 1) = (let f = no-counts (puzzle g s) x k q in omega (arith, counts-next, counts-is)) in
+      (λ t. record { opens = i t; links = j t; counts = u t })
+
+  pub sizes-clue : {d : Direction} {n k : ℕ} → c ≡ Clued d n → k ≡ length (line (puzzle g s) d x)
+      → _≡_ {A = Sizes} (record { opens = z .opens; links = z .links; counts = z .counts + (k + 1) * (n + 1) }) (sizesBelow g s (x + 1))
+  sizes-clue {d} {n} {k} w m =
+      let b = gridBoard g s in
+      let o : b .isOpen x ≡ false = sym (is-opened h l q) ∙ ap openCell w in
+      let i : z .opens ≡ rank b (x + 1) = opens-is ∙ sym (rank-shut b x o) in
+      let j : z .links ≡ linksBelow b (x + 1) = links-is ∙ sym (ways-shut b x o) in
+      let u : z .counts + (k + 1) * (n + 1) ≡ countsBelow (puzzle g s) (x + 1) = (λ t. counts-is t + clue-counts (puzzle g s) x w q m t) ∙ sym counts-next in
+      (λ t. record { opens = i t; links = j t; counts = u t })
+
+-- whatever the grid, nothing that is counted overflows
+pub record Few (z : Sizes) : Type 0 where
+  pub opens : z .opens ≤ mostCells
+  pub links : z .links ≤ 4 * mostCells
+  pub counts : z .counts ≤ 2 ^ 30
+
+pub sizes-few : {g : Grid} {s : List ℕ} → RecordFits g s → (x : ℕ) → x ≤ size g → {z : Sizes} → z ≡ sizesBelow g s x → Few z
+sizes-few {g} {s} h x l e =
     let b = gridBoard g s in
     let w = h .sides .few in
-    let f : openCount b ≤ mostCells = omega (arith, rank-few b (size g)) in
-    let q : openCount b * openCount b ≤ mostCells * mostCells = mul-le-mul f f in
-    omega (arith, total b, links-few b (size g), below-few h (size g) (omega arith), counts-are h)
+    rw e (record { opens = omega (arith, rank-few b x); links = omega (arith, links-few b x); counts = omega (arith, below-few h x l) })
+
+-- 4. V
+
+module _ {g : Grid} {s : List ℕ} (h : RecordFits g s) {z : Sizes} (e : z ≡ sizesOf g s) where
+  pub total-is : z .opens + z .opens + z .links + z .opens * z .opens + z .counts ≡ variableCount (gridBoard g s)
+  total-is = ap (λ (z : Sizes). z .opens + z .opens + z .links + z .opens * z .opens + z .counts) e ∙ ap (λ n. openCount b + openCount b + length (linkVariables b) + openCount b * openCount b + n) (counts-are h) ∙ sym (total b)
+    where
+      b : Board
+      b = gridBoard g s
+
+  pub square-few : z .opens * z .opens ≤ mostCells * mostCells
+  square-few = let f = sizes-few h (size g) (omega arith) e in mul-le-mul (f .opens) (f .opens)

@@ -1,52 +1,70 @@
--- What the numbers of a cell's variables go by: its rank and its first E variable, kept in tables.
-use Prim.Native.Nat.{ℕ, _+_, _≤_, _<_}
-use lib.ListN.{length, getD}
+-- What the numbers of a cell's variables go by: how many open cells, E variables and T variables the cells before it have.
+use Prim.Native.Nat.{ℕ, _+_, _*_, _≤_, _<_}
+use lib.ListN.{length, getD, take}
 use mathlib.Core.Path.{_≡_}
-use mathlib.Core.Bool.{true}
-use mathlib.Core.List.{List, map}
+use mathlib.Core.Bool.{true, cond}
+use mathlib.Core.Option.{Option, none, some}
+use mathlib.Core.List.{List, [], _∷_}
 use Rattle.rules.specs.declared.Direction.{Direction}
 use Rattle.rules.specs.declared.Grid.{Grid}
-use Rattle.rules.specs.Record.{size, RecordFits}
-use Rattle.rules.specs.Board.{Board, gridBoard}
-use Rattle.encoder.specs.Lists.{upTo}
-use Rattle.encoder.specs.Variables.{openCount, neighbours, linkVariables}
-use Rattle.encoder.proofs.Places.{rank, linksBelow, earlier}
+use Rattle.rules.specs.Record.{Puzzle, size, puzzle, mostCells, RecordFits}
+use Rattle.rules.specs.Board.{Board, cluesFrom, gridBoard}
+use Rattle.encoder.specs.Lists.{upTo, each}
+use Rattle.encoder.specs.Variables.{openCount, linkVariables, clueCounts}
+use Rattle.encoder.proofs.Places.{rank, linksBelow}
+use Rattle.encoder_numbers.specs.declared.Sizes.{Sizes}
 
--- the number of open cells before each cell: the rank of an open one
-abbrev pub rankTable : Board → List ℕ
-rankTable b = map (rank b) (upTo (b .size))
+-- the number of T variables of the first x cells
+abbrev pub countsBelow : Puzzle → ℕ → ℕ
+countsBelow p x = length (each (cluesFrom p 0 (take x (p .cells))) clueCounts)
 
--- the number of E variables of the cells before each cell
-abbrev pub firstLinkTable : Board → List ℕ
-firstLinkTable b = map (linksBelow b) (upTo (b .size))
+-- the sizes of the cells before x: the number of open cells is the rank of x, if it is open
+abbrev pub sizesBelow : Grid → List ℕ → ℕ → Sizes
+sizesBelow g s x = record { opens = rank (gridBoard g s) x; links = linksBelow (gridBoard g s) x; counts = countsBelow (puzzle g s) x }
 
--- the place of E(x,d) among the variables, where there is one (`place-e`)
-abbrev pub linkPlace : Board → ℕ → Direction → ℕ
-linkPlace b x d = openCount b + openCount b + (linksBelow b x + length (neighbours b x (earlier d)))
+-- of all cells: F, A and the number of T variables
+abbrev pub sizesOf : Grid → List ℕ → Sizes
+sizesOf g s = sizesBelow g s (size g)
 
--- a table that holds f of each number below n
-pub record Table (f : ℕ → ℕ) (n : ℕ) (t : List ℕ) : Type 0 where
-  pub long : n ≤ length t
-  pub holds : (x : ℕ) → x < n → getD t x 0 ≡ f x
+-- the table: three numbers for each cell
+abbrev pub rowOf : Sizes → List ℕ
+rowOf z = z .opens ∷ z .links ∷ z .counts ∷ []
 
--- what the functions ask that number E variables: F, and the table of ways
-pub record LinkTableFits (g : Grid) (s : List ℕ) (f : ℕ) (linkVariables : List ℕ) : Type 0 where
+abbrev pub tableOf : Grid → List ℕ → List ℕ
+tableOf g s = each (upTo (size g)) (λ x. rowOf (sizesBelow g s x))
+
+-- as long as the largest grid's (`TABLE`)
+abbrev pub tableLength : ℕ
+tableLength = 3 * mostCells
+
+-- a grid's record, its sizes and its table
+pub record Tables (g : Grid) (s : List ℕ) (sizes : Sizes) (table : List ℕ) : Type 0 where
   pub recordFits : RecordFits g s
-  pub opens : f ≡ openCount (gridBoard g s)
-  pub table : Table (linksBelow (gridBoard g s)) (size g) linkVariables
-
--- the table of ranks
-pub record RankTableFits (g : Grid) (s ranks : List ℕ) : Type 0 where
-  pub recordFits : RecordFits g s
-  pub table : Table (rank (gridBoard g s)) (size g) ranks
-
--- F, A and both tables
-pub record Tables (g : Grid) (s : List ℕ) (f a : ℕ) (ranks firsts : List ℕ) : Type 0 where
-  pub ranked : RankTableFits g s ranks
-  pub wayed : LinkTableFits g s f firsts
-  pub links : a ≡ length (linkVariables (gridBoard g s))
+  pub sized : sizes ≡ sizesOf g s
+  pub long : 3 * size g ≤ length table
+  pub rows : (x k : ℕ) → x < size g → k < 3 → getD table (3 * x + k) 0 ≡ getD (rowOf (sizesBelow g s x)) k 0
 
 -- an open cell of a grid
 pub record OpenCell (g : Grid) (s : List ℕ) (x : ℕ) : Type 0 where
   pub inside : x < size g
   pub opened : gridBoard g s .isOpen x ≡ true
+
+-- two open cells: y is the neighbour of x in direction d
+pub record OpenPair (g : Grid) (s : List ℕ) (x : ℕ) (d : Direction) (y : ℕ) : Type 0 where
+  pub here : OpenCell g s x
+  pub leads : gridBoard g s .next d x ≡ some y
+  pub there : OpenCell g s y
+
+-- the neighbour in a direction, if it is open
+abbrev pub ifOpenCell : Board → Option ℕ → Option ℕ
+ifOpenCell b none = none
+ifOpenCell b (some y) = cond (b .isOpen y) (some y) none
+
+abbrev pub openNeighbour : Board → Direction → ℕ → Option ℕ
+openNeighbour b d x = ifOpenCell b (b .next d x)
+
+-- the number of the first T variable of the clues from cell x on
+abbrev pub firstCount : Grid → List ℕ → ℕ → ℕ
+firstCount g s x =
+    openCount (gridBoard g s) + openCount (gridBoard g s) + length (linkVariables (gridBoard g s)) + openCount (gridBoard g s) * openCount (gridBoard g s)
+    + countsBelow (puzzle g s) x + 1

@@ -1,39 +1,74 @@
-// The numbers of the variables of a cell and of its open neighbours, by the tables of ranks and of first E variables.
+// The numbers of the variables of a cell and of its open neighbours, by the table.
 ghost use mathlib.Core.Path.{_≡_};
-ghost use Prim.Native.Nat.{_+_, _*_, _<_, _≤_};
+ghost use Prim.Native.Nat.{_<_};
 ghost use Rattle.rules.specs.Record.{size};
 ghost use Rattle.rules.specs.Board.{gridBoard};
-ghost use Rattle.encoder_numbers.specs.Numbered.{noNeighbour, blackOf, neighbourNumbersOf, cellNumbersOf};
-ghost use Rattle.encoder_numbers.specs.Tables.{RankTableFits, Tables, OpenCell};
+ghost use Rattle.encoder.specs.Variables.{E, Q, number};
+ghost use Rattle.encoder_numbers.specs.Numbered.{noNeighbour, blackOf, neighbourNumbersTo, neighbourNumbersOf, cellNumbersOf};
+ghost use Rattle.encoder_numbers.specs.Tables.{Tables, OpenCell, OpenPair, firstCount};
 use super::CellNumbers;
 use super::NeighbourNumbers;
-use super::tables::link_place;
-use super::tables::open_bit;
+use super::Sizes;
+use super::tables::links_before;
+use super::tables::open_neighbour;
+use super::tables::sizes_below;
 use answers::Place;
+use judge_cells::cells::is_open;
 use rules::Direction;
 use rules::Grid;
-use rules::board::neighbour;
 use rules::board::opposite;
 
 // The number of a cell's Z; 0 for a clue.
-pub fn black_number(g: Grid, record: &[u8], ranks: &[usize], x: usize) -> usize
-    requires { ⌜ RankTableFits g (now «record») (now ranks) ⌝ }
+pub fn black_number(g: Grid, record: &[u8], sizes: Sizes, table: &[usize], x: usize) -> usize
+    requires { ⌜ Tables g (now «record») sizes (now table) ⌝ }
     requires { ⌜ x < size g ⌝ }
     ensures { λ r. ⌜ r ≡ blackOf (gridBoard g (now («record» .entry))) x ⌝ }
 {
-    let open = open_bit(g, record, x);
-    if open == 0 {
+    let open = is_open(g, record, x);
+    if !open {
         return 0;
     }
-    ranks[x] + 1
+    let below = sizes_below(g, record, sizes, table, x);
+    below.opens + 1
 }
 
-// The number of Q(x,0), with F, A and the rank of x: after Z, S and E come F for each cell of lower rank.
-fn distance_number(f: usize, a: usize, rank: usize) -> usize
-    requires { ⌜ (f ≤ 576) × (a ≤ 2304) × (rank ≤ 576) ⌝ }
-    ensures { λ r. ⌜ r ≡ f + f + a + rank * f + 1 ⌝ }
+// The number of E(x,d): after Z and S come the E variables of the cells before x, then its own. The neighbour y is there to say that there is one.
+pub fn link_number(
+    g: Grid,
+    record: &[u8],
+    sizes: Sizes,
+    table: &[usize],
+    x: usize,
+    d: Direction,
+    y: usize,
+) -> usize
+    requires { ⌜ Tables g (now «record») sizes (now table) ⌝ }
+    requires { ⌜ OpenPair g (now «record») x d y ⌝ }
+    ensures { λ r. ⌜ r ≡ number (gridBoard g (now («record» .entry))) (E x d) ⌝ }
 {
-    f + f + a + rank * f + 1
+    let below = sizes_below(g, record, sizes, table, x);
+    let before = links_before(g, record, x, d);
+    sizes.opens + sizes.opens + below.links + before + 1
+}
+
+// The number of Q(x,0): after Z, S and E come F for each open cell before x.
+fn distance_number(g: Grid, record: &[u8], sizes: Sizes, table: &[usize], x: usize) -> usize
+    requires { ⌜ Tables g (now «record») sizes (now table) ⌝ }
+    requires { ⌜ OpenCell g (now «record») x ⌝ }
+    ensures { λ r. ⌜ r ≡ number (gridBoard g (now («record» .entry))) (Q x 0) ⌝ }
+{
+    let below = sizes_below(g, record, sizes, table, x);
+    sizes.opens + sizes.opens + sizes.links + below.opens * sizes.opens + 1
+}
+
+// The number of the first T variable of the clues from cell x on: after all Z, S, E and Q come those of the clues before x.
+pub fn count_number(g: Grid, record: &[u8], sizes: Sizes, table: &[usize], x: usize) -> usize
+    requires { ⌜ Tables g (now «record») sizes (now table) ⌝ }
+    requires { ⌜ x < size g ⌝ }
+    ensures { λ r. ⌜ r ≡ firstCount g (now («record» .entry)) x ⌝ }
+{
+    let below = sizes_below(g, record, sizes, table, x);
+    sizes.opens + sizes.opens + sizes.links + sizes.opens * sizes.opens + below.counts + 1
 }
 
 fn no_neighbour() -> NeighbourNumbers
@@ -47,65 +82,69 @@ fn no_neighbour() -> NeighbourNumbers
     }
 }
 
-// The neighbour of an open cell in a direction.
-fn neighbour_numbers(
+// The open neighbour y of an open cell.
+fn numbers_to(
     g: Grid,
     record: &[u8],
-    f: usize,
-    a: usize,
-    ranks: &[usize],
-    firsts: &[usize],
+    sizes: Sizes,
+    table: &[usize],
     x: usize,
     d: Direction,
+    y: usize,
 ) -> NeighbourNumbers
-    requires { ⌜ Tables g (now «record») f a (now ranks) (now firsts) ⌝ }
-    requires { ⌜ OpenCell g (now «record») x ⌝ }
-    ensures { λ r. ⌜ r ≡ neighbourNumbersOf (gridBoard g (now («record» .entry))) x d ⌝ }
+    requires { ⌜ Tables g (now «record») sizes (now table) ⌝ }
+    requires { ⌜ OpenPair g (now «record») x d y ⌝ }
+    ensures { λ r. ⌜ r ≡ neighbourNumbersTo (gridBoard g (now («record» .entry))) x (record { way = d; cell = y }) ⌝ }
 {
-    let p = neighbour(g, x, d);
-    let Place::At(y) = p else {
-        return no_neighbour();
-    };
-    let black = black_number(g, record, ranks, y);
-    if black == 0 {
-        return no_neighbour();
-    }
-    let out = link_place(g, record, f, firsts, x, d);
-    let opposed = opposite(d);
-    let back = link_place(g, record, f, firsts, y, opposed);
-    let distance = distance_number(f, a, ranks[y]);
+    let out = link_number(g, record, sizes, table, x, d, y);
+    let back = link_number(g, record, sizes, table, y, opposite(d), x);
+    let black = black_number(g, record, sizes, table, y);
+    let distance = distance_number(g, record, sizes, table, y);
     NeighbourNumbers {
-        out: out + 1,
-        back: back + 1,
+        out,
+        back,
         black,
         distance,
     }
 }
 
-// An open cell and its four sides.
-pub fn cell_numbers(
+// The neighbour of an open cell in a direction.
+fn neighbour_numbers(
     g: Grid,
     record: &[u8],
-    f: usize,
-    a: usize,
-    ranks: &[usize],
-    firsts: &[usize],
+    sizes: Sizes,
+    table: &[usize],
     x: usize,
-) -> CellNumbers
-    requires { ⌜ Tables g (now «record») f a (now ranks) (now firsts) ⌝ }
+    d: Direction,
+) -> NeighbourNumbers
+    requires { ⌜ Tables g (now «record») sizes (now table) ⌝ }
+    requires { ⌜ OpenCell g (now «record») x ⌝ }
+    ensures { λ r. ⌜ r ≡ neighbourNumbersOf (gridBoard g (now («record» .entry))) x d ⌝ }
+{
+    let p = open_neighbour(g, record, x, d);
+    let Place::At(y) = p else {
+        return no_neighbour();
+    };
+    numbers_to(g, record, sizes, table, x, d, y)
+}
+
+// An open cell and its four neighbours.
+pub fn cell_numbers(g: Grid, record: &[u8], sizes: Sizes, table: &[usize], x: usize) -> CellNumbers
+    requires { ⌜ Tables g (now «record») sizes (now table) ⌝ }
     requires { ⌜ OpenCell g (now «record») x ⌝ }
     ensures { λ r. ⌜ r ≡ cellNumbersOf (gridBoard g (now («record» .entry))) x ⌝ }
 {
-    let rank = ranks[x];
-    let distance = distance_number(f, a, rank);
-    let north = neighbour_numbers(g, record, f, a, ranks, firsts, x, Direction::North);
-    let east = neighbour_numbers(g, record, f, a, ranks, firsts, x, Direction::East);
-    let south = neighbour_numbers(g, record, f, a, ranks, firsts, x, Direction::South);
-    let west = neighbour_numbers(g, record, f, a, ranks, firsts, x, Direction::West);
+    let below = sizes_below(g, record, sizes, table, x);
+    let rank = below.opens;
+    let distance = distance_number(g, record, sizes, table, x);
+    let north = neighbour_numbers(g, record, sizes, table, x, Direction::North);
+    let east = neighbour_numbers(g, record, sizes, table, x, Direction::East);
+    let south = neighbour_numbers(g, record, sizes, table, x, Direction::South);
+    let west = neighbour_numbers(g, record, sizes, table, x, Direction::West);
     CellNumbers {
         rank,
         black: rank + 1,
-        start: f + rank + 1,
+        start: sizes.opens + rank + 1,
         distance,
         north,
         east,

@@ -3,45 +3,96 @@ use Prim.Native.Nat.{ℕ, zero, suc, _+_, _-_, _≤_, _<_}
 use native.Mathlib.Omega.{arith}
 use lib.IntN.{ℤ, pos}
 use lib.ListN.{length, length-append}
-use mathlib.Core.Path.{_≡_, sym, _∙_, ap}
-use mathlib.Core.List.{List, [], _∷_, _++_}
+use mathlib.Core.Path.{_≡_, refl, sym, _∙_, ap}
+use mathlib.Core.List.{List, [], _∷_, _++_, append-assoc, append-nil}
 use Rattle.answers.specs.Lent.{Wrote}
 use Rattle.answers.proofs.Lent.{wrote-nothing, wrote-after, wrote-recast, wrote-length}
 use Rattle.cnf.specs.Literals.{mostVariables}
 use Rattle.encoder.specs.Lists.{from, upTo, each, joined}
 use Rattle.encoder.proofs.Lists.{all-left, all-right, each-append, from-append}
 use Rattle.encoder.proofs.ClauseLists.{each-next}
-use Rattle.encoder_shapes.specs.Writable.{Right, Writable}
+use Rattle.encoder_shapes.specs.Writable.{Right, Writable, Parts}
 use Rattle.encoder_shapes.specs.Shapes.{no}
+
+pub writable-recast : {at : ℕ} {xs ys : List ℤ} → xs ≡ ys → Writable at xs → Writable at ys
+writable-recast e w = rw (← e) w
 
 -- a list in two parts
 module _ {at : ℕ} (xs ys : List ℤ) (w : Writable at (xs ++ ys)) where
-  writable-left : Writable at xs
+  pub writable-left : Writable at xs
   writable-left = let r = w .room in record { room = omega (arith, length-append xs ys); right = all-left Right xs ys (w .right) }
 
-  writable-right : {buf new : List ℤ} {next : ℕ} → Wrote buf at xs new next → Writable next ys
+  pub writable-right : {buf new : List ℤ} {next : ℕ} → Wrote buf at xs new next → Writable next ys
   writable-right p = let r = w .room in let e = p .place in record { room = omega (arith, length-append xs ys); right = all-right Right xs ys (w .right) }
 
 -- after one element
 pub writable-next : {at next : ℕ} {x : ℤ} {xs buf new : List ℤ} → Writable at (x ∷ xs) → Wrote buf at (x ∷ []) new next → Writable next xs
 writable-next {x = x} {xs = xs} w p = writable-right (x ∷ []) xs w p
 
--- a list in parts
-pub record Parts (at : ℕ) (ps : List (List ℤ)) : Type 0 where
-  pub writable : Writable at (joined ps)
+-- 1. A list in parts, written one after the other
+
+abbrev pub firstPart : List (List ℤ) → List ℤ
+firstPart [] = []
+firstPart (p ∷ ps) = p
+
+abbrev pub otherParts : List (List ℤ) → List (List ℤ)
+otherParts [] = []
+otherParts (p ∷ ps) = ps
+
+pub parts-split : (ps : List (List ℤ)) → joined ps ≡ firstPart ps ++ joined (otherParts ps)
+parts-split [] = refl
+parts-split (p ∷ ps) = refl
+
+-- what a function that writes parts has written, and what is left: the list and the place before it, all parts; the list and the place now, the parts left
+pub record Progress : Type 0 where
+  pub list : List ℤ
+  pub from : ℕ
+  pub parts : List (List ℤ)
+  pub now : List ℤ
+  pub at : ℕ
+  pub left : List (List ℤ)
+  pub done : List ℤ
+  pub splits : joined parts ≡ done ++ joined left
+  pub wrote : Wrote list from done now at
+  pub writable : Writable at (joined left)
 
 pub in-parts : {at : ℕ} (ps : List (List ℤ)) → Writable at (joined ps) → Parts at ps
 in-parts ps w = record { writable = w }
 
-module _ {at : ℕ} {p : List ℤ} {ps : List (List ℤ)} (w : Parts at (p ∷ ps)) where
-  pub first-part : Writable at p
-  first-part = writable-left p (joined ps) (w .writable)
+-- nothing is written yet
+abbrev pub begun : (list : List ℤ) {at : ℕ} {ps : List (List ℤ)} → Parts at ps → Progress
+begun list {at} {ps} w =
+    record { list = list; from = at; parts = ps; now = list; at = at; left = ps; done = []; splits = refl; wrote = wrote-nothing list at; writable = w .writable }
 
-  pub next-parts : {buf new : List ℤ} {next : ℕ} → Wrote buf at p new next → Parts next ps
-  next-parts h = record { writable = writable-right p (joined ps) (w .writable) h }
+module _ (p : Progress) where
+  pub split-left : Writable (p .at) (firstPart (p .left) ++ joined (otherParts (p .left)))
+  split-left = writable-recast (parts-split (p .left)) (p .writable)
 
-pub writable-recast : {at : ℕ} {xs ys : List ℤ} → xs ≡ ys → Writable at xs → Writable at ys
-writable-recast e w = rw (← e) w
+  -- the next part can be written,
+  pub part-needs : Writable (p .at) (firstPart (p .left))
+  part-needs = writable-left (firstPart (p .left)) (joined (otherParts (p .left))) split-left
+
+  -- and was written
+  abbrev pub part-on : {new : List ℤ} {next : ℕ} → Wrote (p .now) (p .at) (firstPart (p .left)) new next → Progress
+  part-on {new} {next} h =
+      record {
+        list = p .list;
+        from = p .from;
+        parts = p .parts;
+        now = new;
+        at = next;
+        left = otherParts (p .left);
+        done = p .done ++ firstPart (p .left);
+        splits = p .splits ∙ ap (λ l. p .done ++ l) (parts-split (p .left)) ∙ sym (append-assoc (p .done) (firstPart (p .left)) (joined (otherParts (p .left))));
+        wrote = wrote-after (p .wrote) h;
+        writable = writable-right (firstPart (p .left)) (joined (otherParts (p .left))) split-left h;
+      }
+
+  -- all is written
+  pub parts-end : joined (p .left) ≡ [] → Wrote (p .list) (p .from) (joined (p .parts)) (p .now) (p .at)
+  parts-end e = wrote-recast (sym (p .splits ∙ ap (λ l. p .done ++ l) e ∙ append-nil (p .done))) (p .wrote)
+
+-- 2. One element, and the turn of a loop
 
 -- what the functions that write one element require
 abbrev pub Puts : ℕ → ℕ → Type 0

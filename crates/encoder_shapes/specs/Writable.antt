@@ -5,6 +5,7 @@ use lib.ListN.{length}
 use mathlib.Core.List.{List}
 use Rattle.answers.specs.Lists.{All}
 use Rattle.cnf.specs.Literals.{mostVariables}
+use Rattle.encoder.specs.Lists.{joined}
 
 -- a literal's variable is not beyond the most that V can be
 abbrev pub Right : ℤ → Type 0
@@ -14,3 +15,7 @@ Right l = natAbs l ≤ mostVariables
 pub record Writable (at : ℕ) (xs : List ℤ) : Type 0 where
   pub room : at + length xs < 2 ^ 64
   pub right : All Right xs
+
+-- the same of a list in parts
+pub record Parts (at : ℕ) (ps : List (List ℤ)) : Type 0 where
+  pub writable : Writable at (joined ps)

@@ -19,7 +19,7 @@ use Rattle.rules.specs.Board.{Board, Clue, openCell, line, clueOf, gridBoard}
 use Rattle.encoder.specs.Lists.{each, joined}
 use Rattle.encoder.specs.Variables.{directions, openCount, neighbours}
 use Rattle.encoder.specs.Clauses.{Clause, eastSouth, fromOne, touchingAt, clueParts, clueClauses, linksAt, lower, startAt, distanceAt}
-use Rattle.encoder.proofs.Places.{rank, earlier}
+use Rattle.encoder.proofs.Places.{rank}
 use Rattle.encoder.proofs.Bounds.{neighbours-most}
 use Rattle.encoder.proofs.ClauseLists.{atCell, at-open, at-shut, lower-is}
 use Rattle.encoder.proofs.Counts.{pairCount, Sized, sized-none, sized-append, sized-is, around, after, touching-sized, clue-sized, links-sized, start-sized, distance-sized, from-one}
@@ -68,21 +68,18 @@ module _ {g : Grid} {s : List ℕ} {x : ℕ} (h : RecordFits g s) (inside : x < 
         }
 
     -- with F, the rank and the neighbours as they were counted
-    module _ {f lower before w t u : ℕ} (F : f ≡ openCount b) (R : lower ≡ rank b x) (B : before ≡ length (neighbours b x (earlier west))) (W : w ≡ length (neighbours b x (west ∷ [])))
+    module _ {f lower m t u : ℕ} (F : f ≡ openCount b) (R : lower ≡ rank b x) (M : m ≡ length (neighbours b x directions))
         (T : t ≡ length (neighbours b x (east ∷ []))) (U : u ≡ length (neighbours b x (south ∷ []))) where
-      all-sides : before + w ≡ around b x
-      all-sides = links-sum b x (earlier west) (west ∷ []) B W
-
       two-sides : t + u ≡ after b x
       two-sides = links-sum b x (east ∷ []) (south ∷ []) T U
 
-      pub open-asks : ((0 < f) × (f ≤ 576) × (lower ≤ 576)) × ((before + w ≤ 4) × (t + u ≤ 2) × (t ≤ 1))
+      pub open-asks : ((0 < f) × (f ≤ mostCells) × (lower ≤ mostCells)) × ((m ≤ 4) × (t + u ≤ 2) × (t ≤ 1))
       open-asks =
           let (i, j, k) = open-few in
-          ((omega arith, omega arith, omega arith), (omega (arith, all-sides, neighbours-most b x directions), omega (arith, two-sides, neighbours-most b x eastSouth), omega (arith, neighbours-most b x (east ∷ []))))
+          ((omega arith, omega arith, omega arith), (omega (arith, neighbours-most b x directions), omega (arith, two-sides, neighbours-most b x eastSouth), omega (arith, neighbours-most b x (east ∷ []))))
 
-      pub open-counted : {r : Amount} → r ≡ openAmount f lower (before + w) (t + u) t → Amounts b (cellFamilies g s x) r
-      open-counted q = subst (Amounts b (cellFamilies g s x)) (sym (q ∙ (λ i. openAmount (F i) (R i) (all-sides i) (two-sides i) (T i)))) open-amounts
+      pub open-counted : {r : Amount} → r ≡ openAmount f lower m (t + u) t → Amounts b (cellFamilies g s x) r
+      open-counted q = subst (Amounts b (cellFamilies g s x)) (sym (q ∙ (λ i. openAmount (F i) (R i) (M i) (two-sides i) (T i)))) open-amounts
 
   module _ {d : Direction} {n : ℕ} (e : getD (puzzle g s .cells) x Open ≡ Clued d n) (small : n < 256) where
     abbrev cells : List ℕ
@@ -127,7 +124,7 @@ module _ {g : Grid} {s : List ℕ} {x : ℕ} (h : RecordFits g s) (inside : x < 
       pub clue-less : o ≤ l
       clue-less = omega (arith, many-most (b .isOpen) cells)
 
-      pub clue-asks : (n < 256) × (o ≤ 576) × (l - o ≤ 576)
+      pub clue-asks : (n < 256) × (o ≤ mostCells) × (l - o ≤ mostCells)
       clue-asks = (small, omega (arith, clue-less, line-few h inside d), omega (arith, line-few h inside d))
 
       pub clue-counted : {r : Amount} → r ≡ clueAmount n o (l - o) → Amounts b (cellFamilies g s x) r

@@ -4,24 +4,28 @@ ghost use Prim.Native.Nat.{_*_, _≤_, _<_, _^_};
 ghost use lib.ListN.{length, getD};
 ghost use Rattle.answers.specs.Lists.{howMany};
 ghost use Rattle.rules.specs.declared.Cell.the-variants.{Open, Clue};
-ghost use Rattle.rules.specs.Record.{size, puzzle, RecordFits};
+ghost use Rattle.rules.specs.Directions.{bit};
+ghost use Rattle.rules.specs.Record.{size, puzzle, mostCells, RecordFits};
 ghost use Rattle.rules.specs.Board.{line, gridBoard};
 ghost use Rattle.encoder.specs.Variables.{openCount};
 ghost use Rattle.encoder.specs.Clauses.{clauses};
 ghost use Rattle.encoder.proofs.Counts.{pairCount, Sized};
 ghost use Rattle.encoder.proofs.Places.{rank};
-ghost use Rattle.encoder_numbers.specs.Tables.{RankTableFits};
+ghost use Rattle.encoder_numbers.specs.Tables.{Tables};
+ghost use Rattle.encoder_lines.specs.Line.{LineEnd};
 ghost use Rattle.encoder_size.specs.Counts.{countsOf, amountOf, openAmount, clueAmount, cellFamilies, Amounts};
-use encoder_numbers::tables::fill_first_links;
-use encoder_numbers::tables::fill_ranks;
-use encoder_numbers::tables::links_before;
-use encoder_numbers::tables::open_bit;
+use encoder_numbers::Sizes;
+use encoder_numbers::TABLE;
+use encoder_numbers::tables::fill;
+use encoder_numbers::tables::links_at;
 use encoder_numbers::tables::open_there;
+use encoder_numbers::tables::sizes_below;
 use encoder_numbers::tables::variable_count;
+use judge_cells::cells::is_open;
 use rules::Cell;
 use rules::Direction;
 use rules::Grid;
-use rules::MOST_CELLS;
+use rules::board::End;
 use rules::board::go;
 use rules::board::line_end;
 use rules::board::opposite;
@@ -72,7 +76,7 @@ fn of_lengths(ones: usize, twos: usize, threes: usize, more: usize) -> Amount
 
 // An open cell, with F, its rank, its open neighbours, those to the east and south, and that to the east.
 fn open_amount(f: usize, lower: usize, neighbours: usize, after: usize, east: usize) -> Amount
-    requires { ⌜ (0 < f) × (f ≤ 576) × (lower ≤ 576) ⌝ }
+    requires { ⌜ (0 < f) × (f ≤ mostCells) × (lower ≤ mostCells) ⌝ }
     requires { ⌜ (neighbours ≤ 4) × (after ≤ 2) × (east ≤ 1) ⌝ }
     ensures { λ r. ⌜ r ≡ openAmount f lower neighbours after east ⌝ }
 {
@@ -83,7 +87,7 @@ fn open_amount(f: usize, lower: usize, neighbours: usize, after: usize, east: us
 
 // A clue with number n, with the open cells and the clues on its line.
 fn clue_amount(n: usize, opens: usize, clues: usize) -> Amount
-    requires { ⌜ (n < 256) × (opens ≤ 576) × (clues ≤ 576) ⌝ }
+    requires { ⌜ (n < 256) × (opens ≤ mostCells) × (clues ≤ mostCells) ⌝ }
     ensures { λ r. ⌜ r ≡ clueAmount n opens clues ⌝ }
 {
     let pairs = pair_count(n + 1);
@@ -91,20 +95,31 @@ fn clue_amount(n: usize, opens: usize, clues: usize) -> Amount
     of_lengths(n + 2, twos, times(opens, n * 2 + 1), 0)
 }
 
-// The open cells on the line that leaves x in direction d.
-fn open_on_line(g: Grid, record: &[u8], x: usize, d: Direction) -> usize
+// 1 for true, 0 for false.
+fn bit(t: bool) -> usize
+    ensures { λ r. ⌜ r ≡ bit t ⌝ }
+{
+    if t {
+        return 1;
+    }
+    0
+}
+
+// The open cells on the line that leaves x in direction d and ends there.
+fn open_on_line(g: Grid, record: &[u8], x: usize, d: Direction, end: End) -> usize
     requires { ⌜ RecordFits g (now «record») ⌝ }
+    requires { ⌜ LineEnd (puzzle g (now «record»)) d x end ⌝ }
     requires { ⌜ x < size g ⌝ }
     ensures { λ r. ⌜ r ≡ howMany (gridBoard g (now («record» .entry)) .isOpen) (line (puzzle g (now («record» .entry))) d x) ⌝ }
 {
-    let end = line_end(g, record, x, d);
     let cells = end.cells;
     let mut y = end.cell;
     let mut count = 0;
     let mut j = 0;
     while j < cells {
-        let open = open_bit(g, record, y);
-        count += open;
+        let open = is_open(g, record, y);
+        let more = bit(open);
+        count += more;
         let back = opposite(d);
         y = go(g, y, back);
         j += 1;
@@ -119,11 +134,10 @@ fn at_open(g: Grid, record: &[u8], f: usize, lower: usize, x: usize) -> Amount
     requires { ⌜ (f ≡ openCount (gridBoard g (now «record»))) × (lower ≡ rank (gridBoard g (now «record»)) x) ⌝ }
     ensures { λ r. ⌜ Amounts (gridBoard g (now («record» .entry))) (cellFamilies g (now («record» .entry)) x) r ⌝ }
 {
-    let before = links_before(g, record, x, Direction::West);
-    let west = open_there(g, record, x, Direction::West);
+    let neighbours = links_at(g, record, x);
     let east = open_there(g, record, x, Direction::East);
     let south = open_there(g, record, x, Direction::South);
-    open_amount(f, lower, before + west, east + south, east)
+    open_amount(f, lower, neighbours, east + south, east)
 }
 
 // The clauses of a clue.
@@ -133,8 +147,8 @@ fn at_clue(g: Grid, record: &[u8], x: usize, d: Direction, n: usize) -> Amount
     ensures { λ r. ⌜ Amounts (gridBoard g (now («record» .entry))) (cellFamilies g (now («record» .entry)) x) r ⌝ }
 {
     let end = line_end(g, record, x, d);
+    let opens = open_on_line(g, record, x, d, end);
     let cells = end.cells;
-    let opens = open_on_line(g, record, x, d);
     clue_amount(n, opens, cells - opens)
 }
 
@@ -153,17 +167,18 @@ fn at_cell(g: Grid, record: &[u8], f: usize, lower: usize, x: usize) -> Amount
 }
 
 // All clauses: those of the cells, and [all S].
-fn all_clauses(g: Grid, record: &[u8], f: usize, ranks: &[usize]) -> Amount
-    requires { ⌜ RankTableFits g (now «record») (now ranks) ⌝ }
-    requires { ⌜ f ≡ openCount (gridBoard g (now «record»)) ⌝ }
+fn all_clauses(g: Grid, record: &[u8], sizes: Sizes, table: &[usize]) -> Amount
+    requires { ⌜ Tables g (now «record») sizes (now table) ⌝ }
     ensures { λ r. ⌜ Sized (gridBoard g (now («record» .entry))) (clauses (gridBoard g (now («record» .entry)))) (r .clauses) (r .elements) ⌝ }
 {
     let n = g.size();
+    let f = sizes.opens;
     let mut clauses = 1;
     let mut elements = f + 1;
     let mut x = 0;
     while x < n {
-        let more = at_cell(g, record, f, ranks[x], x);
+        let below = sizes_below(g, record, sizes, table, x);
+        let more = at_cell(g, record, f, below.opens, x);
         clauses += more.clauses;
         elements += more.elements;
         x += 1;
@@ -176,12 +191,10 @@ pub fn count(g: Grid, record: &[u8]) -> Counts
     requires { ⌜ RecordFits g (now «record») ⌝ }
     ensures { λ r. ⌜ r ≡ countsOf (gridBoard g (now («record» .entry))) ⌝ }
 {
-    let mut ranks = [0usize; MOST_CELLS];
-    let mut firsts = [0usize; MOST_CELLS];
-    let open = fill_ranks(g, record, &mut ranks);
-    let links = fill_first_links(g, record, &mut firsts);
-    let variables = variable_count(g, record, open, links);
-    let all = all_clauses(g, record, open, &ranks);
+    let mut table = [0usize; TABLE];
+    let sizes = fill(g, record, &mut table);
+    let variables = variable_count(g, record, sizes);
+    let all = all_clauses(g, record, sizes, &table);
     let elements = all.elements;
     let clauses = all.clauses;
     Counts {

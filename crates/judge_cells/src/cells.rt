@@ -23,7 +23,8 @@ use rules::board::line_end;
 use rules::board::neighbour;
 use rules::board::opposite;
 
-fn is_open(g: Grid, record: &[u8], x: usize) -> bool
+// Is the cell open?
+pub fn is_open(g: Grid, record: &[u8], x: usize) -> bool
     requires { ⌜ RecordFits g (now «record») ⌝ }
     requires { ⌜ x < size g ⌝ }
     ensures { λ r. ⌜ r ≡ gridBoard g (now («record» .entry)) .isOpen x ⌝ }

@@ -1,25 +1,38 @@
 -- `decoder::decode` meets its contract. Assumes nothing.
-use mathlib.Core.Path.{_≡_, _∙_, ap}
+use Prim.Native.Nat.{ℕ}
+use mathlib.Core.Path.{_≡_, refl, _∙_}
+use mathlib.Core.List.{List}
 use Rattle.answers.specs.Outcome.{firstRefusal}
 use Rattle.answers.specs.Lent.{unlessRefused}
-use Rattle.rules.specs.Record.{sides, recordRefusalOutcome}
+use Rattle.rules.specs.Record.{sides}
 use Rattle.rules.specs.Board.{gridBoard, boardOf}
 use Rattle.rules.specs.Judge.{saysYes}
 use Rattle.rules.proofs.Records.{passes-up, read-sides, read-fits, goes-on}
 use Rattle.encoder.specs.Decoding.{decoded, decoderRows, decoderAnswer}
 use Rattle.decoder.specs.declared.DecodeRefusal.the-variants.{Record}
-use Rattle.decoder.specs.Answer.{decodedOutcome, passedUp, gridRows}
+use Rattle.decoder.specs.Answer.{gridRows}
 use Rattle.decoder.proofs.Answers.{ends-refused}
 use borrow.Author.Needs.{needs}
 use Rattle.decoder.proofs.decode.Statement.{statement}
 use Rattle.decoder.proofs.decode.Tie as tie
 
-outcome : (c : tie.After-passed-up) → decodedOutcome (c .passed-up .result) ≡ recordRefusalOutcome (c .before .enum-told .given .0 .0)
-outcome c = ap decodedOutcome (c .passed-up .ensures ∙ ap passedUp (c .before .enum-told .given .1))
+-- what was handed in
+abbrev s : tie.After-read → List ℕ
+s c = c .before .before .before .before .args .«record» .now
+
+abbrev values : tie.After-read → List ℕ
+values c = c .before .before .before .before .args .values .now
+
+abbrev lent : tie.After-read → List ℕ
+lent c = c .before .before .before .before .args .drawing .now
+
+-- the record was read
+abbrev read : tie.After-known-told → tie.After-read
+read c = c .before .before .before
 
 -- the call is left to the rows after the reader's
-goes : (c : tie.After-decode-grid) → firstRefusal (gridRows (c .before .before .before .p .given .0 .0) (c .before .before .before .before .before .before .before .before .before .args .«record» .now) (c .before .before .before .before .before .before .before .before .before .args .values .now) (c .before .before .before .before .before .before .before .before .before .args .drawing .now)) saysYes ≡ decoderAnswer (c .before .before .before .before .before .before .before .before .before .args .«record» .now) (c .before .before .before .before .before .before .before .before .before .args .values .now) (c .before .before .before .before .before .before .before .before .before .args .drawing .now)
-goes c = goes-on (c .before .before .before .before .before .before .before .before .before .args .«record» .now) (c .before .before .before .p .given .1) (c .before .before .before .before .before .read .ensures) (λ g. gridRows g (c .before .before .before .before .before .before .before .before .before .args .«record» .now) (c .before .before .before .before .before .before .before .before .before .args .values .now) (c .before .before .before .before .before .before .before .before .before .args .drawing .now)) saysYes
+goes : (c : tie.After-known-told) → let r = read c in firstRefusal (gridRows (c .before .p .given .0 .0) (s r) (values r) (lent r)) saysYes ≡ decoderAnswer (s r) (values r) (lent r)
+goes c = let r = read c in goes-on (s r) (c .before .p .given .1) (r .read .ensures) (λ g. gridRows g (s r) (values r) (lent r)) saysYes
 
 read-requires : tie.Need-read-requires
 read-requires c κs = search needs
@@ -30,20 +43,27 @@ enum-known-p c = search needs
 enum-told : tie.Need-enum-told
 enum-told c = search needs
 
-passed-up-requires : tie.Need-passed-up-requires
-passed-up-requires c κs = search needs
+refusal-requires : tie.Need-refusal-requires
+refusal-requires c κs = search needs
 
 returns : tie.Need-returns
-returns c = ends-refused (decoderRows (c .before .before .before .before .before .before .before .args .«record» .now) (c .before .before .before .before .before .before .before .args .values .now) (c .before .before .before .before .before .before .before .args .drawing .now)) (c .before .before .before .before .before .before .before .args .drawing .now) (decoded (boardOf (c .before .before .before .before .before .before .before .args .«record» .now)) (c .before .before .before .before .before .before .before .args .values .now)) (Record (c .before .enum-told .given .0 .0)) (outcome c) (outcome c ∙ passes-up (c .before .before .before .before .before .before .before .args .«record» .now) (gridRows (sides (c .before .before .before .before .before .before .before .args .«record» .now)) (c .before .before .before .before .before .before .before .args .«record» .now) (c .before .before .before .before .before .before .before .args .values .now) (c .before .before .before .before .before .before .before .args .drawing .now)) saysYes (c .before .enum-told .given .1) (c .before .before .before .read .ensures))
+returns c =
+    let r = c .before .before .before in
+    ends-refused (decoderRows (s r) (values r) (lent r)) (lent r) (decoded (boardOf (s r)) (values r)) (Record (c .refusal .result)) refl
+    (passes-up (s r) (gridRows (sides (s r)) (s r) (values r) (lent r)) saysYes (c .refusal .ensures) (r .read .ensures))
 
 decode-grid-requires : tie.Need-decode-grid-requires
-decode-grid-requires c κs = read-fits (c .before .before .before .before .before .before .before .before .args .«record» .now) (c .before .before .p .given .1) (c .before .before .before .before .read .ensures)
+decode-grid-requires c κs = let k = c .before in let r = read k in read-fits (s r) (k .before .p .given .1) (r .read .ensures)
 
 same-length : tie.Need-same-length
 same-length c = search needs
 
 returns-2 : tie.Need-returns-2
-returns-2 c = (c .before .before .decode-grid .ensures .0 ∙ goes (c .before .before), c .before .before .decode-grid .ensures .1 ∙ (λ i. unlessRefused (goes (c .before .before) i) (c .before .before .before .before .before .before .before .before .before .before .before .args .drawing .now) (decoded (gridBoard (read-sides (c .before .before .before .before .before .before .before .before .before .before .before .args .«record» .now) (c .before .before .before .before .before .p .given .1) (c .before .before .before .before .before .before .before .read .ensures) i) (c .before .before .before .before .before .before .before .before .before .before .before .args .«record» .now)) (c .before .before .before .before .before .before .before .before .before .before .before .args .values .now))))
+returns-2 c =
+    let k = c .before .before .before .before in
+    let r = read k in
+    let e = c .before .before .decode-grid .ensures in
+    (e .0 ∙ goes k, e .1 ∙ (λ i. unlessRefused (goes k i) (lent r) (decoded (gridBoard (read-sides (s r) (k .before .p .given .1) (r .read .ensures) i) (s r)) (values r))))
 
 pub decode-spec : {M : Type 1} → statement M
 decode-spec =
@@ -52,7 +72,7 @@ decode-spec =
     read-requires
     enum-known-p
     enum-told
-    passed-up-requires
+    refusal-requires
     returns
     decode-grid-requires
     same-length

@@ -1,18 +1,19 @@
 -- `decoder::decode_grid` meets its contract. Assumes nothing.
-use mathlib.Core.Path.{_≡_, _∙_, ap}
+use native.Mathlib.Omega.{arith}
 use Prim.Native.Nat.{ℕ}
 use lib.ListN.{length, replicate}
+use mathlib.Core.Path.{_≡_, _∙_, ap}
 use mathlib.Core.List.{List, _++_}
 use Rattle.answers.specs.Outcome.{Row, firstRefusal}
 use Rattle.answers.specs.Lent.{unlessRefused}
 use Rattle.answers.proofs.Rows.{Clear}
-use Rattle.rules.specs.Record.{size, mostCells}
+use Rattle.rules.specs.Record.{size}
 use Rattle.rules.specs.Board.{Board, gridBoard}
 use Rattle.rules.specs.Judge.{judgeRows, saysYes}
 use Rattle.encoder.specs.Variables.{variableCount}
 use Rattle.encoder.specs.Decoding.{decoded}
-use Rattle.encoder.proofs.Places.{rank, linksBelow}
-use Rattle.encoder_numbers.proofs.FilledTables.{table-filled}
+use Rattle.encoder_numbers.specs.Tables.{tableLength}
+use Rattle.encoder_numbers.proofs.FilledTable.{tables-filled}
 use Rattle.decoder.specs.Answer.{decodedOutcome, valueRows}
 use Rattle.decoder.proofs.Answers.{ends-refused, refused-first, passed-first, values-clear, lengths-right}
 use borrow.Author.Needs.{needs}
@@ -32,33 +33,42 @@ rows c = valueRows (variableCount (b c)) (size (c .args .g)) (c .args .values .n
 abbrev judges : tie.Start → List Row
 judges c = judgeRows (b c) (picture c)
 
-outcome : (c : tie.After-check) → decodedOutcome (c .check .result) ≡ firstRefusal (rows (c .before .before .before .before .before .before .before .before .before .before .before .before)) saysYes
-outcome c = c .check .ensures ∙ (λ i. firstRefusal (valueRows (c .before .before .variable-count .ensures i) (c .before .size .ensures i) (c .before .before .before .before .before .before .before .before .before .before .before .before .args .values .now) (length (c .before .before .before .before .before .before .before .before .before .before .before .before .args .drawing .now))) saysYes)
+-- the start, from where the table was filled, the rows checked and none of them found
+abbrev s1 : tie.After-fill → tie.Start
+s1 c = c .before .before .before .before .before
 
-clear : (c : tie.After-enum-told) → Clear (rows (c .before .before .before .before .before .before .before .before .before .before .before .before .before .before))
-clear c = values-clear (variableCount (b (c .before .before .before .before .before .before .before .before .before .before .before .before .before .before))) (size (c .before .before .before .before .before .before .before .before .before .before .before .before .before .before .args .g)) (c .before .before .before .before .before .before .before .before .before .before .before .before .before .before .args .values .now) (length (c .before .before .before .before .before .before .before .before .before .before .before .before .before .before .args .drawing .now)) (ap decodedOutcome (c .enum-told .given .1)) (outcome (c .before .before))
+abbrev s2 : tie.After-check → tie.Start
+s2 c = s1 (c .before .before .before .before)
 
-lengths : (c : tie.After-enum-told) → (length (c .before .before .before .before .before .before .before .before .before .before .before .before .before .before .args .values .now) ≡ variableCount (b (c .before .before .before .before .before .before .before .before .before .before .before .before .before .before))) × (length (c .before .before .before .before .before .before .before .before .before .before .before .before .before .before .args .drawing .now) ≡ size (c .before .before .before .before .before .before .before .before .before .before .before .before .before .before .args .g))
-lengths c = lengths-right (variableCount (b (c .before .before .before .before .before .before .before .before .before .before .before .before .before .before))) (size (c .before .before .before .before .before .before .before .before .before .before .before .before .before .before .args .g)) (c .before .before .before .before .before .before .before .before .before .before .before .before .before .before .args .values .now) (length (c .before .before .before .before .before .before .before .before .before .before .before .before .before .before .args .drawing .now)) (clear c)
+abbrev s3 : tie.After-enum-told → tie.Start
+s3 c = s2 (c .before .before)
+
+outcome : (c : tie.After-check) → decodedOutcome (c .check .result) ≡ firstRefusal (rows (s2 c)) saysYes
+outcome c =
+    let s = s2 c in
+    c .check .ensures
+    ∙ (λ i. firstRefusal (valueRows (c .before .before .variable-count .ensures i) (c .before .size .ensures i) (s .args .values .now) (length (s .args .drawing .now))) saysYes)
+
+clear : (c : tie.After-enum-told) → Clear (rows (s3 c))
+clear c =
+    let s = s3 c in
+    values-clear (variableCount (b s)) (size (s .args .g)) (s .args .values .now) (length (s .args .drawing .now)) (ap decodedOutcome (c .enum-told .given .1)) (outcome (c .before .before))
+
+lengths : (c : tie.After-enum-told) → (length (s3 c .args .values .now) ≡ variableCount (b (s3 c))) × (length (s3 c .args .drawing .now) ≡ size (s3 c .args .g))
+lengths c = let s = s3 c in lengths-right (variableCount (b s)) (size (s .args .g)) (s .args .values .now) (length (s .args .drawing .now)) (clear c)
 
 -- the call is left to the judge's rows
-goes : (c : tie.After-enum-told) → firstRefusal (judges (c .before .before .before .before .before .before .before .before .before .before .before .before .before .before)) saysYes ≡ firstRefusal (rows (c .before .before .before .before .before .before .before .before .before .before .before .before .before .before) ++ judges (c .before .before .before .before .before .before .before .before .before .before .before .before .before .before)) saysYes
-goes c = passed-first (rows (c .before .before .before .before .before .before .before .before .before .before .before .before .before .before)) (judges (c .before .before .before .before .before .before .before .before .before .before .before .before .before .before)) (clear c)
+goes : (c : tie.After-enum-told) → firstRefusal (judges (s3 c)) saysYes ≡ firstRefusal (rows (s3 c) ++ judges (s3 c)) saysYes
+goes c = passed-first (rows (s3 c)) (judges (s3 c)) (clear c)
 
-slice-aggregate-fill-ranks : tie.Need-slice-aggregate-fill-ranks
-slice-aggregate-fill-ranks c = search needs
+slice-aggregate-fill : tie.Need-slice-aggregate-fill
+slice-aggregate-fill c = search needs
 
-fill-ranks-requires : tie.Need-fill-ranks-requires
-fill-ranks-requires c κs = search needs
-
-slice-aggregate-fill-first-links : tie.Need-slice-aggregate-fill-first-links
-slice-aggregate-fill-first-links c = search needs
-
-fill-first-links-requires : tie.Need-fill-first-links-requires
-fill-first-links-requires c κs = search needs
+fill-requires : tie.Need-fill-requires
+fill-requires c κs = let s = c .before .before .before .before in (s .pre, omega (arith, s .pre .sides .few))
 
 variable-count-requires : tie.Need-variable-count-requires
-variable-count-requires c κs = search needs
+variable-count-requires c κs = (c .before .before .before .before .before .before .pre, c .before .fill .ensures .0)
 
 size-requires : tie.Need-size-requires
 size-requires c κs = search needs
@@ -73,40 +83,38 @@ enum-told-2 : tie.Need-enum-told-2
 enum-told-2 c = search needs
 
 returns : tie.Need-returns
-returns c = ends-refused (rows (c .before .before .before .before .before .before .before .before .before .before .before .before .before .before) ++ judges (c .before .before .before .before .before .before .before .before .before .before .before .before .before .before)) (c .before .before .before .before .before .before .before .before .before .before .before .before .before .before .args .drawing .now) (picture (c .before .before .before .before .before .before .before .before .before .before .before .before .before .before)) (c .enum-told2 .given .0 .0) (ap decodedOutcome (c .enum-told2 .given .1)) (refused-first (rows (c .before .before .before .before .before .before .before .before .before .before .before .before .before .before)) (judges (c .before .before .before .before .before .before .before .before .before .before .before .before .before .before)) (c .enum-told2 .given .0 .0) (ap decodedOutcome (c .enum-told2 .given .1)) (outcome (c .before .before)))
+returns c =
+    let k = c .before .before in
+    let s = s2 k in
+    let e = ap decodedOutcome (c .enum-told2 .given .1) in
+    ends-refused (rows s ++ judges s) (s .args .drawing .now) (picture s) (c .enum-told2 .given .0 .0) e (refused-first (rows s) (judges s) (c .enum-told2 .given .0 .0) e (outcome k))
 
 slice-aggregate-judged : tie.Need-slice-aggregate-judged
 slice-aggregate-judged c = search needs
 
-slice-aggregate-judged-2 : tie.Need-slice-aggregate-judged-2
-slice-aggregate-judged-2 c = search needs
-
 judged-requires : tie.Need-judged-requires
-judged-requires c κs = (
-  record {
-    valued = record {
-      linkVariables = record { recordFits = c .before .before .before .before .before .before .before .before .before .before .before .before .before .before .before .before .before .pre; opens = c .before .before .before .before .before .before .before .before .before .before .before .before .fill-ranks .ensures .0; table = table-filled (linksBelow (b (c .before .before .before .before .before .before .before .before .before .before .before .before .before .before .before .before .before))) (size (c .before .before .before .before .before .before .before .before .before .before .before .before .before .before .before .before .before .args .g)) (replicate mostCells 0) (c .before .before .before .before .before .before .before .before .before .before .before .before .before .before .before .before .before .pre .sides .few) (c .before .before .before .before .before .before .before .before .before .fill-first-links .ensures .1) };
-      long = lengths (c .before .before .before) .0;
-    };
-    ranked = table-filled (rank (b (c .before .before .before .before .before .before .before .before .before .before .before .before .before .before .before .before .before))) (size (c .before .before .before .before .before .before .before .before .before .before .before .before .before .before .before .before .before .args .g)) (replicate mostCells 0) (c .before .before .before .before .before .before .before .before .before .before .before .before .before .before .before .before .before .pre .sides .few) (c .before .before .before .before .before .before .before .before .before .before .before .before .fill-ranks .ensures .1);
-  },
-  lengths (c .before .before .before) .1,
-)
+judged-requires c κs =
+    let k = c .before .before in
+    let h = s3 k .pre in
+    let f = k .before .before .before .before .before .before .fill .ensures in
+    (record { tables = tables-filled h (replicate tableLength 0) (omega (arith, h .sides .few)) (f .0) (f .1); long = lengths k .0 }, lengths k .1)
 
 same-length : tie.Need-same-length
 same-length c = search needs
 
 returns-2 : tie.Need-returns-2
-returns-2 c = (c .before .before .judged .ensures .0 ∙ goes (c .before .before .before .before .before .before), c .before .before .judged .ensures .1 ∙ ap (λ t. unlessRefused t (c .before .before .before .before .before .before .before .before .before .before .before .before .before .before .before .before .before .before .before .before .args .drawing .now) (picture (c .before .before .before .before .before .before .before .before .before .before .before .before .before .before .before .before .before .before .before .before))) (goes (c .before .before .before .before .before .before)))
+returns-2 c =
+    let k = c .before .before .before .before .before in
+    let j = c .before .before .judged .ensures in
+    let s = s3 k in
+    (j .0 ∙ goes k, j .1 ∙ ap (λ t. unlessRefused t (s .args .drawing .now) (picture s)) (goes k))
 
 pub decode-grid-spec : {M : Type 1} → statement M
 decode-grid-spec =
     tie.close
     (tie.spec
-    slice-aggregate-fill-ranks
-    fill-ranks-requires
-    slice-aggregate-fill-first-links
-    fill-first-links-requires
+    slice-aggregate-fill
+    fill-requires
     variable-count-requires
     size-requires
     check-requires
@@ -114,7 +122,6 @@ decode-grid-spec =
     enum-told-2
     returns
     slice-aggregate-judged
-    slice-aggregate-judged-2
     judged-requires
     same-length
     returns-2)

@@ -1,9 +1,8 @@
 -- `encoder_call::encode` meets its contract. Assumes nothing.
 use lib.IntN.{ℤ}
 use Prim.Native.Nat.{ℕ}
-use mathlib.Core.Path.{_∙_, ap}
 use mathlib.Core.List.{List}
-use Rattle.encoder_call.specs.Answer.{encodedOutcome, passedUp, Encodable}
+use Rattle.encoder_call.specs.Answer.{Encodable}
 use Rattle.encoder_call.proofs.Ends.{ends-refused, read-encodable, ends-read}
 use borrow.Author.Needs.{needs}
 use Rattle.encoder_call.proofs.encode.Statement.{statement}
@@ -31,15 +30,11 @@ enum-known-p c = search needs
 enum-told : tie.Need-enum-told
 enum-told c = search needs
 
-passed-up-requires : tie.Need-passed-up-requires
-passed-up-requires c κs = search needs
+refusal-requires : tie.Need-refusal-requires
+refusal-requires c κs = search needs
 
 returns : tie.Need-returns
-returns c = (
-    let r = c .before .before .before in
-    let e = ends-refused (input r) (lent r) (c .before .enum-told .given .1) (r .read .ensures) in
-    (ap encodedOutcome (c .passed-up .ensures ∙ ap passedUp (c .before .enum-told .given .1)) ∙ e .0, e .1)
-    )
+returns c = let r = c .before .before .before in ends-refused (input r) (lent r) (c .refusal .ensures) (r .read .ensures)
 
 count-requires : tie.Need-count-requires
 count-requires c κs = encodable c .recordFits
@@ -63,7 +58,7 @@ encode-spec =
     read-requires
     enum-known-p
     enum-told
-    passed-up-requires
+    refusal-requires
     returns
     count-requires
     encode-grid-requires

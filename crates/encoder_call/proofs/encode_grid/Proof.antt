@@ -1,24 +1,47 @@
 -- `encoder_call::encode_grid` meets its contract. Assumes nothing.
 use native.Mathlib.Omega.{arith}
-use Rattle.encoder_call.proofs.Ends.{ends-short, ends-listed}
+use lib.ListN.{replicate}
+use Rattle.encoder_numbers.specs.Tables.{tableLength}
+use Rattle.encoder_numbers.proofs.FilledTable.{tables-filled}
+use Rattle.encoder_call.proofs.Ends.{writable, ends-short, ends-listed}
 use borrow.Author.Needs.{needs}
 use Rattle.encoder_call.proofs.encode_grid.Statement.{statement}
 use Rattle.encoder_call.proofs.encode_grid.Tie as tie
 
 returns : tie.Need-returns
-returns c = ends-short (c .before .before .pre .0) (c .before .before .args .list .now) (c .before .before .pre .1) (c .if1 .taken)
+returns c = let s = c .before .before in ends-short (s .pre .0) (s .args .list .now) (s .pre .1) (c .if1 .taken)
 
-write-list-requires : tie.Need-write-list-requires
-write-list-requires c κs = search needs
+slice-aggregate-fill : tie.Need-slice-aggregate-fill
+slice-aggregate-fill c = search needs
+
+fill-requires : tie.Need-fill-requires
+fill-requires c κs = let h = c .before .before .before .pre .0 .recordFits in (h, omega (arith, h .sides .few))
+
+slice-aggregate-all-families : tie.Need-slice-aggregate-all-families
+slice-aggregate-all-families c = search needs
+
+all-families-requires : tie.Need-all-families-requires
+all-families-requires c κs =
+    let h = c .before .before .before .before .before .before .before .pre .0 in
+    let f = c .before .before .before .fill .ensures in
+    (writable h, tables-filled (h .recordFits) (replicate tableLength 0) (omega (arith, h .recordFits .sides .few)) (f .0) (f .1))
 
 same-length : tie.Need-same-length
 same-length c = search needs
 
 returns-2 : tie.Need-returns-2
-returns-2 c = (
-    let s = c .before .before .before .before .before in
-    ends-listed (s .pre .0) (s .args .list .now) (s .pre .1) (omega (arith, c .before .before .before .if1 .left)) (c .before .write-list .ensures)
-    )
+returns-2 c =
+    let s = c .before .before .before .before .before .before .before .before .before in
+    ends-listed (s .pre .0) (s .args .list .now) (s .pre .1) (omega (arith, c .before .before .before .before .before .before .before .if1 .left)) (c .before .all-families .ensures)
 
 pub encode-grid-spec : {M : Type 1} → statement M
-encode-grid-spec = tie.close (tie.spec returns write-list-requires same-length returns-2)
+encode-grid-spec =
+    tie.close
+    (tie.spec
+    returns
+    slice-aggregate-fill
+    fill-requires
+    slice-aggregate-all-families
+    all-families-requires
+    same-length
+    returns-2)

@@ -1,34 +1,65 @@
 -- `encoder_cells::any_four` meets its contract. Assumes nothing.
+use mathlib.Core.Path.{refl}
 use borrow.Author.Needs.{needs}
-use Rattle.answers.proofs.Lent.{wrote-nothing, wrote-after}
-use Rattle.encoder_shapes.proofs.Written.{put-needs, in-parts, first-part, next-parts}
-use Rattle.encoder_cells.specs.Cell.{anyParts}
+use Rattle.encoder_shapes.proofs.Written.{put-needs, Progress, begun, part-needs, part-on, parts-end}
 use Rattle.encoder_cells.proofs.any_four.Statement.{statement}
 use Rattle.encoder_cells.proofs.any_four.Tie as tie
 
+-- what is written after each call, and what is left
+abbrev start : tie.Start → Progress
+start c = begun (c .args .list .now) (c .pre)
+
+abbrev p1 : tie.After-put → Progress
+p1 c = part-on (start (c .before .before)) (c .put .ensures)
+
+abbrev p2 : tie.After-literal-if → Progress
+p2 c = part-on (p1 (c .before .before .before)) (c .literal-if .ensures)
+
+abbrev p3 : tie.After-literal-if2 → Progress
+p3 c = part-on (p2 (c .before .before .before)) (c .literal-if2 .ensures)
+
+abbrev p4 : tie.After-literal-if3 → Progress
+p4 c = part-on (p3 (c .before .before .before)) (c .literal-if3 .ensures)
+
+abbrev p5 : tie.After-literal-if4 → Progress
+p5 c = part-on (p4 (c .before .before .before)) (c .literal-if4 .ensures)
+
+abbrev p6 : tie.After-put2 → Progress
+p6 c = part-on (p5 (c .before .before .before)) (c .put2 .ensures)
+
 put-requires : tie.Need-put-requires
-put-requires c κs = put-needs (first-part (in-parts (anyParts (c .before .args .z) (c .before .args .n) (c .before .args .e) (c .before .args .s) (c .before .args .w)) (c .before .pre)))
+put-requires c κs = put-needs (part-needs (start (c .before)))
 
 literal-if-requires : tie.Need-literal-if-requires
-literal-if-requires c κs = first-part (next-parts (in-parts (anyParts (c .before .before .before .before .args .z) (c .before .before .before .before .args .n) (c .before .before .before .before .args .e) (c .before .before .before .before .args .s) (c .before .before .before .before .args .w)) (c .before .before .before .before .pre)) (c .before .before .put .ensures))
+literal-if-requires c κs = part-needs (p1 (c .before .before))
 
 literal-if-requires-2 : tie.Need-literal-if-requires-2
-literal-if-requires-2 c κs = first-part (next-parts (next-parts (in-parts (anyParts (c .before .before .before .before .before .before .before .args .z) (c .before .before .before .before .before .before .before .args .n) (c .before .before .before .before .before .before .before .args .e) (c .before .before .before .before .before .before .before .args .s) (c .before .before .before .before .before .before .before .args .w)) (c .before .before .before .before .before .before .before .pre)) (c .before .before .before .before .before .put .ensures)) (c .before .before .literal-if .ensures))
+literal-if-requires-2 c κs = part-needs (p2 (c .before .before))
 
 literal-if-requires-3 : tie.Need-literal-if-requires-3
-literal-if-requires-3 c κs = first-part (next-parts (next-parts (next-parts (in-parts (anyParts (c .before .before .before .before .before .before .before .before .before .before .args .z) (c .before .before .before .before .before .before .before .before .before .before .args .n) (c .before .before .before .before .before .before .before .before .before .before .args .e) (c .before .before .before .before .before .before .before .before .before .before .args .s) (c .before .before .before .before .before .before .before .before .before .before .args .w)) (c .before .before .before .before .before .before .before .before .before .before .pre)) (c .before .before .before .before .before .before .before .before .put .ensures)) (c .before .before .before .before .before .literal-if .ensures)) (c .before .before .literal-if2 .ensures))
+literal-if-requires-3 c κs = part-needs (p3 (c .before .before))
 
 literal-if-requires-4 : tie.Need-literal-if-requires-4
-literal-if-requires-4 c κs = first-part (next-parts (next-parts (next-parts (next-parts (in-parts (anyParts (c .before .before .before .before .before .before .before .before .before .before .before .before .before .args .z) (c .before .before .before .before .before .before .before .before .before .before .before .before .before .args .n) (c .before .before .before .before .before .before .before .before .before .before .before .before .before .args .e) (c .before .before .before .before .before .before .before .before .before .before .before .before .before .args .s) (c .before .before .before .before .before .before .before .before .before .before .before .before .before .args .w)) (c .before .before .before .before .before .before .before .before .before .before .before .before .before .pre)) (c .before .before .before .before .before .before .before .before .before .before .before .put .ensures)) (c .before .before .before .before .before .before .before .before .literal-if .ensures)) (c .before .before .before .before .before .literal-if2 .ensures)) (c .before .before .literal-if3 .ensures))
+literal-if-requires-4 c κs = part-needs (p4 (c .before .before))
 
 put-requires-2 : tie.Need-put-requires-2
-put-requires-2 c κs = put-needs (first-part (next-parts (next-parts (next-parts (next-parts (next-parts (in-parts (anyParts (c .before .before .before .before .before .before .before .before .before .before .before .before .before .before .before .before .args .z) (c .before .before .before .before .before .before .before .before .before .before .before .before .before .before .before .before .args .n) (c .before .before .before .before .before .before .before .before .before .before .before .before .before .before .before .before .args .e) (c .before .before .before .before .before .before .before .before .before .before .before .before .before .before .before .before .args .s) (c .before .before .before .before .before .before .before .before .before .before .before .before .before .before .before .before .args .w)) (c .before .before .before .before .before .before .before .before .before .before .before .before .before .before .before .before .pre)) (c .before .before .before .before .before .before .before .before .before .before .before .before .before .before .put .ensures)) (c .before .before .before .before .before .before .before .before .before .before .before .literal-if .ensures)) (c .before .before .before .before .before .before .before .before .literal-if2 .ensures)) (c .before .before .before .before .before .literal-if3 .ensures)) (c .before .before .literal-if4 .ensures)))
+put-requires-2 c κs = put-needs (part-needs (p5 (c .before .before)))
 
 same-length : tie.Need-same-length
 same-length c = search needs
 
 returns : tie.Need-returns
-returns c = wrote-after (c .before .before .before .before .before .before .before .before .before .before .before .before .before .before .before .before .put .ensures) (wrote-after (c .before .before .before .before .before .before .before .before .before .before .before .before .before .literal-if .ensures) (wrote-after (c .before .before .before .before .before .before .before .before .before .before .literal-if2 .ensures) (wrote-after (c .before .before .before .before .before .before .before .literal-if3 .ensures) (wrote-after (c .before .before .before .before .literal-if4 .ensures) (wrote-after (c .before .put2 .ensures) (wrote-nothing _ _))))))
+returns c = parts-end (p6 (c .before)) refl
 
 pub any-four-spec : {M : Type 1} → statement M
-any-four-spec = tie.close (tie.spec put-requires literal-if-requires literal-if-requires-2 literal-if-requires-3 literal-if-requires-4 put-requires-2 same-length returns)
+any-four-spec =
+    tie.close
+    (tie.spec
+    put-requires
+    literal-if-requires
+    literal-if-requires-2
+    literal-if-requires-3
+    literal-if-requires-4
+    put-requires-2
+    same-length
+    returns)

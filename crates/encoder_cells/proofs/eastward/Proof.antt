@@ -1,25 +1,44 @@
 -- `encoder_cells::eastward` meets its contract. Assumes nothing.
+use mathlib.Core.Path.{refl}
 use borrow.Author.Needs.{needs}
-use Rattle.answers.proofs.Lent.{wrote-nothing, wrote-after}
-use Rattle.encoder_shapes.proofs.Written.{put-needs, not-needs, in-parts, first-part, next-parts}
-use Rattle.encoder_cells.specs.Cell.{eastwardParts}
+use Rattle.encoder_shapes.proofs.Written.{not-needs, put-needs, Progress, begun, part-needs, part-on, parts-end}
 use Rattle.encoder_cells.proofs.eastward.Statement.{statement}
 use Rattle.encoder_cells.proofs.eastward.Tie as tie
 
+-- what is written after each call, and what is left
+abbrev start : tie.Start → Progress
+start c = begun (c .args .list .now) (c .pre)
+
+abbrev p1 : tie.After-put-not → Progress
+p1 c = part-on (start (c .before .before)) (c .put-not .ensures)
+
+abbrev p2 : tie.After-literal-if → Progress
+p2 c = part-on (p1 (c .before .before .before)) (c .literal-if .ensures)
+
+abbrev p3 : tie.After-put → Progress
+p3 c = part-on (p2 (c .before .before .before)) (c .put .ensures)
+
 put-not-requires : tie.Need-put-not-requires
-put-not-requires c κs = not-needs (first-part (in-parts (eastwardParts (c .before .args .s) (c .before .args .e)) (c .before .pre)))
+put-not-requires c κs = not-needs (part-needs (start (c .before)))
 
 literal-if-requires : tie.Need-literal-if-requires
-literal-if-requires c κs = first-part (next-parts (in-parts (eastwardParts (c .before .before .before .before .args .s) (c .before .before .before .before .args .e)) (c .before .before .before .before .pre)) (c .before .before .put-not .ensures))
+literal-if-requires c κs = part-needs (p1 (c .before .before))
 
 put-requires : tie.Need-put-requires
-put-requires c κs = put-needs (first-part (next-parts (next-parts (in-parts (eastwardParts (c .before .before .before .before .before .before .before .args .s) (c .before .before .before .before .before .before .before .args .e)) (c .before .before .before .before .before .before .before .pre)) (c .before .before .before .before .before .put-not .ensures)) (c .before .before .literal-if .ensures)))
+put-requires c κs = put-needs (part-needs (p2 (c .before .before)))
 
 same-length : tie.Need-same-length
 same-length c = search needs
 
 returns : tie.Need-returns
-returns c = wrote-after (c .before .before .before .before .before .before .before .put-not .ensures) (wrote-after (c .before .before .before .before .literal-if .ensures) (wrote-after (c .before .put .ensures) (wrote-nothing _ _)))
+returns c = parts-end (p3 (c .before)) refl
 
 pub eastward-spec : {M : Type 1} → statement M
-eastward-spec = tie.close (tie.spec put-not-requires literal-if-requires put-requires same-length returns)
+eastward-spec =
+    tie.close
+    (tie.spec
+    put-not-requires
+    literal-if-requires
+    put-requires
+    same-length
+    returns)

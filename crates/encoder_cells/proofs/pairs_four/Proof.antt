@@ -1,34 +1,65 @@
 -- `encoder_cells::pairs_four` meets its contract. Assumes nothing.
+use mathlib.Core.Path.{refl}
 use borrow.Author.Needs.{needs}
-use Rattle.answers.proofs.Lent.{wrote-nothing, wrote-after}
-use Rattle.encoder_shapes.proofs.Written.{in-parts, first-part, next-parts}
-use Rattle.encoder_cells.specs.Cell.{pairParts}
+use Rattle.encoder_shapes.proofs.Written.{Progress, begun, part-needs, part-on, parts-end}
 use Rattle.encoder_cells.proofs.pairs_four.Statement.{statement}
 use Rattle.encoder_cells.proofs.pairs_four.Tie as tie
 
+-- what is written after each call, and what is left
+abbrev start : tie.Start → Progress
+start c = begun (c .args .list .now) (c .pre)
+
+abbrev p1 : tie.After-not-both-if → Progress
+p1 c = part-on (start (c .before .before)) (c .not-both-if .ensures)
+
+abbrev p2 : tie.After-not-both-if2 → Progress
+p2 c = part-on (p1 (c .before .before .before)) (c .not-both-if2 .ensures)
+
+abbrev p3 : tie.After-not-both-if3 → Progress
+p3 c = part-on (p2 (c .before .before .before)) (c .not-both-if3 .ensures)
+
+abbrev p4 : tie.After-not-both-if4 → Progress
+p4 c = part-on (p3 (c .before .before .before)) (c .not-both-if4 .ensures)
+
+abbrev p5 : tie.After-not-both-if5 → Progress
+p5 c = part-on (p4 (c .before .before .before)) (c .not-both-if5 .ensures)
+
+abbrev p6 : tie.After-not-both-if6 → Progress
+p6 c = part-on (p5 (c .before .before .before)) (c .not-both-if6 .ensures)
+
 not-both-if-requires : tie.Need-not-both-if-requires
-not-both-if-requires c κs = first-part (in-parts (pairParts (c .before .args .n) (c .before .args .e) (c .before .args .s) (c .before .args .w)) (c .before .pre))
+not-both-if-requires c κs = part-needs (start (c .before))
 
 not-both-if-requires-2 : tie.Need-not-both-if-requires-2
-not-both-if-requires-2 c κs = first-part (next-parts (in-parts (pairParts (c .before .before .before .before .args .n) (c .before .before .before .before .args .e) (c .before .before .before .before .args .s) (c .before .before .before .before .args .w)) (c .before .before .before .before .pre)) (c .before .before .not-both-if .ensures))
+not-both-if-requires-2 c κs = part-needs (p1 (c .before .before))
 
 not-both-if-requires-3 : tie.Need-not-both-if-requires-3
-not-both-if-requires-3 c κs = first-part (next-parts (next-parts (in-parts (pairParts (c .before .before .before .before .before .before .before .args .n) (c .before .before .before .before .before .before .before .args .e) (c .before .before .before .before .before .before .before .args .s) (c .before .before .before .before .before .before .before .args .w)) (c .before .before .before .before .before .before .before .pre)) (c .before .before .before .before .before .not-both-if .ensures)) (c .before .before .not-both-if2 .ensures))
+not-both-if-requires-3 c κs = part-needs (p2 (c .before .before))
 
 not-both-if-requires-4 : tie.Need-not-both-if-requires-4
-not-both-if-requires-4 c κs = first-part (next-parts (next-parts (next-parts (in-parts (pairParts (c .before .before .before .before .before .before .before .before .before .before .args .n) (c .before .before .before .before .before .before .before .before .before .before .args .e) (c .before .before .before .before .before .before .before .before .before .before .args .s) (c .before .before .before .before .before .before .before .before .before .before .args .w)) (c .before .before .before .before .before .before .before .before .before .before .pre)) (c .before .before .before .before .before .before .before .before .not-both-if .ensures)) (c .before .before .before .before .before .not-both-if2 .ensures)) (c .before .before .not-both-if3 .ensures))
+not-both-if-requires-4 c κs = part-needs (p3 (c .before .before))
 
 not-both-if-requires-5 : tie.Need-not-both-if-requires-5
-not-both-if-requires-5 c κs = first-part (next-parts (next-parts (next-parts (next-parts (in-parts (pairParts (c .before .before .before .before .before .before .before .before .before .before .before .before .before .args .n) (c .before .before .before .before .before .before .before .before .before .before .before .before .before .args .e) (c .before .before .before .before .before .before .before .before .before .before .before .before .before .args .s) (c .before .before .before .before .before .before .before .before .before .before .before .before .before .args .w)) (c .before .before .before .before .before .before .before .before .before .before .before .before .before .pre)) (c .before .before .before .before .before .before .before .before .before .before .before .not-both-if .ensures)) (c .before .before .before .before .before .before .before .before .not-both-if2 .ensures)) (c .before .before .before .before .before .not-both-if3 .ensures)) (c .before .before .not-both-if4 .ensures))
+not-both-if-requires-5 c κs = part-needs (p4 (c .before .before))
 
 not-both-if-requires-6 : tie.Need-not-both-if-requires-6
-not-both-if-requires-6 c κs = first-part (next-parts (next-parts (next-parts (next-parts (next-parts (in-parts (pairParts (c .before .before .before .before .before .before .before .before .before .before .before .before .before .before .before .before .args .n) (c .before .before .before .before .before .before .before .before .before .before .before .before .before .before .before .before .args .e) (c .before .before .before .before .before .before .before .before .before .before .before .before .before .before .before .before .args .s) (c .before .before .before .before .before .before .before .before .before .before .before .before .before .before .before .before .args .w)) (c .before .before .before .before .before .before .before .before .before .before .before .before .before .before .before .before .pre)) (c .before .before .before .before .before .before .before .before .before .before .before .before .before .before .not-both-if .ensures)) (c .before .before .before .before .before .before .before .before .before .before .before .not-both-if2 .ensures)) (c .before .before .before .before .before .before .before .before .not-both-if3 .ensures)) (c .before .before .before .before .before .not-both-if4 .ensures)) (c .before .before .not-both-if5 .ensures))
+not-both-if-requires-6 c κs = part-needs (p5 (c .before .before))
 
 same-length : tie.Need-same-length
 same-length c = search needs
 
 returns : tie.Need-returns
-returns c = wrote-after (c .before .before .before .before .before .before .before .before .before .before .before .before .before .before .before .before .not-both-if .ensures) (wrote-after (c .before .before .before .before .before .before .before .before .before .before .before .before .before .not-both-if2 .ensures) (wrote-after (c .before .before .before .before .before .before .before .before .before .before .not-both-if3 .ensures) (wrote-after (c .before .before .before .before .before .before .before .not-both-if4 .ensures) (wrote-after (c .before .before .before .before .not-both-if5 .ensures) (wrote-after (c .before .not-both-if6 .ensures) (wrote-nothing _ _))))))
+returns c = parts-end (p6 (c .before)) refl
 
 pub pairs-four-spec : {M : Type 1} → statement M
-pairs-four-spec = tie.close (tie.spec not-both-if-requires not-both-if-requires-2 not-both-if-requires-3 not-both-if-requires-4 not-both-if-requires-5 not-both-if-requires-6 same-length returns)
+pairs-four-spec =
+    tie.close
+    (tie.spec
+    not-both-if-requires
+    not-both-if-requires-2
+    not-both-if-requires-3
+    not-both-if-requires-4
+    not-both-if-requires-5
+    not-both-if-requires-6
+    same-length
+    returns)

@@ -1,22 +1,37 @@
 -- `encoder_cells::touching_at` meets its contract. Assumes nothing.
+use mathlib.Core.Path.{refl}
 use borrow.Author.Needs.{needs}
-use Rattle.answers.proofs.Lent.{wrote-nothing, wrote-after}
-use Rattle.encoder_shapes.proofs.Written.{in-parts, first-part, next-parts}
-use Rattle.encoder_cells.specs.Cell.{touchingParts}
+use Rattle.encoder_shapes.proofs.Written.{Progress, begun, part-needs, part-on, parts-end}
 use Rattle.encoder_cells.proofs.touching_at.Statement.{statement}
 use Rattle.encoder_cells.proofs.touching_at.Tie as tie
 
+-- what is written after each call, and what is left
+abbrev start : tie.Start → Progress
+start c = begun (c .args .list .now) (c .pre)
+
+abbrev p1 : tie.After-not-both-if → Progress
+p1 c = part-on (start (c .before .before)) (c .not-both-if .ensures)
+
+abbrev p2 : tie.After-not-both-if2 → Progress
+p2 c = part-on (p1 (c .before .before .before)) (c .not-both-if2 .ensures)
+
 not-both-if-requires : tie.Need-not-both-if-requires
-not-both-if-requires c κs = first-part (in-parts (touchingParts (c .before .args .x)) (c .before .pre))
+not-both-if-requires c κs = part-needs (start (c .before))
 
 not-both-if-requires-2 : tie.Need-not-both-if-requires-2
-not-both-if-requires-2 c κs = first-part (next-parts (in-parts (touchingParts (c .before .before .before .before .args .x)) (c .before .before .before .before .pre)) (c .before .before .not-both-if .ensures))
+not-both-if-requires-2 c κs = part-needs (p1 (c .before .before))
 
 same-length : tie.Need-same-length
 same-length c = search needs
 
 returns : tie.Need-returns
-returns c = wrote-after (c .before .before .before .before .not-both-if .ensures) (wrote-after (c .before .not-both-if2 .ensures) (wrote-nothing _ _))
+returns c = parts-end (p2 (c .before)) refl
 
 pub touching-at-spec : {M : Type 1} → statement M
-touching-at-spec = tie.close (tie.spec not-both-if-requires not-both-if-requires-2 same-length returns)
+touching-at-spec =
+    tie.close
+    (tie.spec
+    not-both-if-requires
+    not-both-if-requires-2
+    same-length
+    returns)

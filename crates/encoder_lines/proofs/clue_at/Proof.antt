@@ -1,14 +1,28 @@
 -- `encoder_lines::clue_at` meets its contract. Assumes nothing.
-use borrow.Author.Needs.{needs}
-use mathlib.Core.Path.{sym}
+use mathlib.Core.Path.{_≡_, sym}
 use Rattle.answers.proofs.Lent.{wrote-nothing, wrote-recast}
+use Rattle.rules.specs.Record.{puzzle}
+use Rattle.rules.specs.Board.{gridBoard}
+use Rattle.encoder.specs.Lists.{joined}
+use Rattle.encoder.proofs.ClauseLists.{listOf}
 use Rattle.encoder_shapes.proofs.Written.{writable-recast}
+use Rattle.encoder_lines.specs.Line.{blacksOf, clueNumbers, clueAt}
 use Rattle.encoder_lines.proofs.Family.{clue-none, clue-some}
+use borrow.Author.Needs.{needs}
 use Rattle.encoder_lines.proofs.clue_at.Statement.{statement}
 use Rattle.encoder_lines.proofs.clue_at.Tie as tie
 
+-- the cell's clauses are the clue's
+is-clue : (c : tie.After-count-number) → let s = c .before .before .before .before .before .before .before in
+    let k = c .before .before in
+    listOf (gridBoard (s .args .g) (s .args .«record» .now)) (clueAt (puzzle (s .args .g) (s .args .«record» .now)) (s .args .x))
+    ≡ joined (clueNumbers (c .count-number .result) (k .c .given .0 .1 .0) (blacksOf (s .args .g) (s .args .«record» .now) (k .c .given .0 .0) (s .args .x)))
+is-clue c =
+    let s = c .before .before .before .before .before .before .before in
+    clue-some (s .pre .1 .0 .recordFits) (s .args .x) (s .pre .1 .1) (c .before .before .before .before .cell .ensures) (c .before .before .c .given .1) (c .count-number .ensures)
+
 cell-requires : tie.Need-cell-requires
-cell-requires c κs = ((c .before .before .pre .1 .0 .recordFits), c .before .before .pre .1 .1 .0)
+cell-requires c κs = search needs
 
 enum-known-c : tie.Need-enum-known-c
 enum-known-c c = search needs
@@ -17,19 +31,35 @@ enum-told : tie.Need-enum-told
 enum-told c = search needs
 
 returns : tie.Need-returns
-returns c = wrote-recast (clue-none (c .before .before .before .before .before .pre .1 .0 .recordFits) (c .before .before .before .before .before .args .x) (c .before .before .before .before .before .pre .1 .1 .0) (c .before .before .cell .ensures) (c .enum-told .given .1)) (wrote-nothing _ _)
+returns c =
+    let s = c .before .before .before .before .before in
+    wrote-recast (clue-none (s .pre .1 .0 .recordFits) (s .args .x) (s .pre .1 .1) (c .before .before .cell .ensures) (c .enum-told .given .1)) (wrote-nothing _ _)
+
+count-number-requires : tie.Need-count-number-requires
+count-number-requires c κs = search needs
 
 cast-clue : tie.Need-cast-clue
 cast-clue c = search needs
 
 clue-requires : tie.Need-clue-requires
-clue-requires c κs = (writable-recast (clue-some (c .before .before .before .before .before .before .before .pre .1 .0 .recordFits) (c .before .before .before .before .before .before .before .args .x) (c .before .before .before .before .before .before .before .pre .1 .1 .0) (c .before .before .before .before .cell .ensures) (c .before .before .c .given .1) (c .before .before .before .before .before .before .before .pre .1 .1 .1)) (c .before .before .before .before .before .before .before .pre .0), (c .before .before .before .before .before .before .before .pre .1 .0, (c .before .before .before .before .before .before .before .pre .1 .1 .0, search needs)))
+clue-requires c κs = let s = c .before .before .before .before .before .before .before .before in (record { writable = writable-recast (is-clue (c .before)) (s .pre .0) }, (s .pre .1 .0, (s .pre .1 .1, search needs)))
 
 same-length : tie.Need-same-length
 same-length c = search needs
 
 returns-2 : tie.Need-returns-2
-returns-2 c = wrote-recast (sym (clue-some (c .before .before .before .before .before .before .before .before .before .pre .1 .0 .recordFits) (c .before .before .before .before .before .before .before .before .before .args .x) (c .before .before .before .before .before .before .before .before .before .pre .1 .1 .0) (c .before .before .before .before .before .before .cell .ensures) (c .before .before .before .before .c .given .1) (c .before .before .before .before .before .before .before .before .before .pre .1 .1 .1))) (c .before .clue .ensures)
+returns-2 c = wrote-recast (sym (is-clue (c .before .before .before))) (c .before .clue .ensures)
 
 pub clue-at-spec : {M : Type 1} → statement M
-clue-at-spec = tie.close (tie.spec cell-requires enum-known-c enum-told returns cast-clue clue-requires same-length returns-2)
+clue-at-spec =
+    tie.close
+    (tie.spec
+    cell-requires
+    enum-known-c
+    enum-told
+    returns
+    count-number-requires
+    cast-clue
+    clue-requires
+    same-length
+    returns-2)

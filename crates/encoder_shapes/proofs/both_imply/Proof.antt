@@ -1,27 +1,55 @@
 -- `encoder_shapes::both_imply` meets its contract. Assumes nothing.
+use mathlib.Core.Path.{refl}
+use mathlib.Core.List.{[], _∷_}
+use lib.IntN.{pos}
+use Rattle.encoder_shapes.specs.Shapes.{no}
+use Rattle.encoder_shapes.proofs.Written.{in-parts}
 use borrow.Author.Needs.{needs}
-use Rattle.answers.proofs.Lent.{wrote-after}
-use Rattle.encoder_shapes.proofs.Written.{not-needs, put-needs, writable-next}
+use Rattle.encoder_shapes.proofs.Written.{not-needs, put-needs, Progress, begun, part-needs, part-on, parts-end}
 use Rattle.encoder_shapes.proofs.both_imply.Statement.{statement}
 use Rattle.encoder_shapes.proofs.both_imply.Tie as tie
 
+-- what is written after each call, and what is left
+abbrev start : tie.Start → Progress
+start c = begun (c .args .list .now) (in-parts ((no (c .args .a) ∷ []) ∷ (no (c .args .b) ∷ []) ∷ (pos (c .args .c) ∷ []) ∷ (pos 0 ∷ []) ∷ []) (c .pre))
+
+abbrev p1 : tie.After-put-not → Progress
+p1 c = part-on (start (c .before .before)) (c .put-not .ensures)
+
+abbrev p2 : tie.After-put-not2 → Progress
+p2 c = part-on (p1 (c .before .before .before)) (c .put-not2 .ensures)
+
+abbrev p3 : tie.After-put → Progress
+p3 c = part-on (p2 (c .before .before .before)) (c .put .ensures)
+
+abbrev p4 : tie.After-put2 → Progress
+p4 c = part-on (p3 (c .before .before .before)) (c .put2 .ensures)
+
 put-not-requires : tie.Need-put-not-requires
-put-not-requires c κs = not-needs (c .before .pre)
+put-not-requires c κs = not-needs (part-needs (start (c .before)))
 
 put-not-requires-2 : tie.Need-put-not-requires-2
-put-not-requires-2 c κs = not-needs (writable-next (c .before .before .before .before .pre) (c .before .before .put-not .ensures))
+put-not-requires-2 c κs = not-needs (part-needs (p1 (c .before .before)))
 
 put-requires : tie.Need-put-requires
-put-requires c κs = put-needs (writable-next (writable-next (c .before .before .before .before .before .before .before .pre) (c .before .before .before .before .before .put-not .ensures)) (c .before .before .put-not2 .ensures))
+put-requires c κs = put-needs (part-needs (p2 (c .before .before)))
 
 put-requires-2 : tie.Need-put-requires-2
-put-requires-2 c κs = put-needs (writable-next (writable-next (writable-next (c .before .before .before .before .before .before .before .before .before .before .pre) (c .before .before .before .before .before .before .before .before .put-not .ensures)) (c .before .before .before .before .before .put-not2 .ensures)) (c .before .before .put .ensures))
+put-requires-2 c κs = put-needs (part-needs (p3 (c .before .before)))
 
 same-length : tie.Need-same-length
 same-length c = search needs
 
 returns : tie.Need-returns
-returns c = wrote-after (c .before .before .before .before .before .before .before .before .before .before .put-not .ensures) (wrote-after (c .before .before .before .before .before .before .before .put-not2 .ensures) (wrote-after (c .before .before .before .before .put .ensures) (c .before .put2 .ensures)))
+returns c = parts-end (p4 (c .before)) refl
 
 pub both-imply-spec : {M : Type 1} → statement M
-both-imply-spec = tie.close (tie.spec put-not-requires put-not-requires-2 put-requires put-requires-2 same-length returns)
+both-imply-spec =
+    tie.close
+    (tie.spec
+    put-not-requires
+    put-not-requires-2
+    put-requires
+    put-requires-2
+    same-length
+    returns)

@@ -1,43 +1,52 @@
 -- `encoder_size::all_clauses` meets its contract. Assumes nothing.
-use Prim.Native.Nat.{_-_}
 use native.Mathlib.Omega.{arith}
-use Rattle.rules.specs.Board.{gridBoard}
-use Rattle.rules.specs.Record.{size}
-use Rattle.encoder_numbers.proofs.Numbers.{rank-few}
+use Prim.Native.Nat.{_-_, _≤_, _<_}
+use mathlib.Core.Path.{ap}
+use Rattle.rules.specs.Record.{size, mostCells}
+use Rattle.encoder_numbers.specs.declared.Sizes.{Sizes}
+use Rattle.encoder_numbers.proofs.Neighbours.{few}
 use Rattle.encoder_size.proofs.All.{Adding, adding-start, adding-few, adding-on, adding-end}
 use borrow.Author.Needs.{needs}
 use Rattle.encoder_size.proofs.all_clauses.Statement.{statement}
 use Rattle.encoder_size.proofs.all_clauses.Tie as tie
 
 abbrev Inv-loop : tie.InvT-loop
-Inv-loop g «record» f ranks n clauses₀ elements₀ x₀ clauses elements x = Adding g «record» clauses elements x
+Inv-loop g «record» sizes table n f clauses₀ elements₀ x₀ clauses elements x = Adding g «record» clauses elements x
 
 abbrev μ-loop : tie.MeasureT-loop
-μ-loop g «record» f ranks n clauses₀ elements₀ x₀ clauses elements x = n - x
+μ-loop g «record» sizes table n f clauses₀ elements₀ x₀ clauses elements x = n - x
+
+inside : (c : tie.In-loop Inv-loop μ-loop) → c .before .loop .x < size (c .before .before .before .before .before .args .g)
+inside c = omega (arith, c .before .before .size .ensures)
 
 size-requires : tie.Need-size-requires Inv-loop μ-loop
-size-requires c κs = c .before .before .pre .0 .recordFits .sides
+size-requires c κs = c .before .before .pre .recordFits .sides
 
 add-elements : tie.Need-add-elements Inv-loop μ-loop
-add-elements c = omega (arith, c .before .before .before .pre .1, rank-few (gridBoard (c .before .before .before .args .g) (c .before .before .before .args .«record» .now)) (size (c .before .before .before .args .g)), c .before .before .before .pre .0 .recordFits .sides .few)
+add-elements c = let f = few (c .before .before .before .pre) in omega arith
 
 loop-holds : tie.Need-loop-holds Inv-loop μ-loop
-loop-holds c = adding-start (c .before .before .before .pre .1)
+loop-holds c = adding-start (ap (λ (z : Sizes). z .opens) (c .before .before .before .pre .sized))
 
-mul-at-cell : tie.Need-mul-at-cell Inv-loop μ-loop
-mul-at-cell c = omega (arith, c .before .before .size .ensures, c .before .before .before .before .before .pre .0 .recordFits .sides .few)
-
-shared-slice-read-at-cell : tie.Need-shared-slice-read-at-cell Inv-loop μ-loop
-shared-slice-read-at-cell c = omega (arith, c .before .before .before .size .ensures, c .before .before .before .before .before .before .pre .0 .table .long)
+sizes-below-requires : tie.Need-sizes-below-requires Inv-loop μ-loop
+sizes-below-requires c κs = (c .before .before .before .before .before .pre, inside c)
 
 at-cell-requires : tie.Need-at-cell-requires Inv-loop μ-loop
-at-cell-requires c κs = (c .before .before .before .before .before .before .pre .0 .recordFits, (omega (arith, c .before .before .before .size .ensures), (c .before .before .before .before .before .before .pre .1, c .before .before .before .before .before .before .pre .0 .table .holds (c .before .before .loop .x) (omega (arith, c .before .before .before .size .ensures)))))
+at-cell-requires c κs =
+    let t = c .before .before .before .before .before .before .pre in
+    (t .recordFits, (inside (c .before), (ap (λ (z : Sizes). z .opens) (t .sized), ap (λ (z : Sizes). z .opens) (c .sizes-below .ensures))))
 
 add-clauses : tie.Need-add-clauses Inv-loop μ-loop
-add-clauses c = omega (arith, adding-few (c .before .before .before .before .before .before .before .before .pre .0 .recordFits) (c .before .before .before .before .loop .inv), c .before .at-cell .ensures .few, c .before .before .before .before .before .size .ensures, c .before .before .before .before .before .before .before .before .pre .0 .recordFits .sides .few)
+add-clauses c =
+    let t = c .before .before .before .before .before .before .before .before .pre in
+    omega (arith, adding-few (t .recordFits) (c .before .before .before .before .loop .inv), c .before .at-cell .ensures .few, inside (c .before .before .before), t .recordFits .sides .few)
 
 add-elements-2 : tie.Need-add-elements-2 Inv-loop μ-loop
-add-elements-2 c = omega (arith, adding-few (c .before .before .before .before .before .before .before .before .before .pre .0 .recordFits) (c .before .before .before .before .before .loop .inv), c .before .before .at-cell .ensures .short, c .before .before .before .before .before .before .size .ensures, c .before .before .before .before .before .before .before .before .before .pre .0 .recordFits .sides .few, rank-few (gridBoard (c .before .before .before .before .before .before .before .before .before .args .g) (c .before .before .before .before .before .before .before .before .before .args .«record» .now)) (size (c .before .before .before .before .before .before .before .before .before .args .g)))
+add-elements-2 c =
+    let t = c .before .before .before .before .before .before .before .before .before .pre in
+    let f = few t in
+    let e = ap (λ (z : Sizes). z .opens) (t .sized) in
+    omega (arith, adding-few (t .recordFits) (c .before .before .before .before .before .loop .inv), c .before .before .at-cell .ensures .short, inside (c .before .before .before .before), t .recordFits .sides .few)
 
 add-x : tie.Need-add-x Inv-loop μ-loop
 add-x c = search needs
@@ -46,10 +55,10 @@ loop-less : tie.Need-loop-less Inv-loop μ-loop
 loop-less c = search needs
 
 loop-again : tie.Need-loop-again Inv-loop μ-loop
-loop-again c = adding-on (c .before .before .before .before .before .before .before .before .before .pre .0 .recordFits) (c .before .before .before .before .before .loop .inv) (omega (arith, c .before .before .before .before .before .before .size .ensures)) (c .before .before .at-cell .ensures)
+loop-again c = adding-on (c .before .before .before .before .before .before .before .before .before .pre .recordFits) (c .before .before .before .before .before .loop .inv) (inside (c .before .before .before .before)) (c .before .before .at-cell .ensures)
 
 returns : tie.Need-returns Inv-loop μ-loop
-returns c = adding-end (c .before .before .before .before .before .pre .0 .recordFits) (c .before .loop .inv) (omega (arith, c .before .before .size .ensures))
+returns c = adding-end (c .before .before .before .before .before .pre .recordFits) (c .before .loop .inv) (omega (arith, c .before .before .size .ensures))
 
 pub all-clauses-spec : {M : Type 1} → statement M
 all-clauses-spec =
@@ -60,8 +69,7 @@ all-clauses-spec =
     size-requires
     add-elements
     loop-holds
-    mul-at-cell
-    shared-slice-read-at-cell
+    sizes-below-requires
     at-cell-requires
     add-clauses
     add-elements-2

@@ -1,46 +1,41 @@
 -- `encoder_size::count` meets its contract. Assumes nothing.
+use native.Mathlib.Omega.{arith}
 use lib.ListN.{replicate}
-use Rattle.rules.specs.Record.{size, mostCells}
 use Rattle.rules.specs.Board.{gridBoard}
-use Rattle.encoder.proofs.Places.{rank}
-use Rattle.encoder_numbers.proofs.FilledTables.{table-filled}
+use Rattle.encoder_numbers.specs.Tables.{tableLength}
+use Rattle.encoder_numbers.proofs.FilledTable.{tables-filled}
 use Rattle.encoder_size.proofs.All.{counted}
 use borrow.Author.Needs.{needs}
 use Rattle.encoder_size.proofs.count.Statement.{statement}
 use Rattle.encoder_size.proofs.count.Tie as tie
 
-slice-aggregate-fill-ranks : tie.Need-slice-aggregate-fill-ranks
-slice-aggregate-fill-ranks c = search needs
+slice-aggregate-fill : tie.Need-slice-aggregate-fill
+slice-aggregate-fill c = search needs
 
-fill-ranks-requires : tie.Need-fill-ranks-requires
-fill-ranks-requires c κs = search needs
-
-slice-aggregate-fill-first-links : tie.Need-slice-aggregate-fill-first-links
-slice-aggregate-fill-first-links c = search needs
-
-fill-first-links-requires : tie.Need-fill-first-links-requires
-fill-first-links-requires c κs = search needs
+fill-requires : tie.Need-fill-requires
+fill-requires c κs = let s = c .before .before in (s .pre, omega (arith, s .pre .sides .few))
 
 variable-count-requires : tie.Need-variable-count-requires
-variable-count-requires c κs = search needs
+variable-count-requires c κs = (c .before .before .before .before .pre, c .before .fill .ensures .0)
 
 slice-aggregate-all-clauses : tie.Need-slice-aggregate-all-clauses
 slice-aggregate-all-clauses c = search needs
 
 all-clauses-requires : tie.Need-all-clauses-requires
-all-clauses-requires c κs = (record { recordFits = c .before .before .before .before .before .before .before .before .before .pre; table = table-filled (rank (gridBoard (c .before .before .before .before .before .before .before .before .before .args .g) (c .before .before .before .before .before .before .before .before .before .args .«record» .now))) (size (c .before .before .before .before .before .before .before .before .before .args .g)) (replicate mostCells 0) (c .before .before .before .before .before .before .before .before .before .pre .sides .few) (c .before .before .before .before .before .before .fill-ranks .ensures .1) }, c .before .before .before .before .before .before .fill-ranks .ensures .0)
+all-clauses-requires c κs =
+    let s = c .before .before .before .before .before .before in
+    let f = c .before .before .before .fill .ensures in
+    tables-filled (s .pre) (replicate tableLength 0) (omega (arith, s .pre .sides .few)) (f .0) (f .1)
 
 returns : tie.Need-returns
-returns c = counted (gridBoard (c .before .before .before .before .before .before .before .before .before .before .args .g) (c .before .before .before .before .before .before .before .before .before .before .args .«record» .now)) (c .all-clauses .ensures) (c .before .before .variable-count .ensures)
+returns c = let s = c .before .before .before .before .before .before .before in counted (gridBoard (s .args .g) (s .args .«record» .now)) (c .all-clauses .ensures) (c .before .before .variable-count .ensures)
 
 pub count-spec : {M : Type 1} → statement M
 count-spec =
     tie.close
     (tie.spec
-    slice-aggregate-fill-ranks
-    fill-ranks-requires
-    slice-aggregate-fill-first-links
-    fill-first-links-requires
+    slice-aggregate-fill
+    fill-requires
     variable-count-requires
     slice-aggregate-all-clauses
     all-clauses-requires

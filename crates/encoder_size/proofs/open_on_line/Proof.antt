@@ -1,11 +1,15 @@
 -- `encoder_size::open_on_line` meets its contract. Assumes nothing.
-use Rattle.judge_cells.proofs.Checks.{bit-small}
-use borrow.Author.Needs.{needs}
 use native.Mathlib.Omega.{arith}
-use Prim.Native.Nat.{_-_}
-use Rattle.rules.specs.Record.{puzzle}
-use Rattle.rules.specs.Board.{gridBoard}
+use Prim.Native.Nat.{_-_, _<_}
+use lib.ListN.{length}
+use mathlib.Core.Path.{_∙_, ap}
+use Rattle.rules.specs.Directions.{bit}
+use Rattle.rules.specs.Record.{size, puzzle}
+use Rattle.rules.specs.Board.{line, gridBoard}
+use Rattle.judge_cells.proofs.Checks.{bit-small}
 use Rattle.judge_cells.proofs.Lines.{CountedTo, count-start, count-few, count-end, count-inside, count-on}
+use Rattle.encoder_numbers.proofs.Numbers.{line-few}
+use borrow.Author.Needs.{needs}
 use Rattle.encoder_size.proofs.open_on_line.Statement.{statement}
 use Rattle.encoder_size.proofs.open_on_line.Tie as tie
 
@@ -15,23 +19,32 @@ Inv-loop g «record» x d cells y₀ count₀ j₀ y count j = CountedTo (puzzle
 abbrev μ-loop : tie.MeasureT-loop
 μ-loop g «record» x d cells y₀ count₀ j₀ y count j = cells - j
 
-line-end-requires : tie.Need-line-end-requires Inv-loop μ-loop
-line-end-requires c κs = record { sides = c .before .pre .0 .sides; inside = c .before .pre .1 }
+-- there is a cell left on the line, and y is it
+inside : (c : tie.In-loop Inv-loop μ-loop) → let s = c .before .before .before in c .before .loop .j < length (line (puzzle (s .args .g) (s .args .«record» .now)) (s .args .d) (s .args .x))
+inside c = omega (arith, c .before .before .before .pre .1 .0 .cells)
+
+there : (c : tie.In-loop Inv-loop μ-loop) → c .before .loop .y < size (c .before .before .before .args .g)
+there c = count-inside (c .before .loop .inv) (inside c)
 
 loop-holds : tie.Need-loop-holds Inv-loop μ-loop
-loop-holds c = count-start _ _ _ _ (c .line-end .ensures .0)
+loop-holds c = count-start _ _ _ _ (c .before .pre .1 .0 .cell)
 
-open-bit-requires : tie.Need-open-bit-requires Inv-loop μ-loop
-open-bit-requires c κs = (c .before .before .before .before .pre .0, count-inside (c .before .loop .inv) (omega (arith, c .before .before .line-end .ensures .1)))
+is-open-requires : tie.Need-is-open-requires Inv-loop μ-loop
+is-open-requires c κs = (c .before .before .before .pre .0, there c)
+
+bit-requires : tie.Need-bit-requires Inv-loop μ-loop
+bit-requires c κs = search needs
 
 add-count : tie.Need-add-count Inv-loop μ-loop
-add-count c = omega (arith, c .open-bit .ensures, count-few (c .before .before .loop .inv), bit-small (gridBoard (c .before .before .before .before .before .args .g) (c .before .before .before .before .before .args .«record» .now) .isOpen (c .before .before .loop .y)), c .before .before .before .line-end .ensures .1)
+add-count c =
+    let s = c .before .before .before .before .before in
+    omega (arith, c .bit .ensures, bit-small (c .before .is-open .result), count-few (c .before .before .before .loop .inv), inside (c .before .before), line-few (s .pre .0) (s .pre .1 .1) (s .args .d))
 
 opposite-requires : tie.Need-opposite-requires Inv-loop μ-loop
 opposite-requires c κs = search needs
 
 go-requires : tie.Need-go-requires Inv-loop μ-loop
-go-requires c κs = record { sides = c .before .before .before .before .before .before .pre .0 .sides; inside = count-inside (c .before .before .before .loop .inv) (omega (arith, c .before .before .before .before .line-end .ensures .1)) }
+go-requires c κs = record { sides = c .before .before .before .before .before .before .pre .0 .sides; inside = there (c .before .before .before) }
 
 add-j : tie.Need-add-j Inv-loop μ-loop
 add-j c = search needs
@@ -40,10 +53,12 @@ loop-less : tie.Need-loop-less Inv-loop μ-loop
 loop-less c = search needs
 
 loop-again : tie.Need-loop-again Inv-loop μ-loop
-loop-again c = count-on (c .before .before .before .before .loop .inv) (omega (arith, c .before .before .before .before .before .line-end .ensures .1)) (c .before .before .open-bit .ensures) (c .before .opposite .ensures) (c .go .ensures)
+loop-again c =
+    let k = c .before .before in
+    count-on (k .before .before .before .loop .inv) (inside (k .before .before)) (k .bit .ensures ∙ ap bit (k .before .is-open .ensures)) (c .before .opposite .ensures) (c .go .ensures)
 
 returns : tie.Need-returns Inv-loop μ-loop
-returns c = count-end (c .before .loop .inv) (omega (arith, c .before .before .line-end .ensures .1))
+returns c = count-end (c .before .loop .inv) (omega (arith, c .before .before .before .pre .1 .0 .cells))
 
 pub open-on-line-spec : {M : Type 1} → statement M
 open-on-line-spec =
@@ -51,9 +66,9 @@ open-on-line-spec =
     (tie.spec
     Inv-loop
     μ-loop
-    line-end-requires
     loop-holds
-    open-bit-requires
+    is-open-requires
+    bit-requires
     add-count
     opposite-requires
     go-requires

@@ -3,25 +3,27 @@ use Prim.Native.Nat.{_-_}
 use native.Mathlib.Omega.{arith}
 use borrow.Author.Needs.{needs}
 use Rattle.rules.specs.Board.{gridBoard}
-use Rattle.encoder_numbers.proofs.FilledTables.{Filling, fill-start, fill-inside, fill-on, fill-long, fill-end}
+use Rattle.decoder.proofs.Filled.{Filling, fill-start, fill-inside, fill-on, fill-long, fill-end}
 use Rattle.decoder.specs.Values.{byteAt}
 use Rattle.decoder.proofs.drawing.draw.Statement.{statement}
 use Rattle.decoder.proofs.drawing.draw.Tie as tie
 
 abbrev Inv-loop : tie.InvT-loop
-Inv-loop g «record» values «open» ranks firsts drawing₀ n x₀ drawing x = Filling (byteAt (gridBoard g «record») values) n drawing₀ drawing x
+Inv-loop g «record» values sizes table drawing₀ n x₀ drawing x = Filling (byteAt (gridBoard g «record») values) n drawing₀ drawing x
 
 abbrev μ-loop : tie.MeasureT-loop
-μ-loop g «record» values «open» ranks firsts drawing₀ n x₀ drawing x = n - x
+μ-loop g «record» values sizes table drawing₀ n x₀ drawing x = n - x
 
 size-requires : tie.Need-size-requires Inv-loop μ-loop
-size-requires c κs = c .before .before .before .before .before .pre .0 .valued .linkVariables .recordFits .sides
+size-requires c κs = c .before .before .before .before .pre .0 .tables .recordFits .sides
 
 loop-holds : tie.Need-loop-holds Inv-loop μ-loop
-loop-holds c = fill-start (byteAt (gridBoard (c .before .before .before .before .before .before .args .g) (c .before .before .before .before .before .before .args .«record» .now)) (c .before .before .before .before .before .before .args .values .now)) (c .before .before .before .before .before .before .args .drawing .now) (c .size .ensures) (c .before .before .before .before .before .before .pre .1)
+loop-holds c =
+    let s = c .before .before .before .before .before in
+    fill-start (byteAt (gridBoard (s .args .g) (s .args .«record» .now)) (s .args .values .now)) (s .args .drawing .now) (c .size .ensures) (s .pre .1)
 
 byte-at-requires : tie.Need-byte-at-requires Inv-loop μ-loop
-byte-at-requires c κs = (c .before .before .before .before .before .before .before .before .pre .0, omega (arith, c .before .before .size .ensures))
+byte-at-requires c κs = (c .before .before .before .before .before .before .before .pre .0, omega (arith, c .before .before .size .ensures))
 
 slice-write-drawing : tie.Need-slice-write-drawing Inv-loop μ-loop
 slice-write-drawing c = fill-inside (c .before .before .loop .inv) (c .before .loop-test .taken)

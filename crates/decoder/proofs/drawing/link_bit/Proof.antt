@@ -1,18 +1,16 @@
 -- `decoder::drawing::link_bit` meets its contract. Assumes nothing.
+use native.Mathlib.Omega.{arith}
 use Prim.Native.Nat.{ℕ}
-use mathlib.Core.Path.{_≡_, sym, _∙_, ap}
-use mathlib.Core.Bool.{true}
-use mathlib.Core.Option.{some}
+use mathlib.Core.Path.{_≡_, refl, sym, _∙_, ap}
+use mathlib.Core.Bool.{Bool}
 use Rattle.answers.proofs.First.{found-at, found-none}
 use Rattle.rules.specs.Directions.{opposite}
 use Rattle.rules.specs.Board.{Board, gridBoard}
-use Rattle.rules.proofs.Boards.{wired}
-use Rattle.encoder.specs.Variables.{E, variables, place}
+use Rattle.encoder.specs.Variables.{Variable, E, number}
 use Rattle.encoder.specs.Decoding.{valueOf}
-use Rattle.encoder.proofs.Known.{Known}
-use Rattle.encoder_numbers.specs.Tables.{linkPlace}
-use Rattle.encoder_numbers.proofs.Numbers.{bit-off, bit-on}
-use Rattle.decoder.proofs.Values.{link-some, link-out, open-inside, known-inside, value-true, value-false, at-e, back-known, link-nowhere, link-clue}
+use Rattle.encoder_numbers.specs.Tables.{OpenPair}
+use Rattle.encoder_numbers.proofs.Neighbours.{open-pair, pair-back}
+use Rattle.decoder.proofs.Values.{link-some, link-out, link-inside, link-true, link-false, link-nowhere}
 use borrow.Author.Needs.{needs}
 use Rattle.decoder.proofs.drawing.link_bit.Statement.{statement}
 use Rattle.decoder.proofs.drawing.link_bit.Tie as tie
@@ -20,29 +18,38 @@ use Rattle.decoder.proofs.drawing.link_bit.Tie as tie
 abbrev b : tie.Start → Board
 b c = gridBoard (c .args .g) (c .args .«record» .now)
 
-abbrev y : tie.After-p → ℕ
-y c = c .p .given .0 .0
+abbrev w : tie.Start → Variable → Bool
+w c = valueOf (b c) (c .args .values .now)
 
-leads : (c : tie.After-p) → some (y c) ≡ b (c .before .before .before .before .before .before) .next (c .before .before .before .before .before .before .args .d) (c .before .before .before .before .before .before .args .x)
-leads c = found-at (c .p .given .1) (c .before .before .neighbour .ensures)
+-- the start, from where the neighbour was found, and from the two numbers
+abbrev s1 : tie.After-known-told → tie.Start
+s1 c = c .before .before .before .before .before .before .before
 
-opened : (c : tie.Else1) → b (c .before .before .before .before .before .before .before .before .before) .isOpen (y (c .before .before .before)) ≡ true
-opened c = bit-on _ (λ e. c .if1 .left (c .before .open-bit .ensures ∙ e))
+abbrev s2 : tie.After-link-number → tie.Start
+s2 c = s1 (c .before)
 
-out : (c : tie.After-link-place) → Known (b (c .before .before .before .before .before .before .before .before .before .before)) (E (c .before .before .before .before .before .before .before .before .before .before .args .x) (c .before .before .before .before .before .before .before .before .before .before .args .d))
-out c = (c .before .before .before .before .before .before .before .before .before .before .pre .1, (y (c .before .before .before .before), sym (leads (c .before .before .before .before)), opened (c .before)))
+abbrev k2 : tie.After-link-number2 → tie.After-link-number
+k2 c = c .before .before .before .before
 
-out-at : (c : tie.After-link-place) → c .link-place .result ≡ place (E (c .before .before .before .before .before .before .before .before .before .before .args .x) (c .before .before .before .before .before .before .before .before .before .before .args .d)) (variables (b (c .before .before .before .before .before .before .before .before .before .before)))
-out-at c = at-e (c .before .before .before .before .before .before .before .before .before .before .pre .0) (c .before .before .before .before .before .before .before .before .before .before .args .x) (c .before .before .before .before .before .before .before .before .before .before .args .d) (out c) (c .link-place .ensures)
+abbrev s3 : tie.After-link-number2 → tie.Start
+s3 c = s2 (k2 c)
 
-into : (c : tie.After-link-place2) → Known (b (c .before .before .before .before .before .before .before .before .before .before .before .before .before .before)) (E (y (c .before .before .before .before .before .before .before .before)) (opposite (c .before .before .before .before .before .before .before .before .before .before .before .before .before .before .args .d)))
-into c = back-known (c .before .before .before .before .before .before .before .before .before .before .before .before .before .before .pre .0) (c .before .before .before .before .before .before .before .before .before .before .before .before .before .before .args .x) (y (c .before .before .before .before .before .before .before .before)) (c .before .before .before .before .before .before .before .before .before .before .before .before .before .before .args .d) (c .before .before .before .before .before .before .before .before .before .before .before .before .before .before .pre .1) (leads (c .before .before .before .before .before .before .before .before)) (opened (c .before .before .before .before .before))
+abbrev y : tie.After-known-told → ℕ
+y c = c .before .p .given .0 .0
 
-into-at : (c : tie.After-link-place2) → c .link-place2 .result ≡ place (E (y (c .before .before .before .before .before .before .before .before)) (opposite (c .before .before .before .before .before .before .before .before .before .before .before .before .before .before .args .d))) (variables (b (c .before .before .before .before .before .before .before .before .before .before .before .before .before .before)))
-into-at c = at-e (c .before .before .before .before .before .before .before .before .before .before .before .before .before .before .pre .0) (y (c .before .before .before .before .before .before .before .before)) (opposite (c .before .before .before .before .before .before .before .before .before .before .before .before .before .before .args .d)) (into c) (c .link-place2 .ensures ∙ ap (linkPlace (b (c .before .before .before .before .before .before .before .before .before .before .before .before .before .before)) (y (c .before .before .before .before .before .before .before .before))) (c .before .opposite .ensures))
+-- the two cells, seen from either
+pair : (c : tie.After-known-told) → OpenPair (s1 c .args .g) (s1 c .args .«record» .now) (s1 c .args .x) (s1 c .args .d) (y c)
+pair c = let s = s1 c in open-pair (s .pre .0 .tables .recordFits) (s .pre .1) (found-at (c .before .p .given .1) (c .before .before .before .open-neighbour .ensures))
 
-neighbour-requires : tie.Need-neighbour-requires
-neighbour-requires c κs = record { sides = c .before .before .before .pre .0 .linkVariables .recordFits .sides; inside = open-inside (c .before .before .before .pre .0) (c .before .before .before .pre .1) }
+back-pair : (c : tie.After-known-told) → OpenPair (s1 c .args .g) (s1 c .args .«record» .now) (y c) (opposite (s1 c .args .d)) (s1 c .args .x)
+back-pair c = pair-back (s1 c .pre .0 .tables .recordFits) refl (pair c)
+
+-- the number of the link back
+into : (c : tie.After-link-number2) → c .link-number2 .result ≡ number (b (s3 c)) (E (y (k2 c .before)) (opposite (s3 c .args .d)))
+into c = c .link-number2 .ensures ∙ ap (λ d. number (b (s3 c)) (E (y (k2 c .before)) d)) (c .before .opposite .ensures)
+
+open-neighbour-requires : tie.Need-open-neighbour-requires
+open-neighbour-requires c κs = let s = c .before .before .before in (s .pre .0 .tables .recordFits, s .pre .1 .inside)
 
 enum-known-p : tie.Need-enum-known-p
 enum-known-p c = search needs
@@ -51,53 +58,66 @@ enum-told : tie.Need-enum-told
 enum-told c = search needs
 
 returns : tie.Need-returns
-returns c = link-nowhere (c .before .before .before .before .before .before .pre .0) (c .before .before .before .before .before .before .args .x) (c .before .before .before .before .before .before .args .d) (found-none (c .enum-told .given .1) (c .before .before .neighbour .ensures))
+returns c = let s = c .before .before .before .before .before .before in link-nowhere (s .pre .0) (s .args .x) (s .args .d) (found-none (c .enum-told .given .1) (c .before .before .open-neighbour .ensures))
 
-open-bit-requires : tie.Need-open-bit-requires
-open-bit-requires c κs = (c .before .before .before .before .before .before .before .pre .0 .linkVariables .recordFits, wired (c .before .before .before .before .before .before .before .args .g) .inside (c .before .before .before .before .before .before .before .args .d) (c .before .before .before .before .before .before .before .args .x) _ (sym (leads (c .before))) .1)
+link-number-requires : tie.Need-link-number-requires
+link-number-requires c κs = (s1 c .pre .0 .tables, pair c)
+
+sub-if1 : tie.Need-sub-if1
+sub-if1 c = omega (arith, c .link-number .ensures)
+
+shared-slice-read-if1 : tie.Need-shared-slice-read-if1
+shared-slice-read-if1 c = let k = c .before in link-inside (s2 k .pre .0) (pair (k .before)) (k .link-number .ensures)
 
 returns-2 : tie.Need-returns-2
-returns-2 c = link-clue (c .before .before .before .before .before .before .before .before .before .pre .0) (c .before .before .before .before .before .before .before .before .before .args .x) (y (c .before .before .before)) (c .before .before .before .before .before .before .before .before .before .args .d) (leads (c .before .before .before)) (bit-off _ (sym (c .before .open-bit .ensures) ∙ c .if1 .taken))
-
-link-place-requires : tie.Need-link-place-requires
-link-place-requires c κs = (c .before .before .before .before .before .before .before .before .before .pre .0 .linkVariables, open-inside (c .before .before .before .before .before .before .before .before .before .pre .0) (c .before .before .before .before .before .before .before .before .before .pre .1))
-
-shared-slice-read-if2 : tie.Need-shared-slice-read-if2
-shared-slice-read-if2 c = known-inside (c .before .before .before .before .before .before .before .before .before .before .before .pre .0) (E (c .before .before .before .before .before .before .before .before .before .before .before .args .x) (c .before .before .before .before .before .before .before .before .before .before .before .args .d)) (out (c .before)) (out-at (c .before))
-
-returns-3 : tie.Need-returns-3
-returns-3 c = link-out (b (c .before .before .before .before .before .before .before .before .before .before .before .before)) (valueOf (b (c .before .before .before .before .before .before .before .before .before .before .before .before)) (c .before .before .before .before .before .before .before .before .before .before .before .before .args .values .now)) (c .before .before .before .before .before .before .before .before .before .before .before .before .args .x) (c .before .before .before .before .before .before .before .before .before .before .before .before .args .d) (value-true (c .before .before .before .before .before .before .before .before .before .before .before .before .pre .0) (E (c .before .before .before .before .before .before .before .before .before .before .before .before .args .x) (c .before .before .before .before .before .before .before .before .before .before .before .before .args .d)) (out-at (c .before .before)) (c .if2 .taken))
+returns-2 c =
+    let k = c .before .before in
+    let s = s2 k in
+    link-out (b s) (w s) (s .args .x) (s .args .d) (link-true (s .pre .0) (pair (k .before)) (k .link-number .ensures) (c .if1 .taken))
 
 opposite-requires : tie.Need-opposite-requires
 opposite-requires c κs = search needs
 
-link-place-requires-2 : tie.Need-link-place-requires-2
-link-place-requires-2 c κs = (c .before .before .before .before .before .before .before .before .before .before .before .before .before .pre .0 .linkVariables, open-inside (c .before .before .before .before .before .before .before .before .before .before .before .before .before .pre .0) (opened (c .before .before .before .before)))
+link-number-requires-2 : tie.Need-link-number-requires-2
+link-number-requires-2 c κs =
+    let k = c .before .before .before in
+    (s2 k .pre .0 .tables, pair-back (s2 k .pre .0 .tables .recordFits) (c .opposite .ensures) (pair (k .before)))
 
-shared-slice-read-if3 : tie.Need-shared-slice-read-if3
-shared-slice-read-if3 c = known-inside (c .before .before .before .before .before .before .before .before .before .before .before .before .before .before .before .pre .0) (E (y (c .before .before .before .before .before .before .before .before .before)) (opposite (c .before .before .before .before .before .before .before .before .before .before .before .before .before .before .before .args .d))) (into (c .before)) (into-at (c .before))
+sub-if2 : tie.Need-sub-if2
+sub-if2 c = omega (arith, c .link-number2 .ensures)
+
+shared-slice-read-if2 : tie.Need-shared-slice-read-if2
+shared-slice-read-if2 c = let k = c .before in link-inside (s3 k .pre .0) (back-pair (k2 k .before)) (into k)
+
+returns-3 : tie.Need-returns-3
+returns-3 c =
+    let k = c .before .before in
+    let s = s3 k in
+    let q = k2 k .before in
+    link-some (b s) (w s) (s .args .x) (y q) (s .args .d) (sym (pair q .leads)) (link-false (s .pre .0) (pair q) (k2 k .link-number .ensures) (k .before .before .if1 .left)) (link-true (s .pre .0) (back-pair q) (into k) (c .if2 .taken))
 
 returns-4 : tie.Need-returns-4
-returns-4 c = link-some (b (c .before .before .before .before .before .before .before .before .before .before .before .before .before .before .before .before)) (valueOf (b (c .before .before .before .before .before .before .before .before .before .before .before .before .before .before .before .before)) (c .before .before .before .before .before .before .before .before .before .before .before .before .before .before .before .before .args .values .now)) (c .before .before .before .before .before .before .before .before .before .before .before .before .before .before .before .before .args .x) (y (c .before .before .before .before .before .before .before .before .before .before)) (c .before .before .before .before .before .before .before .before .before .before .before .before .before .before .before .before .args .d) (leads (c .before .before .before .before .before .before .before .before .before .before)) (value-false (c .before .before .before .before .before .before .before .before .before .before .before .before .before .before .before .before .pre .0) (E (c .before .before .before .before .before .before .before .before .before .before .before .before .before .before .before .before .args .x) (c .before .before .before .before .before .before .before .before .before .before .before .before .before .before .before .before .args .d)) (out-at (c .before .before .before .before .before .before)) (c .before .before .before .before .if2 .left)) (value-true (c .before .before .before .before .before .before .before .before .before .before .before .before .before .before .before .before .pre .0) (E (y (c .before .before .before .before .before .before .before .before .before .before)) (opposite (c .before .before .before .before .before .before .before .before .before .before .before .before .before .before .before .before .args .d))) (into-at (c .before .before)) (c .if3 .taken))
-
-returns-5 : tie.Need-returns-5
-returns-5 c = link-some (b (c .before .before .before .before .before .before .before .before .before .before .before .before .before .before .before .before)) (valueOf (b (c .before .before .before .before .before .before .before .before .before .before .before .before .before .before .before .before)) (c .before .before .before .before .before .before .before .before .before .before .before .before .before .before .before .before .args .values .now)) (c .before .before .before .before .before .before .before .before .before .before .before .before .before .before .before .before .args .x) (y (c .before .before .before .before .before .before .before .before .before .before)) (c .before .before .before .before .before .before .before .before .before .before .before .before .before .before .before .before .args .d) (leads (c .before .before .before .before .before .before .before .before .before .before)) (value-false (c .before .before .before .before .before .before .before .before .before .before .before .before .before .before .before .before .pre .0) (E (c .before .before .before .before .before .before .before .before .before .before .before .before .before .before .before .before .args .x) (c .before .before .before .before .before .before .before .before .before .before .before .before .before .before .before .before .args .d)) (out-at (c .before .before .before .before .before .before)) (c .before .before .before .before .if2 .left)) (value-false (c .before .before .before .before .before .before .before .before .before .before .before .before .before .before .before .before .pre .0) (E (y (c .before .before .before .before .before .before .before .before .before .before)) (opposite (c .before .before .before .before .before .before .before .before .before .before .before .before .before .before .before .before .args .d))) (into-at (c .before .before)) (c .if3 .left))
+returns-4 c =
+    let k = c .before .before in
+    let s = s3 k in
+    let q = k2 k .before in
+    link-some (b s) (w s) (s .args .x) (y q) (s .args .d) (sym (pair q .leads)) (link-false (s .pre .0) (pair q) (k2 k .link-number .ensures) (k .before .before .if1 .left)) (link-false (s .pre .0) (back-pair q) (into k) (c .if2 .left))
 
 pub link-bit-spec : {M : Type 1} → statement M
 link-bit-spec =
     tie.close
     (tie.spec
-    neighbour-requires
+    open-neighbour-requires
     enum-known-p
     enum-told
     returns
-    open-bit-requires
+    link-number-requires
+    sub-if1
+    shared-slice-read-if1
     returns-2
-    link-place-requires
+    opposite-requires
+    link-number-requires-2
+    sub-if2
     shared-slice-read-if2
     returns-3
-    opposite-requires
-    link-place-requires-2
-    shared-slice-read-if3
-    returns-4
-    returns-5)
+    returns-4)

@@ -1,29 +1,57 @@
 -- `encoder_call::families::cell` meets its contract. Assumes nothing.
-use borrow.Author.Needs.{needs}
-use mathlib.Core.Path.{sym}
+use mathlib.Core.Path.{_≡_, sym, _∙_}
+use borrow.Author.Tests.{not-true, not-false}
 use Rattle.answers.proofs.Lent.{wrote-nothing, wrote-recast}
+use Rattle.rules.specs.Board.{gridBoard}
+use Rattle.encoder.specs.Lists.{joined}
+use Rattle.encoder.proofs.ClauseLists.{listOf, atCell}
 use Rattle.encoder_shapes.proofs.Written.{writable-recast}
-use Rattle.encoder_call.proofs.EachCell.{shut-list, is-open, open-list, open-few}
+use Rattle.encoder_numbers.specs.Tables.{OpenCell}
+use Rattle.encoder_call.specs.Families.{familyAt, familyParts}
+use Rattle.encoder_call.proofs.EachCell.{shut-list, open-list, open-few}
+use borrow.Author.Needs.{needs}
 use Rattle.encoder_call.proofs.families.cell.Statement.{statement}
 use Rattle.encoder_call.proofs.families.cell.Tie as tie
 
-open-bit-requires : tie.Need-open-bit-requires
-open-bit-requires c κs = ((c .before .before .before .pre .1 .0) .ranked .recordFits, (c .before .before .before .pre .1 .1))
+open-here : (c : tie.Else1) → let s = c .before .before .before .before in OpenCell (s .args .g) (s .args .«record» .now) (s .args .x)
+open-here c = record { inside = c .before .before .before .before .pre .1 .1; opened = sym (c .before .is-open .ensures) ∙ not-false _ (c .if1 .left) }
+
+-- the cell's clauses by its numbers
+by-numbers : (c : tie.After-cell-numbers) → let s = c .before .before .before .before .before in
+    let b = gridBoard (s .args .g) (s .args .«record» .now) in
+    listOf b (atCell b (familyAt (s .args .«family») b) (s .args .x)) ≡ joined (familyParts (s .args .«family») (s .args .sizes .opens) (c .cell-numbers .result))
+by-numbers c = let s = c .before .before .before .before .before in open-list (s .pre .1 .0) (s .args .x) (open-here (c .before)) (c .cell-numbers .ensures) (s .args .«family»)
+
+is-open-requires : tie.Need-is-open-requires
+is-open-requires c κs = let s = c .before .before in (s .pre .1 .0 .recordFits, s .pre .1 .1)
 
 returns : tie.Need-returns
-returns c = wrote-recast (shut-list (c .before .before .before .before .before .pre .1 .0) (c .before .before .before .before .before .args .x) (c .before .before .before .before .before .args .«family») (c .before .open-bit .ensures) (c .if1 .taken)) (wrote-nothing _ _)
+returns c =
+    let s = c .before .before .before .before in
+    wrote-recast (shut-list (s .pre .1 .0) (s .args .x) (s .args .«family») (sym (c .before .is-open .ensures) ∙ not-true _ (c .if1 .taken))) (wrote-nothing _ _)
 
 cell-numbers-requires : tie.Need-cell-numbers-requires
-cell-numbers-requires c κs = ((c .before .before .before .before .before .pre .1 .0), (is-open (c .before .before .before .before .before .pre .1 .0) (c .before .before .before .before .before .args .x) (c .before .before .before .before .before .pre .1 .1) (c .before .open-bit .ensures) (c .if1 .left)))
+cell-numbers-requires c κs = (c .before .before .before .before .pre .1 .0, open-here c)
 
 open-cell-requires : tie.Need-open-cell-requires
-open-cell-requires c κs = (writable-recast (open-list (c .before .before .before .before .before .before .before .pre .1 .0) (c .before .before .before .before .before .before .before .args .x) (is-open (c .before .before .before .before .before .before .before .pre .1 .0) (c .before .before .before .before .before .before .before .args .x) (c .before .before .before .before .before .before .before .pre .1 .1) (c .before .before .before .open-bit .ensures) (c .before .before .if1 .left)) (c .before .cell-numbers .ensures) (c .before .before .before .before .before .before .before .args .«family»)) (c .before .before .before .before .before .before .before .pre .0), open-few (c .before .before .before .before .before .before .before .pre .1 .0) (c .before .before .before .before .before .before .before .args .x) (is-open (c .before .before .before .before .before .before .before .pre .1 .0) (c .before .before .before .before .before .before .before .args .x) (c .before .before .before .before .before .before .before .pre .1 .1) (c .before .before .before .open-bit .ensures) (c .before .before .if1 .left)) (c .before .cell-numbers .ensures))
+open-cell-requires c κs =
+    let k = c .before in
+    let s = k .before .before .before .before .before in
+    (record { writable = writable-recast (by-numbers k) (s .pre .0) }, open-few (s .pre .1 .0) (s .args .x) (open-here (k .before)) (k .cell-numbers .ensures))
 
 same-length : tie.Need-same-length
 same-length c = search needs
 
 returns-2 : tie.Need-returns-2
-returns-2 c = wrote-recast (sym (open-list (c .before .before .before .before .before .before .before .before .before .pre .1 .0) (c .before .before .before .before .before .before .before .before .before .args .x) (is-open (c .before .before .before .before .before .before .before .before .before .pre .1 .0) (c .before .before .before .before .before .before .before .before .before .args .x) (c .before .before .before .before .before .before .before .before .before .pre .1 .1) (c .before .before .before .before .before .open-bit .ensures) (c .before .before .before .before .if1 .left)) (c .before .before .before .cell-numbers .ensures) (c .before .before .before .before .before .before .before .before .before .args .«family»))) (c .before .open-cell .ensures)
+returns-2 c = wrote-recast (sym (by-numbers (c .before .before .before))) (c .before .open-cell .ensures)
 
 pub cell-spec : {M : Type 1} → statement M
-cell-spec = tie.close (tie.spec open-bit-requires returns cell-numbers-requires open-cell-requires same-length returns-2)
+cell-spec =
+    tie.close
+    (tie.spec
+    is-open-requires
+    returns
+    cell-numbers-requires
+    open-cell-requires
+    same-length
+    returns-2)

@@ -1,36 +1,72 @@
 -- `encoder_call::families::start` meets its contract. Assumes nothing.
 use native.Mathlib.Omega.{arith}
-use borrow.Author.Needs.{needs}
 use Prim.Native.Nat.{_+_}
-use mathlib.Core.Path.{sym}
-use mathlib.Core.List.{[], _∷_}
-use Rattle.answers.proofs.Lent.{wrote-nothing, wrote-after, wrote-recast}
-use Rattle.rules.specs.Board.{gridBoard}
-use Rattle.encoder.specs.Lists.{each}
+use lib.IntN.{ℤ}
+use mathlib.Core.Path.{_≡_, refl, sym, ap}
+use mathlib.Core.List.{List, [], _∷_}
+use Rattle.answers.proofs.Lent.{wrote-recast}
+use Rattle.rules.specs.Board.{Board, gridBoard}
+use Rattle.encoder.specs.Lists.{each, joined}
 use Rattle.encoder.specs.Variables.{opens}
-use Rattle.encoder.specs.Clauses.{startAt}
+use Rattle.encoder.specs.Clauses.{start as startClauses, startAt}
 use Rattle.encoder.proofs.ClauseLists.{listOf}
 use Rattle.encoder_shapes.specs.Shapes.{atLeastOne}
-use Rattle.encoder_shapes.proofs.Written.{writable-recast, in-parts, first-part, next-parts}
-use Rattle.encoder_numbers.proofs.Neighbours.{held-laws, f-few}
+use Rattle.encoder_shapes.proofs.Written.{in-parts, writable-recast}
+use Rattle.encoder_numbers.specs.declared.Sizes.{Sizes}
+use Rattle.encoder_numbers.proofs.Neighbours.{held-laws, few}
 use Rattle.encoder_call.proofs.EachCell.{start-parts}
+use borrow.Author.Needs.{needs}
+use Rattle.encoder_shapes.proofs.Written.{Progress, begun, part-needs, part-on, parts-end}
 use Rattle.encoder_call.proofs.families.start.Statement.{statement}
 use Rattle.encoder_call.proofs.families.start.Tie as tie
 
+abbrev b : tie.Start → Board
+b c = gridBoard (c .args .g) (c .args .«record» .now)
+
+abbrev parts : tie.Start → List (List ℤ)
+parts c = atLeastOne (c .args .sizes .opens + 1) (c .args .sizes .opens) ∷ listOf (b c) (each (opens (b c)) (startAt (b c))) ∷ []
+
+is-parts : (c : tie.Start) → listOf (b c) (startClauses (b c)) ≡ joined (parts c)
+is-parts c = start-parts (b c) (held-laws (c .pre .1 .recordFits)) (ap (λ (z : Sizes). z .opens) (c .pre .1 .sized))
+
+-- the start, from the places after the calls
+abbrev s1 : tie.After-at-least-one → tie.Start
+s1 c = c .before .before .before .before
+
+-- what is written after each call, and what is left
+abbrev start : tie.Start → Progress
+start c = begun (c .args .list .now) (in-parts (parts c) (writable-recast (is-parts c) (c .pre .0)))
+
+abbrev p1 : tie.After-at-least-one → Progress
+p1 c = part-on (start (c .before .before .before .before)) (c .at-least-one .ensures)
+
+abbrev p2 : tie.After-cells → Progress
+p2 c = part-on (p1 (c .before .before .before)) (c .cells .ensures)
+
+abbrev s2 : tie.After-cells → tie.Start
+s2 c = s1 (c .before .before .before)
+
 add-at-least-one : tie.Need-add-at-least-one
-add-at-least-one c = omega (arith, f-few (c .before .before .before .before .pre .1))
+add-at-least-one c = let f = few (c .before .before .before .pre .1) in omega arith
 
 at-least-one-requires : tie.Need-at-least-one-requires
-at-least-one-requires c κs = first-part (in-parts (atLeastOne (c .before .before .before .before .args .f + 1) (c .before .before .before .before .args .f) ∷ listOf (gridBoard (c .before .before .before .before .args .g) (c .before .before .before .before .args .«record» .now)) (each (opens (gridBoard (c .before .before .before .before .args .g) (c .before .before .before .before .args .«record» .now))) (startAt (gridBoard (c .before .before .before .before .args .g) (c .before .before .before .before .args .«record» .now)))) ∷ []) (writable-recast (start-parts (gridBoard (c .before .before .before .before .args .g) (c .before .before .before .before .args .«record» .now)) (held-laws ((c .before .before .before .before .pre .1) .ranked .recordFits)) ((c .before .before .before .before .pre .1) .wayed .opens)) (c .before .before .before .before .pre .0)))
+at-least-one-requires c κs = part-needs (start (c .before .before .before))
 
 cells-requires : tie.Need-cells-requires
-cells-requires c κs = (first-part (next-parts (in-parts (atLeastOne (c .before .before .before .before .before .before .before .args .f + 1) (c .before .before .before .before .before .before .before .args .f) ∷ listOf (gridBoard (c .before .before .before .before .before .before .before .args .g) (c .before .before .before .before .before .before .before .args .«record» .now)) (each (opens (gridBoard (c .before .before .before .before .before .before .before .args .g) (c .before .before .before .before .before .before .before .args .«record» .now))) (startAt (gridBoard (c .before .before .before .before .before .before .before .args .g) (c .before .before .before .before .before .before .before .args .«record» .now)))) ∷ []) (writable-recast (start-parts (gridBoard (c .before .before .before .before .before .before .before .args .g) (c .before .before .before .before .before .before .before .args .«record» .now)) (held-laws ((c .before .before .before .before .before .before .before .pre .1) .ranked .recordFits)) ((c .before .before .before .before .before .before .before .pre .1) .wayed .opens)) (c .before .before .before .before .before .before .before .pre .0))) (c .before .before .at-least-one .ensures)), (c .before .before .before .before .before .before .before .pre .1))
+cells-requires c κs = (part-needs (p1 (c .before .before)), s1 (c .before .before) .pre .1)
 
 same-length : tie.Need-same-length
 same-length c = search needs
 
 returns : tie.Need-returns
-returns c = wrote-recast (sym (start-parts (gridBoard (c .before .before .before .before .before .before .before .before .before .args .g) (c .before .before .before .before .before .before .before .before .before .args .«record» .now)) (held-laws ((c .before .before .before .before .before .before .before .before .before .pre .1) .ranked .recordFits)) ((c .before .before .before .before .before .before .before .before .before .pre .1) .wayed .opens))) (wrote-after (c .before .before .before .before .at-least-one .ensures) (wrote-after (c .before .cells .ensures) (wrote-nothing _ _)))
+returns c = wrote-recast (sym (is-parts (s2 (c .before)))) (parts-end (p2 (c .before)) refl)
 
 pub start-spec : {M : Type 1} → statement M
-start-spec = tie.close (tie.spec add-at-least-one at-least-one-requires cells-requires same-length returns)
+start-spec =
+    tie.close
+    (tie.spec
+    add-at-least-one
+    at-least-one-requires
+    cells-requires
+    same-length
+    returns)

@@ -1,19 +1,15 @@
--- `encoder_numbers::cells::around` meets its contract. Assumes nothing.
+-- `encoder_numbers::cells::cell_numbers` meets its contract. Assumes nothing.
 use native.Mathlib.Omega.{arith}
+use Rattle.encoder_numbers.proofs.Neighbours.{few, few-below, cell-is}
 use borrow.Author.Needs.{needs}
-use mathlib.Core.Path.{refl}
-use Rattle.encoder_numbers.proofs.Neighbours.{rank-small, f-few, a-few, around-is}
 use Rattle.encoder_numbers.proofs.cells.cell_numbers.Statement.{statement}
 use Rattle.encoder_numbers.proofs.cells.cell_numbers.Tie as tie
 
-mul-rank : tie.Need-mul-rank
-mul-rank c = let w = (c .before .before .before .pre .0) .ranked .table .long in omega (arith, (c .before .before .before .pre .1) .inside)
-
-shared-slice-read-rank : tie.Need-shared-slice-read-rank
-shared-slice-read-rank c = let w = (c .before .before .before .before .pre .0) .ranked .table .long in omega (arith, (c .before .before .before .before .pre .1) .inside)
+sizes-below-requires : tie.Need-sizes-below-requires
+sizes-below-requires c κs = search needs
 
 distance-number-requires : tie.Need-distance-number-requires
-distance-number-requires c κs = (f-few (c .before .before .before .before .pre .0), a-few (c .before .before .before .before .pre .0), rank-small ((c .before .before .before .before .pre .0) .ranked) _ ((c .before .before .before .before .pre .1) .inside))
+distance-number-requires c κs = search needs
 
 neighbour-numbers-requires : tie.Need-neighbour-numbers-requires
 neighbour-numbers-requires c κs = search needs
@@ -28,16 +24,32 @@ neighbour-numbers-requires-4 : tie.Need-neighbour-numbers-requires-4
 neighbour-numbers-requires-4 c κs = search needs
 
 add-t14 : tie.Need-add-t14
-add-t14 c = omega (arith, f-few (c .before .before .before .before .before .before .before .before .before .pre .0), rank-small ((c .before .before .before .before .before .before .before .before .before .pre .0) .ranked) (c .before .before .before .before .before .before .before .before .before .args .x) ((c .before .before .before .before .before .before .before .before .before .pre .1) .inside))
+add-t14 c = let s = c .before .before .before .before .before .before .before .before in let b = few-below (s .pre .0) (s .pre .1 .inside) (c .before .before .before .before .before .sizes-below .ensures) in omega arith
+
+add-t15 : tie.Need-add-t15
+add-t15 c = let s = c .before .before .before .before .before .before .before .before .before in let f = few (s .pre .0) in let b = few-below (s .pre .0) (s .pre .1 .inside) (c .before .before .before .before .before .before .sizes-below .ensures) in omega arith
 
 add-t16 : tie.Need-add-t16
-add-t16 c = omega (arith, f-few (c .before .before .before .before .before .before .before .before .before .pre .0), rank-small ((c .before .before .before .before .before .before .before .before .before .pre .0) .ranked) (c .before .before .before .before .before .before .before .before .before .args .x) ((c .before .before .before .before .before .before .before .before .before .pre .1) .inside))
-
-add-t18 : tie.Need-add-t18
-add-t18 c = omega (arith, f-few (c .before .before .before .before .before .before .before .before .before .pre .0), rank-small ((c .before .before .before .before .before .before .before .before .before .pre .0) .ranked) (c .before .before .before .before .before .before .before .before .before .args .x) ((c .before .before .before .before .before .before .before .before .before .pre .1) .inside))
+add-t16 c = let s = c .before .before .before .before .before .before .before .before .before in let f = few (s .pre .0) in let b = few-below (s .pre .0) (s .pre .1 .inside) (c .before .before .before .before .before .before .sizes-below .ensures) in omega arith
 
 returns : tie.Need-returns
-returns c = around-is (c .before .before .before .before .before .before .before .before .before .pre .0) (c .before .before .before .before .before .before .before .before .before .pre .1) refl (c .before .before .before .before .distance-number .ensures) (c .before .before .before .neighbour-numbers .ensures) (c .before .before .neighbour-numbers2 .ensures) (c .before .neighbour-numbers3 .ensures) (c .neighbour-numbers4 .ensures)
+returns c =
+    let s = c .before .before .before .before .before .before .before .before .before in
+    let w = c .before in
+    cell-is (s .pre .0) (s .pre .1) (c .before .before .before .before .before .before .sizes-below .ensures) (c .before .before .before .before .before .distance-number .ensures)
+    (w .before .before .before .neighbour-numbers .ensures) (w .before .before .neighbour-numbers2 .ensures) (w .before .neighbour-numbers3 .ensures) (w .neighbour-numbers4 .ensures)
 
 pub cell-numbers-spec : {M : Type 1} → statement M
-cell-numbers-spec = tie.close (tie.spec mul-rank shared-slice-read-rank distance-number-requires neighbour-numbers-requires neighbour-numbers-requires-2 neighbour-numbers-requires-3 neighbour-numbers-requires-4 add-t14 add-t16 add-t18 returns)
+cell-numbers-spec =
+    tie.close
+    (tie.spec
+    sizes-below-requires
+    distance-number-requires
+    neighbour-numbers-requires
+    neighbour-numbers-requires-2
+    neighbour-numbers-requires-3
+    neighbour-numbers-requires-4
+    add-t14
+    add-t15
+    add-t16
+    returns)

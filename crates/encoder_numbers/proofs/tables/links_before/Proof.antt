@@ -1,17 +1,29 @@
 -- `encoder_numbers::tables::links_before` meets its contract. Assumes nothing.
 use native.Mathlib.Omega.{arith}
-use mathlib.Core.Path.{refl}
+use Prim.Native.Nat.{_+_, _≤_}
+use lib.ListN.{length}
+use mathlib.Core.Path.{_≡_, refl}
 use mathlib.Core.List.{[], _∷_}
 use Rattle.rules.specs.declared.Direction.the-variants.{North as north, East as east, South as south, West as west}
 use Rattle.rules.specs.Board.{Board, gridBoard}
-use Rattle.encoder.proofs.Bounds.{neighbours-most}
-use Rattle.encoder_numbers.proofs.Numbers.{links-sum, links-earlier}
+use Rattle.encoder.specs.Variables.{neighbours}
+use Rattle.encoder_numbers.proofs.Numbers.{one-few, links-sum, links-earlier}
 use borrow.Author.Needs.{needs}
 use Rattle.encoder_numbers.proofs.tables.links_before.Statement.{statement}
 use Rattle.encoder_numbers.proofs.tables.links_before.Tie as tie
 
 abbrev b : tie.Start → Board
 b c = gridBoard (c .args .g) (c .args .«record» .now)
+
+-- north and east; north, east and south
+two : (c : tie.After-open-there3) → let s = c .before .before .before .before .before in c .before .open-there2 .result + c .open-there3 .result ≡ length (neighbours (b s) (s .args .x) (north ∷ east ∷ []))
+two c = let s = c .before .before .before .before .before in links-sum (b s) (s .args .x) (north ∷ []) (east ∷ []) (c .before .open-there2 .ensures) (c .open-there3 .ensures)
+
+three : (c : tie.After-open-there6) → let s = c .before .before .before .before .before .before in
+    c .before .before .open-there4 .result + c .before .open-there5 .result + c .open-there6 .result ≡ length (neighbours (b s) (s .args .x) (north ∷ east ∷ south ∷ []))
+three c =
+    let s = c .before .before .before .before .before .before in
+    links-sum (b s) (s .args .x) (north ∷ east ∷ []) (south ∷ []) (links-sum (b s) (s .args .x) (north ∷ []) (east ∷ []) (c .before .before .open-there4 .ensures) (c .before .open-there5 .ensures)) (c .open-there6 .ensures)
 
 enum-told : tie.Need-enum-told
 enum-told c = search needs
@@ -32,7 +44,7 @@ open-there-requires-3 : tie.Need-open-there-requires-3
 open-there-requires-3 c κs = search needs
 
 add-result : tie.Need-add-result
-add-result c = omega (arith, c .before .open-there2 .ensures, c .open-there3 .ensures, neighbours-most (b (c .before .before .before .before .before)) (c .before .before .before .before .before .args .x) (north ∷ []), neighbours-most (b (c .before .before .before .before .before)) (c .before .before .before .before .before .args .x) (east ∷ []))
+add-result c = let s = c .before .before .before .before .before in omega (arith, one-few (b s) (s .args .x) north (c .before .open-there2 .ensures), one-few (b s) (s .args .x) east (c .open-there3 .ensures))
 
 enum-told-4 : tie.Need-enum-told-4
 enum-told-4 c = search needs
@@ -47,22 +59,24 @@ open-there-requires-6 : tie.Need-open-there-requires-6
 open-there-requires-6 c κs = search needs
 
 add-result-2 : tie.Need-add-result-2
-add-result-2 c = omega (arith, c .before .before .open-there4 .ensures, c .before .open-there5 .ensures, neighbours-most (b (c .before .before .before .before .before .before)) (c .before .before .before .before .before .before .args .x) (north ∷ []), neighbours-most (b (c .before .before .before .before .before .before)) (c .before .before .before .before .before .before .args .x) (east ∷ []))
+add-result-2 c = let s = c .before .before .before .before .before .before in omega (arith, one-few (b s) (s .args .x) north (c .before .before .open-there4 .ensures), one-few (b s) (s .args .x) east (c .before .open-there5 .ensures))
 
 add-result-3 : tie.Need-add-result-3
-add-result-3 c = omega (arith, c .before .before .open-there4 .ensures, c .before .open-there5 .ensures, c .open-there6 .ensures, neighbours-most (b (c .before .before .before .before .before .before)) (c .before .before .before .before .before .before .args .x) (north ∷ []), neighbours-most (b (c .before .before .before .before .before .before)) (c .before .before .before .before .before .before .args .x) (east ∷ []), neighbours-most (b (c .before .before .before .before .before .before)) (c .before .before .before .before .before .before .args .x) (south ∷ []))
+add-result-3 c =
+    let s = c .before .before .before .before .before .before in
+    omega (arith, one-few (b s) (s .args .x) north (c .before .before .open-there4 .ensures), one-few (b s) (s .args .x) east (c .before .open-there5 .ensures), one-few (b s) (s .args .x) south (c .open-there6 .ensures))
 
 returns : tie.Need-returns
-returns c = links-earlier (b (c .before .before .before)) (c .before .before .before .args .x) north (c .enum-told .given .1) refl
+returns c = let s = c .before .before .before in links-earlier (b s) (s .args .x) north (c .enum-told .given .1) refl
 
 returns-2 : tie.Need-returns-2
-returns-2 c = links-earlier (b (c .before .before .before .before)) (c .before .before .before .before .args .x) east (c .before .enum-told2 .given .1) (c .open-there .ensures)
+returns-2 c = let s = c .before .before .before .before in links-earlier (b s) (s .args .x) east (c .before .enum-told2 .given .1) (c .open-there .ensures)
 
 returns-3 : tie.Need-returns-3
-returns-3 c = links-earlier (b (c .before .before .before .before .before)) (c .before .before .before .before .before .args .x) south (c .before .before .enum-told3 .given .1) (links-sum (b (c .before .before .before .before .before)) (c .before .before .before .before .before .args .x) (north ∷ []) (east ∷ []) (c .before .open-there2 .ensures) (c .open-there3 .ensures))
+returns-3 c = let s = c .before .before .before .before .before in links-earlier (b s) (s .args .x) south (c .before .before .enum-told3 .given .1) (two c)
 
 returns-4 : tie.Need-returns-4
-returns-4 c = links-earlier (b (c .before .before .before .before .before .before)) (c .before .before .before .before .before .before .args .x) west (c .before .before .before .enum-told4 .given .1) (links-sum (b (c .before .before .before .before .before .before)) (c .before .before .before .before .before .before .args .x) (north ∷ east ∷ []) (south ∷ []) (links-sum (b (c .before .before .before .before .before .before)) (c .before .before .before .before .before .before .args .x) (north ∷ []) (east ∷ []) (c .before .before .open-there4 .ensures) (c .before .open-there5 .ensures)) (c .open-there6 .ensures))
+returns-4 c = let s = c .before .before .before .before .before .before in links-earlier (b s) (s .args .x) west (c .before .before .before .enum-told4 .given .1) (three c)
 
 pub links-before-spec : {M : Type 1} → statement M
 links-before-spec =
