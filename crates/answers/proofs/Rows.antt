@@ -56,7 +56,8 @@ pub answered-clear : (rs : List Row) (t : Outcome) → unnumbered rs ≡ 0 → f
 answered-clear [] t n e = tt
 answered-clear (r ∷ rs) t n e = by (eqb (r .number) 0) refl n (r .beside) refl e (answered-clear rs t)
   where
-    by : (z : Bool) → eqb (r .number) 0 ≡ z → tally z (unnumbered rs) ≡ 0 → (o : Option ℕ) → r .beside ≡ o → unless (r .number) o (firstRefusal rs t) .number ≡ 0
+    by : (z : Bool) → eqb (r .number) 0 ≡ z → tally z (unnumbered rs) ≡ 0 → (o : Option ℕ) → r .beside ≡ o
+        → unless (r .number) o (firstRefusal rs t) .number ≡ 0
         → (unnumbered rs ≡ 0 → firstRefusal rs t .number ≡ 0 → Clear rs) → Clear (r ∷ rs)
     by true q n o p e go = absurd (omega arith)
     by false q n none p e go = (p, go n e)
@@ -75,7 +76,8 @@ pub still-refused : (rs qs : List Row) (t u : Outcome) → t .number ≡ 0 → (
 still-refused [] qs t u z n = absurd (n z)
 still-refused (r ∷ rs) qs t u z n = by (r .beside) n (still-refused rs qs t u z)
   where
-    by : (o : Option ℕ) → (unless (r .number) o (firstRefusal rs t) .number ≡ 0 → ⊥) → ((firstRefusal rs t .number ≡ 0 → ⊥) → firstRefusal rs t ≡ firstRefusal (rs ++ qs) u)
+    by : (o : Option ℕ) → (unless (r .number) o (firstRefusal rs t) .number ≡ 0 → ⊥)
+        → ((firstRefusal rs t .number ≡ 0 → ⊥) → firstRefusal rs t ≡ firstRefusal (rs ++ qs) u)
         → unless (r .number) o (firstRefusal rs t) ≡ unless (r .number) o (firstRefusal (rs ++ qs) u)
     by none n go = go n
     by (some v) n go = refl

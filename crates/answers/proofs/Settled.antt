@@ -32,5 +32,6 @@ pub untouched : {A : Type 0} (t : Outcome) (before after : A) → (t .number ≡
 untouched t before after n = ap (λ b. cond b after before) (ne-eqb (t .number) 0 n)
 
 -- what it tells, and what it leaves in the buffer
-pub settled : {A : Type 0} (rows : List Row) (t : Outcome) (before after : A) {new : A} {u : Outcome} → Tells rows t u → new ≡ unlessRefused u before after → (u ≡ firstRefusal rows t) × (new ≡ unlessRefused (firstRefusal rows t) before after)
+pub settled : {A : Type 0} (rows : List Row) (t : Outcome) (before after : A) {new : A} {u : Outcome} → Tells rows t u
+    → new ≡ unlessRefused u before after → (u ≡ firstRefusal rows t) × (new ≡ unlessRefused (firstRefusal rows t) before after)
 settled rows t before after g l = let e = tells g in (e, l ∙ ap (λ s. unlessRefused s before after) e)

@@ -37,7 +37,8 @@ Reads text buf u new = (u ≡ readerAnswer text buf) × (new ≡ readerLeaves te
 abbrev outcome : List ℕ → Outcome
 outcome text = answer (length (listOf text)) (headerOf text .variables) (headerOf text .clauses)
 
-reads : (text : List ℕ) (buf : List ℤ) {u : Outcome} {new : List ℤ} → Tells (readerRows text (length buf)) (outcome text) u → new ≡ unlessRefused u buf (filled buf (listOf text)) → Reads text buf u new
+reads : (text : List ℕ) (buf : List ℤ) {u : Outcome} {new : List ℤ} → Tells (readerRows text (length buf)) (outcome text) u
+    → new ≡ unlessRefused u buf (filled buf (listOf text)) → Reads text buf u new
 reads text buf = settled (readerRows text (length buf)) (outcome text) buf (filled buf (listOf text))
 
 pub text-refused : {text : List ℕ} {p : ℕ} (buf : List ℤ) → Dead text line 0 p → Reads text buf (refusal 19 p) buf

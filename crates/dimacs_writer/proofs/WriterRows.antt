@@ -44,7 +44,8 @@ text-append : (v : ℕ) (ls : List ℤ) → length (textOf v ls) ≡ length (hea
 text-append v ls = length-append (headerLine v (clauseCount ls)) (lines ls)
 
 -- the bytes of the text, by its parts
-pub text-counted : {a b k : ℕ} {r : Needed} (v : ℕ) (ls : List ℤ) → k ≡ clauseCount ls → a ≡ length (decimal v) → b ≡ length (decimal k) → r ≡ counted (8 + a + b + length (lines ls)) → r ≡ counted (length (textOf v ls))
+pub text-counted : {a b k : ℕ} {r : Needed} (v : ℕ) (ls : List ℤ) → k ≡ clauseCount ls → a ≡ length (decimal v) → b ≡ length (decimal k)
+    → r ≡ counted (8 + a + b + length (lines ls)) → r ≡ counted (length (textOf v ls))
 text-counted {a} {b} v ls e p q r =
     let h = header-length v (clauseCount ls) in
     let d = ap (λ (n : ℕ). length (decimal n)) e in
@@ -56,7 +57,9 @@ text-counted {a} {b} v ls e p q r =
 abbrev Writes : ℕ → List ℤ → List ℕ → Outcome → List ℕ → Type 0
 Writes v ls buf u new = (u ≡ writerAnswer v ls buf) × (new ≡ writerLeaves v ls buf)
 
-writes : (v : ℕ) (ls : List ℤ) (buf : List ℕ) {u : Outcome} {new : List ℕ} → Tells (writerRows v ls (length buf)) (answer (length (textOf v ls)) 0 0) u → new ≡ unlessRefused u buf (filled buf (textOf v ls)) → Writes v ls buf u new
+writes : (v : ℕ) (ls : List ℤ) (buf : List ℕ) {u : Outcome} {new : List ℕ}
+    → Tells (writerRows v ls (length buf)) (answer (length (textOf v ls)) 0 0) u → new ≡ unlessRefused u buf (filled buf (textOf v ls))
+    → Writes v ls buf u new
 writes v ls buf = settled (writerRows v ls (length buf)) (answer (length (textOf v ls)) 0 0) buf (filled buf (textOf v ls))
 
 pub record VariablesRight (v : ℕ) : Type 0 where
@@ -80,14 +83,18 @@ list-wrong {v} ls buf p h = writes v ls buf (passes (ap cause (p .right)) (turns
 
 module _ {v : ℕ} {ls : List ℤ} (buf : List ℕ) (p : ListRight v ls) {r : Needed} (e : r ≡ counted (length (textOf v ls))) where
   pub room-over : length buf < 2 ^ 64 → r ≡ TooMany → Writes v ls buf (refusal 6 (2 ^ 64 - 1)) buf
-  room-over h o = writes v ls buf (passes (ap cause (p .before .right)) (passes (p .right) (turns (short-over (length buf) h (counted-over (length (textOf v ls)) (sym e ∙ o)))))) refl
+  room-over h o =
+      writes v ls buf (passes (ap cause (p .before .right))
+      (passes (p .right) (turns (short-over (length buf) h (counted-over (length (textOf v ls)) (sym e ∙ o)))))) refl
 
   module _ {n : ℕ} (o : r ≡ Bytes n) where
     needs : (length (textOf v ls) ≡ n) × (length (textOf v ls) < 2 ^ 64)
     needs = counted-bytes (length (textOf v ls)) (sym e ∙ o)
 
     pub room-short : length buf < n → Writes v ls buf (refusal 6 n) buf
-    room-short h = writes v ls buf (passes (ap cause (p .before .right)) (passes (p .right) (turns (short-by (length buf) (omega (arith, needs .0)) (needs .1) ∙ ap some (needs .0))))) refl
+    room-short h =
+        writes v ls buf (passes (ap cause (p .before .right))
+        (passes (p .right) (turns (short-by (length buf) (omega (arith, needs .0)) (needs .1) ∙ ap some (needs .0))))) refl
 
     pub room-right : n ≤ length buf → RoomRight v ls buf
     room-right h = record { before = p; right = omega (arith, needs .0); small = needs .1 }

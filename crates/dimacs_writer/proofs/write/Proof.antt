@@ -15,13 +15,15 @@ use Rattle.dimacs_writer.proofs.write.Tie as tie
 past-variables : (c : tie.Else1) → VariablesRight (c .before .before .before .args .variables)
 past-variables c = record { right = sym (c .before .too-many-variables .ensures) ∙ c .if1 .left }
 
-past-list : (c : tie.After-enum-told) → ListRight (c .before .before .before .before .before .before .args .variables) (c .before .before .before .before .before .before .args .list .now)
+past-list : (c : tie.After-enum-told)
+    → ListRight (c .before .before .before .before .before .before .args .variables) (c .before .before .before .before .before .before .args .list .now)
 past-list c =
     let at-else1 = c .before .before .before in
     record { before = past-variables (at-else1); right = sym (c .before .before .wrong-list .ensures) ∙ ap placed (c .enum-told .given .1) }
 
 -- the bytes were counted
-sized : (c : tie.After-count-lines) → c .count-lines .result ≡ counted (length (textOf (c .before .before .before .before .before .before .before .before .before .before .args .variables) (c .before .before .before .before .before .before .before .before .before .before .args .list .now)))
+sized : (c : tie.After-count-lines)
+    → c .count-lines .result ≡ counted (length (textOf (c .before .before .before .before .before .before .before .before .before .before .args .variables) (c .before .before .before .before .before .before .before .before .before .before .args .list .now)))
 sized c =
     let at-clause-count = c .before .before .before in
     let at-too-many-variables = at-clause-count .before .before .before .before .before in
@@ -29,7 +31,8 @@ sized c =
     text-counted (at-start .args .variables) (at-start .args .list .now) (at-clause-count .clause-count .ensures) (c .before .before .width .ensures)
     (c .before .width2 .ensures) (c .count-lines .ensures)
 
-past-room : (c : tie.Else2) → RoomRight (c .before .before .before .before .before .before .before .before .before .before .before .before .before .before .args .variables) (c .before .before .before .before .before .before .before .before .before .before .before .before .before .before .args .list .now) (c .before .before .before .before .before .before .before .before .before .before .before .before .before .before .args .text .now)
+past-room : (c : tie.Else2)
+    → RoomRight (c .before .before .before .before .before .before .before .before .before .before .before .before .before .before .args .variables) (c .before .before .before .before .before .before .before .before .before .before .before .before .before .before .args .list .now) (c .before .before .before .before .before .before .before .before .before .before .before .before .before .before .args .text .now)
 past-room c =
     let at-count-lines = c .before .before .before .before in
     let at-enum-told = at-count-lines .before .before .before .before in
