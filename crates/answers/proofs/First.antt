@@ -107,8 +107,12 @@ first-same p q n h = by (firstWhere p n) refl
     by none e = e ∙ sym (none-first q n (λ k l. sym (h k l) ∙ first-none p n e k l))
     by (some m) e =
         let l = first-some p n m e in
-        e ∙ sym (some-first q n (record { below = l .below; holds = sym (h m (l .below)) ∙ l .holds; first = λ k b. sym
-        (h k (let z = l .below in omega arith)) ∙ l .first k b }))
+        e ∙ sym (some-first q n (record {
+          below = l .below;
+          holds = sym (h m (l .below)) ∙ l .holds;
+          first = λ k b. sym
+              (h k (let z = l .below in omega arith)) ∙ l .first k b;
+        }))
 
 -- at the head of a loop that seeks the first: the test holds nowhere below i
 pub record Seeking (p : ℕ → Bool) (n i : ℕ) : Type 0 where

@@ -9,7 +9,7 @@ use Rattle.answers.specs.declared.Outcome.{Outcome}
 use Rattle.answers.specs.Outcome.{refusal, firstRefusal}
 use Rattle.answers.specs.Lent.{Wrote, filled, unlessRefused}
 use Rattle.answers.proofs.Lent.{wrote-filled}
-use Rattle.answers.proofs.Rows.{Tells, answers, turns, passes}
+use Rattle.answers.proofs.Rows.{RowsGive as Tells, answers, refuses as turns, passes}
 use Rattle.answers.proofs.Settled.{short-by, long-enough, untouched, settled}
 use Rattle.rules.specs.declared.Grid.{Grid}
 use Rattle.rules.specs.declared.Parsed.{Parsed}

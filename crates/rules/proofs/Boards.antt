@@ -189,8 +189,12 @@ module _ (g : Grid) where
 
   goes-back : (d : Direction) (x y : ℕ) → Has d x y → Has (opposite d) y x
   goes-back d x y h =
-      rw (← h .is) (record { within = target-stays d x (h .within) (h .there); there = back-inside d x (h .within) (h .there); is = back-target d x
-      (h .there) })
+      rw (← h .is) (record {
+        within = target-stays d x (h .within) (h .there);
+        there = back-inside d x (h .within) (h .there);
+        is = back-target d x
+            (h .there);
+      })
 
   line-stays : (d : Direction) (fuel x : ℕ) (seen : List ℕ) → x < size g → All (λ y. y < size g) seen → All (λ y. y < size g) (outward g d fuel x seen)
   unfolding outward

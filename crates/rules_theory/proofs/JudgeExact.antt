@@ -55,19 +55,23 @@ module _ {b : Board} (law : Laws b) (ds : List ℕ) where
 
   -- 10: drawing byte
   bytes-right : wrongByte b ds ≡ none ↔ ((x : ℕ) → x < b .size → Allowed (b .isOpen x) (getD ds x 0))
-  bytes-right =
-      (λ e x h. allowed-byte (b .isOpen x) (getD ds x 0) .0 (first-none _ _ e x h), λ a. none-first _ _
-      (λ x h. allowed-byte (b .isOpen x) (getD ds x 0) .1 (a x h)))
+  bytes-right = (
+    λ e x h. allowed-byte (b .isOpen x) (getD ds x 0) .0 (first-none _ _ e x h),
+    λ a. none-first _ _
+        (λ x h. allowed-byte (b .isOpen x) (getD ds x 0) .1 (a x h)),
+  )
 
   -- 11: black beside black. Who looks east and south from each cell has looked north and west too
   abbrev Untouched : Type 0
   Untouched = (d : Direction) (x y : ℕ) → b .next d x ≡ some y → blackAt ds x ≡ true → blackAt ds y ≡ true → ⊥
 
   touching-right : touching b ds ≡ none ↔ Untouched
-  touching-right =
-      (λ e. untouched (first-none _ _ e), λ u. none-first _ _
-      (λ x h. and-off (blackAt ds x) (there (blackAt ds) (b .next east x) || there (blackAt ds) (b .next south x))
-      (λ p. rw (not-there u east x p, not-there u south x p))))
+  touching-right = (
+    λ e. untouched (first-none _ _ e),
+    λ u. none-first _ _
+        (λ x h. and-off (blackAt ds x) (there (blackAt ds) (b .next east x) || there (blackAt ds) (b .next south x))
+        (λ p. rw (not-there u east x p, not-there u south x p))),
+  )
     where
       -- neither to the east nor to the south of a black cell is a black one
       sides : ((x : ℕ) → x < b .size → touchesAt b ds x ≡ false) → (d : Direction) (x y : ℕ) → b .next d x ≡ some y → blackAt ds x ≡ true
@@ -134,9 +138,11 @@ module _ {b : Board} (law : Laws b) (ds : List ℕ) where
 
   -- 14: white cell without exactly two links
   two-right : notTwoLinks b ds ≡ none ↔ ((x : ℕ) → x < b .size → whiteAt b ds x ≡ true → degree (linkAt ds x) ≡ 2)
-  two-right =
-      (λ e x h w. eqb-true _ _ (not-false _ (other-half _ _ (first-none _ _ e x h) w)), λ t. none-first _ _
-      (λ x h. and-off _ _ (λ w. true-not _ (eq-eqb _ _ (t x h w)))))
+  two-right = (
+    λ e x h w. eqb-true _ _ (not-false _ (other-half _ _ (first-none _ _ e x h) w)),
+    λ t. none-first _ _
+        (λ x h. and-off _ _ (λ w. true-not _ (eq-eqb _ _ (t x h w)))),
+  )
 
   -- 15: no white cell, or not one loop
   abbrev Whole : Type 0
@@ -178,7 +184,16 @@ module _ {b : Board} (law : Laws b) (ds : List ℕ) where
 
   pub solution-clear : SolutionBytes b ds → Clear (judgeRows b ds)
   solution-clear S =
-      let sol = S .solution in
-      (length-right .1 (S .long), (bytes-right .1 (S .allowed),
-      (touching-right .1 (sol .untouched), (clues-right .1 (sol .met),
-      (matched-right (S .long) (S .allowed) .1 (sol .links .matched), (two-right .1 (sol .links .two), (loop-right (sol .links) .1 (sol .whole), tt)))))))
+      let sol = S .solution in (
+        length-right .1 (S .long),
+        (
+          bytes-right .1 (S .allowed),
+          (
+            touching-right .1 (sol .untouched),
+            (
+              clues-right .1 (sol .met),
+              (matched-right (S .long) (S .allowed) .1 (sol .links .matched), (two-right .1 (sol .links .two), (loop-right (sol .links) .1 (sol .whole), tt))),
+            ),
+          ),
+        ),
+      )

@@ -13,8 +13,12 @@ use Rattle.count_solutions.proofs.main.Tie as tie
 fits : (c : tie.After-count-text)
     → length (printedCount (take (c .before .before .before .before .before .read-full .result) (c .before .before .before .before .before .read-full .last .1 .0))) ≤ length (c .before .before .before .buffer .result)
 fits c =
-    omega (arith, count-fits (take (c .before .before .before .before .before .read-full .result)
-    (c .before .before .before .before .before .read-full .last .1 .0)), c .before .before .before .buffer .ensures)
+    omega (
+      arith,
+      count-fits (take (c .before .before .before .before .before .read-full .result)
+          (c .before .before .before .before .before .read-full .last .1 .0)),
+      c .before .before .before .buffer .ensures,
+    )
 
 large-buffer-requires : tie.Need-large-buffer-requires
 large-buffer-requires c κs = search needs

@@ -13,8 +13,12 @@ use Rattle.solve.proofs.main.Tie as tie
 fits : (c : tie.After-solution-text)
     → length (printedSolution (take (c .before .before .before .before .before .read-full .result) (c .before .before .before .before .before .read-full .last .1 .0))) ≤ length (c .before .before .before .buffer .result)
 fits c =
-    omega (arith, solution-fits (take (c .before .before .before .before .before .read-full .result)
-    (c .before .before .before .before .before .read-full .last .1 .0)), c .before .before .before .buffer .ensures)
+    omega (
+      arith,
+      solution-fits (take (c .before .before .before .before .before .read-full .result)
+          (c .before .before .before .before .before .read-full .last .1 .0)),
+      c .before .before .before .buffer .ensures,
+    )
 
 large-buffer-requires : tie.Need-large-buffer-requires
 large-buffer-requires c κs = search needs

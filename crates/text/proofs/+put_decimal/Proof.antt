@@ -97,8 +97,12 @@ put-decimal-put-byte-requires-2 : (t : ℕ) → put-decimal-lts.Need-put-byte-re
   put-decimal.Post,
 ) (put-decimal-at t) put-decimal.Post
 put-decimal-put-byte-requires-2 t c κs =
-    omega (arith, tenth (c .before .before .before .before .before .if1 .left), c .before .before .before .put-decimal .ensures .place,
-    c .before .before .before .before .before .before .before .pre .1)
+    omega (
+      arith,
+      tenth (c .before .before .before .before .before .if1 .left),
+      c .before .before .before .put-decimal .ensures .place,
+      c .before .before .before .before .before .before .before .pre .1,
+    )
 
 put-decimal-returns-2 : (t : ℕ) → put-decimal-lts.Need-returns-2 (
   put-byte-reads.Asked,
