@@ -34,7 +34,9 @@ from-cases p a (suc n) = by (p a) refl (from-cases p (suc a) n)
         at (yes e) = ap p e ∙ q
         at (no e) = h k (omega arith) hi
 
-    by : (t : Bool) → p a ≡ t → ((m : ℕ) × LeastFrom p (suc a) n m × (firstFrom p (suc a) n ≡ some m)) ⊎ (NoneFrom p (suc a) n × (firstFrom p (suc a) n ≡ none)) → ((m : ℕ) × LeastFrom p a (suc n) m × (found t a (firstFrom p (suc a) n) ≡ some m)) ⊎ (NoneFrom p a (suc n) × (found t a (firstFrom p (suc a) n) ≡ none))
+    by : (t : Bool) → p a ≡ t
+        → ((m : ℕ) × LeastFrom p (suc a) n m × (firstFrom p (suc a) n ≡ some m)) ⊎ (NoneFrom p (suc a) n × (firstFrom p (suc a) n ≡ none))
+        → ((m : ℕ) × LeastFrom p a (suc n) m × (found t a (firstFrom p (suc a) n) ≡ some m)) ⊎ (NoneFrom p a (suc n) × (found t a (firstFrom p (suc a) n) ≡ none))
     by true q r = inl (a, record { low = omega arith; below = omega arith; holds = q; first = λ k lo hi. absurd (omega arith) }, refl)
     by false q (inl r) = let l = r .1 in inl (r .0, record { low = omega arith; below = omega arith; holds = l .holds; first = split q (l .first) }, r .2)
     by false q (inr r) = inr (split q (λ k lo hi. r .0 k lo (omega arith)), r .1)
@@ -44,7 +46,8 @@ module _ (p : ℕ → Bool) (n : ℕ) where
   unfolding NoneFrom
   first-cases = by (from-cases p 0 n)
     where
-      by : ((m : ℕ) × LeastFrom p 0 n m × (firstFrom p 0 n ≡ some m)) ⊎ (NoneFrom p 0 n × (firstFrom p 0 n ≡ none)) → ((m : ℕ) × Least p n m × (firstWhere p n ≡ some m)) ⊎ (((k : ℕ) → k < n → p k ≡ false) × (firstWhere p n ≡ none))
+      by : ((m : ℕ) × LeastFrom p 0 n m × (firstFrom p 0 n ≡ some m)) ⊎ (NoneFrom p 0 n × (firstFrom p 0 n ≡ none))
+          → ((m : ℕ) × Least p n m × (firstWhere p n ≡ some m)) ⊎ (((k : ℕ) → k < n → p k ≡ false) × (firstWhere p n ≡ none))
       by (inl r) = let l = r .1 in inl (r .0, record { below = omega arith; holds = l .holds; first = λ k h. l .first k (omega arith) h }, r .2)
       by (inr r) = inr (λ k h. r .0 k (omega arith) (omega arith), r .1)
 
@@ -52,7 +55,8 @@ module _ (p : ℕ → Bool) (n : ℕ) where
   pub least : ((m : ℕ) × Least p n m) ⊎ ((k : ℕ) → k < n → p k ≡ false)
   least = by first-cases
     where
-      by : ((m : ℕ) × Least p n m × (firstWhere p n ≡ some m)) ⊎ (((k : ℕ) → k < n → p k ≡ false) × (firstWhere p n ≡ none)) → ((m : ℕ) × Least p n m) ⊎ ((k : ℕ) → k < n → p k ≡ false)
+      by : ((m : ℕ) × Least p n m × (firstWhere p n ≡ some m)) ⊎ (((k : ℕ) → k < n → p k ≡ false) × (firstWhere p n ≡ none))
+          → ((m : ℕ) × Least p n m) ⊎ ((k : ℕ) → k < n → p k ≡ false)
       by (inl r) = inl (r .0, r .1)
       by (inr r) = inr (r .0)
 
@@ -103,7 +107,12 @@ first-same p q n h = by (firstWhere p n) refl
     by none e = e ∙ sym (none-first q n (λ k l. sym (h k l) ∙ first-none p n e k l))
     by (some m) e =
         let l = first-some p n m e in
-        e ∙ sym (some-first q n (record { below = l .below; holds = sym (h m (l .below)) ∙ l .holds; first = λ k b. sym (h k (let z = l .below in omega arith)) ∙ l .first k b }))
+        e ∙ sym (some-first q n (record {
+          below = l .below;
+          holds = sym (h m (l .below)) ∙ l .holds;
+          first = λ k b. sym
+              (h k (let z = l .below in omega arith)) ∙ l .first k b;
+        }))
 
 -- at the head of a loop that seeks the first: the test holds nowhere below i
 pub record Seeking (p : ℕ → Bool) (n i : ℕ) : Type 0 where

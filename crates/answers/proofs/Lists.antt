@@ -17,7 +17,8 @@ many-most p (x ∷ xs) = by (p x) (many-most p xs)
     by false h = omega arith
 
 -- one element more
-pub many-next : {A : Type 0} (p : A → Bool) (xs : List A) (d : A) (j : ℕ) → j < length xs → howMany p (take (suc j) xs) ≡ tally (p (getD xs j d)) (howMany p (take j xs))
+pub many-next : {A : Type 0} (p : A → Bool) (xs : List A) (d : A) (j : ℕ) → j < length xs
+    → howMany p (take (suc j) xs) ≡ tally (p (getD xs j d)) (howMany p (take j xs))
 many-next p [] d j h = absurd (omega arith)
 many-next p (x ∷ xs) d zero h = refl
 many-next p (x ∷ xs) d (suc j) h = ap (tally (p x)) (many-next p xs d j (omega arith)) ∙ swap (p x) (p (getD xs j d))

@@ -11,30 +11,30 @@ use Rattle.answers.specs.declared.Outcome.{Outcome}
 use Rattle.answers.specs.Outcome.{Row, row, refusal, cause, unless, firstRefusal}
 use Rattle.answers.specs.Lists.{tally, howMany, All}
 
--- how the rows are gone through: passed one by one, until one turns the call down or none is left
-pub data Tells : List Row → Outcome → Outcome → Type 0 where
-  answers : {t : Outcome} → Tells [] t t
-  turns : {n v : ℕ} {o : Option ℕ} {rs : List Row} {t : Outcome} → o ≡ some v → Tells (row n o ∷ rs) t (refusal n v)
-  passes : {n : ℕ} {o : Option ℕ} {rs : List Row} {t u : Outcome} → o ≡ none → Tells rs t u → Tells (row n o ∷ rs) t u
+-- what the rows give, from the first on: each is passed, until one refuses the call or none is left
+pub data RowsGive : List Row → Outcome → Outcome → Type 0 where
+  answers : {t : Outcome} → RowsGive [] t t
+  refuses : {n v : ℕ} {o : Option ℕ} {rs : List Row} {t : Outcome} → o ≡ some v → RowsGive (row n o ∷ rs) t (refusal n v)
+  passes : {n : ℕ} {o : Option ℕ} {rs : List Row} {t u : Outcome} → o ≡ none → RowsGive rs t u → RowsGive (row n o ∷ rs) t u
 
-pub tells : {rs : List Row} {t u : Outcome} → Tells rs t u → u ≡ firstRefusal rs t
-tells answers = refl
-tells (turns {n = n} {rs = rs} {t = t} e) = sym (ap (λ (o : Option ℕ). unless n o (firstRefusal rs t)) e)
-tells (passes {n = n} {rs = rs} {t = t} e h) = tells h ∙ sym (ap (λ (o : Option ℕ). unless n o (firstRefusal rs t)) e)
+pub rows-give : {rs : List Row} {t u : Outcome} → RowsGive rs t u → u ≡ firstRefusal rs t
+rows-give answers = refl
+rows-give (refuses {n = n} {rs = rs} {t = t} e) = sym (ap (λ (o : Option ℕ). unless n o (firstRefusal rs t)) e)
+rows-give (passes {n = n} {rs = rs} {t = t} e h) = rows-give h ∙ sym (ap (λ (o : Option ℕ). unless n o (firstRefusal rs t)) e)
 
--- what is left of a table's rows, those before being passed: what the rest tells is what the whole tells
+-- what is left of a table's rows, those before being passed: what the rest gives is what the whole gives
 pub record Left (whole : List Row) (t : Outcome) (rows : List Row) : Type 0 where
-  pub leads : {u : Outcome} → Tells rows t u → u ≡ firstRefusal whole t
+  pub leads : {u : Outcome} → RowsGive rows t u → u ≡ firstRefusal whole t
 
 pub left-all : (whole : List Row) (t : Outcome) → Left whole t whole
-left-all whole t = record { leads = λ h. tells h }
+left-all whole t = record { leads = λ h. rows-give h }
 
 module _ {whole rows : List Row} {t : Outcome} {n : ℕ} {o : Option ℕ} (l : Left whole t (row n o ∷ rows)) where
   pub left-next : none ≡ o → Left whole t rows
   left-next e = record { leads = λ h. l .leads (passes (sym e) h) }
 
   pub left-turn : {v : ℕ} → some v ≡ o → refusal n v ≡ firstRefusal whole t
-  left-turn e = l .leads (turns (sym e))
+  left-turn e = l .leads (refuses (sym e))
 
 pub left-done : {whole : List Row} {t : Outcome} → Left whole t [] → t ≡ firstRefusal whole t
 left-done l = l .leads answers
@@ -56,7 +56,8 @@ pub answered-clear : (rs : List Row) (t : Outcome) → unnumbered rs ≡ 0 → f
 answered-clear [] t n e = tt
 answered-clear (r ∷ rs) t n e = by (eqb (r .number) 0) refl n (r .beside) refl e (answered-clear rs t)
   where
-    by : (z : Bool) → eqb (r .number) 0 ≡ z → tally z (unnumbered rs) ≡ 0 → (o : Option ℕ) → r .beside ≡ o → unless (r .number) o (firstRefusal rs t) .number ≡ 0
+    by : (z : Bool) → eqb (r .number) 0 ≡ z → tally z (unnumbered rs) ≡ 0 → (o : Option ℕ) → r .beside ≡ o
+        → unless (r .number) o (firstRefusal rs t) .number ≡ 0
         → (unnumbered rs ≡ 0 → firstRefusal rs t .number ≡ 0 → Clear rs) → Clear (r ∷ rs)
     by true q n o p e go = absurd (omega arith)
     by false q n none p e go = (p, go n e)
@@ -75,7 +76,8 @@ pub still-refused : (rs qs : List Row) (t u : Outcome) → t .number ≡ 0 → (
 still-refused [] qs t u z n = absurd (n z)
 still-refused (r ∷ rs) qs t u z n = by (r .beside) n (still-refused rs qs t u z)
   where
-    by : (o : Option ℕ) → (unless (r .number) o (firstRefusal rs t) .number ≡ 0 → ⊥) → ((firstRefusal rs t .number ≡ 0 → ⊥) → firstRefusal rs t ≡ firstRefusal (rs ++ qs) u)
+    by : (o : Option ℕ) → (unless (r .number) o (firstRefusal rs t) .number ≡ 0 → ⊥)
+        → ((firstRefusal rs t .number ≡ 0 → ⊥) → firstRefusal rs t ≡ firstRefusal (rs ++ qs) u)
         → unless (r .number) o (firstRefusal rs t) ≡ unless (r .number) o (firstRefusal (rs ++ qs) u)
     by none n go = go n
     by (some v) n go = refl

@@ -1,5 +1,5 @@
 -- Row 6, and what a call with a lent buffer tells and leaves once the rows are gone through. Assumes nothing.
-use Prim.Native.Nat.{ℕ, _≤_, _<_, _^_}
+use Prim.Native.Nat.{ℕ, _-_, _≤_, _<_, _^_}
 use native.Mathlib.Omega.{arith}
 use borrow.Author.Tests.{ne-eqb, lt-ltb, le-ltb, ltb-false}
 use lib.Dec.{ltb}
@@ -11,14 +11,14 @@ use Rattle.answers.specs.declared.Outcome.{Outcome}
 use Rattle.answers.specs.Outcome.{Row, firstRefusal}
 use Rattle.answers.specs.Lent.{capped, tooShort, unlessRefused}
 use Rattle.answers.proofs.First.{not-found}
-use Rattle.answers.proofs.Rows.{Tells, tells}
+use Rattle.answers.proofs.Rows.{RowsGive, rows-give}
 
 -- a count below 2^64 against the room
 module _ (room : ℕ) {needed : ℕ} where
-  pub short-over : room < 18446744073709551616 → 18446744073709551616 ≤ needed → tooShort room needed ≡ some 18446744073709551615
+  pub short-over : room < 2 ^ 64 → 2 ^ 64 ≤ needed → tooShort room needed ≡ some (2 ^ 64 - 1)
   short-over r h = let l : room < needed = omega arith in rw (lt-ltb room needed l, le-ltb needed (2 ^ 64) h)
 
-  pub short-by : room < needed → needed < 18446744073709551616 → tooShort room needed ≡ some needed
+  pub short-by : room < needed → needed < 2 ^ 64 → tooShort room needed ≡ some needed
   short-by l h = rw (lt-ltb room needed l, lt-ltb needed (2 ^ 64) h)
 
   pub long-enough : needed ≤ room → tooShort room needed ≡ none
@@ -32,5 +32,9 @@ pub untouched : {A : Type 0} (t : Outcome) (before after : A) → (t .number ≡
 untouched t before after n = ap (λ b. cond b after before) (ne-eqb (t .number) 0 n)
 
 -- what it tells, and what it leaves in the buffer
-pub settled : {A : Type 0} (rows : List Row) (t : Outcome) (before after : A) {new : A} {u : Outcome} → Tells rows t u → new ≡ unlessRefused u before after → (u ≡ firstRefusal rows t) × (new ≡ unlessRefused (firstRefusal rows t) before after)
-settled rows t before after g l = let e = tells g in (e, l ∙ ap (λ s. unlessRefused s before after) e)
+pub settles : {A : Type 0} (before after : A) {new : A} {t u : Outcome} → u ≡ t → new ≡ unlessRefused u before after → (u ≡ t) × (new ≡ unlessRefused t before after)
+settles before after e l = (e, l ∙ ap (λ s. unlessRefused s before after) e)
+
+pub settled : {A : Type 0} (rows : List Row) (t : Outcome) (before after : A) {new : A} {u : Outcome} → RowsGive rows t u → new ≡ unlessRefused u before after
+    → (u ≡ firstRefusal rows t) × (new ≡ unlessRefused (firstRefusal rows t) before after)
+settled rows t before after g l = settles before after (rows-give g) l

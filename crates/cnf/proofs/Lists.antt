@@ -88,7 +88,10 @@ module _ {ls : List ℤ} {i n : ℕ} (c : ClausesCounted ls i n) where
   turn h t e = rw (← e) (rw add-one (ap (λ r. n + clauseCount r) (sym (drop-cons ls i (pos 0) h)) ∙ c .rest))
 
   pub count-closed : i < length ls → codeOf (getD ls i (pos 0)) ≡ 0 → ClausesCounted ls (i + 1) (n + 1)
-  count-closed h e = let f = c .few in let r = turn h true (code-closes (getD ls i (pos 0)) ∙ eq-eqb _ _ e) in record { within = omega arith; few = omega arith; rest = omega arith }
+  count-closed h e =
+      let f = c .few in
+      let r = turn h true (code-closes (getD ls i (pos 0)) ∙ eq-eqb _ _ e) in
+      record { within = omega arith; few = omega arith; rest = omega arith }
 
   pub count-other : i < length ls → (codeOf (getD ls i (pos 0)) ≡ 0 → ⊥) → ClausesCounted ls (i + 1) n
   count-other h e = let f = c .few in record { within = omega arith; few = omega arith; rest = turn h false (code-closes (getD ls i (pos 0)) ∙ ne-eqb _ _ e) }

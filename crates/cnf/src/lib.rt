@@ -1,7 +1,7 @@
 // Clause lists: the check of V and of a list, the number of clauses, and the few functions that touch an i32.
 ghost use mathlib.Core.Path.{_≡_};
 ghost use mathlib.Core.List.{[], _∷_};
-ghost use Prim.Native.Nat.{_+_, _/_, _%_, _^_, _<_, _≤_};
+ghost use Prim.Native.Nat.{_+_, _-_, _/_, _%_, _^_, _<_, _≤_};
 ghost use lib.ListN.{length, getD};
 ghost use lib.IntN.{pos, negℤ};
 ghost use Rattle.answers.specs.First.{placed, firstWhere};
@@ -61,7 +61,7 @@ pub fn closes_at(list: &[i32], i: usize) -> bool
 
 // Writes a variable, or 0, at a place, if the place is inside; returns the next place.
 pub fn put(out: &mut [i32], at: usize, variable: usize) -> usize
-    requires { ⌜ (variable ≤ mostVariables) × (at < 18446744073709551615) ⌝ }
+    requires { ⌜ (variable ≤ mostVariables) × (at < 2 ^ 64 - 1) ⌝ }
     ensures { λ r. ⌜ Wrote (now (out .entry)) at (pos variable ∷ []) (now (out .exit)) r ⌝ }
 {
     let next = at + 1;
@@ -75,7 +75,7 @@ pub fn put(out: &mut [i32], at: usize, variable: usize) -> usize
 
 // The same for "not" a variable.
 pub fn put_not(out: &mut [i32], at: usize, variable: usize) -> usize
-    requires { ⌜ (variable ≤ mostVariables) × (at < 18446744073709551615) ⌝ }
+    requires { ⌜ (variable ≤ mostVariables) × (at < 2 ^ 64 - 1) ⌝ }
     ensures { λ r. ⌜ Wrote (now (out .entry)) at (negℤ (pos variable) ∷ []) (now (out .exit)) r ⌝ }
 {
     let next = at + 1;

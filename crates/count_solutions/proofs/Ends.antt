@@ -34,8 +34,10 @@ module _ {s : List ℕ} {new : List ℤ} {c : Counts} (w : Encodes s (countsOutc
   pub taken : IsAccepted (length ts) (take (c .elements) new) ts ms 0
   taken = rw (part-long (pos 0), listed w refl) (begun.taken s (read w refl) budget ts ms (part-long (pos 0)) (part-long 0))
 
-  pub ends-counted : {m : SolutionCount} {buf after : List ℕ} {r : ℕ} → m ≡ solutionCountIn (length ts) (take (c .elements) new) budget → Wrote buf 0 (countLine m) after r → Wrote buf 0 (printedCount s) after r
-  ends-counted e p = wrote-recast (ap countLine (e ∙ (λ i. solutionCountIn (part-long (pos 0) i) (listed w refl i) budget)) ∙ printed-text _ (unrefused w refl h)) p
+  pub ends-counted : {m : SolutionCount} {buf after : List ℕ} {r : ℕ} → m ≡ solutionCountIn (length ts) (take (c .elements) new) budget
+      → Wrote buf 0 (countLine m) after r → Wrote buf 0 (printedCount s) after r
+  ends-counted e p =
+      wrote-recast (ap countLine (e ∙ (λ i. solutionCountIn (part-long (pos 0) i) (listed w refl i) budget)) ∙ printed-text _ (unrefused w refl h)) p
 
 pub count-fits : (s : List ℕ) → length (printedCount s) ≤ 4096
 count-fits s = printed-fits s _ 4096 (omega arith) (λ e. by (solutionCountOf (boardOf s) budget))

@@ -65,13 +65,16 @@ module _ (text : List ℕ) (a : ℕ) {t : Token} (h : Header) (k : ℕ) (negativ
       by false = refl
 
   pub element-right : b ≡ behindNumber x → ElementRead text h k (first (element h k negative)) a negative x (m .at + 1)
-  element-right q = let r = number-read text a (element h k negative) d e in record { run = after-right r c (behindNumber x) next followed q; small = r .small; low = omega (arith, r .low) }
+  element-right q =
+      let r = number-read text a (element h k negative) d e in
+      record { run = after-right r c (behindNumber x) next followed q; small = r .small; low = omega (arith, r .low) }
 
   pub element-wrong : (b ≡ behindNumber x → ⊥) → Dead text (first (element h k negative)) a (m .at)
   element-wrong q = after-wrong (number-read text a (element h k negative) d e) c (behindNumber x) next followed q
 
 -- its sign
-element-after : {text : List ℕ} (h : Header) (k : ℕ) {s t : State} {a b : ℕ} → a ≤ b → Run text s a [] t b → (r : Element) → Elemental text h k t b r → Elemental text h k s a r
+element-after : {text : List ℕ} (h : Header) (k : ℕ) {s t : State} {a b : ℕ} → a ≤ b → Run text s a [] t b → (r : Element) → Elemental text h k t b r
+    → Elemental text h k s a r
 element-after h k l p (ElementIs negative x m) q = record { run = run-then p (q .run); small = q .small; low = omega (arith, q .low) }
 element-after h k l p (NoElement at) q = run-dead p q
 
@@ -85,5 +88,6 @@ module _ {text : List ℕ} {a b : ℕ} (l : a < length text) (e : ByteAt text a 
   pub element-none : b ≡ 45 → h .variables ≡ 0 → Dead text (clause h k begun) a a
   element-none q z = dead-step l (minus-step q ∙ rw (eq-eqb (h .variables) 0 z))
 
-  pub element-minus : b ≡ 45 → (h .variables ≡ 0 → ⊥) → (r : Element) → Elemental text h k (first (element h k true)) (a + 1) r → Elemental text h k (clause h k begun) a r
+  pub element-minus : b ≡ 45 → (h .variables ≡ 0 → ⊥) → (r : Element) → Elemental text h k (first (element h k true)) (a + 1) r
+      → Elemental text h k (clause h k begun) a r
   element-minus q z = element-after h k (omega arith) (run-step l (minus-step q ∙ rw (ne-eqb (h .variables) 0 z)))

@@ -47,7 +47,8 @@ module _ {text : List ℕ} {a : ℕ} (h : a < length text) where
   dead-step e = record { place = rw (drop-cons text a 0 h, e) }
 
   -- two states that the byte treats alike
-  pub run-alike : {s t : State} → stepByte s (getD text a 0) ≡ stepByte t (getD text a 0) → ended s (getD text a 0) ≡ ended t (getD text a 0) → Run text s a [] t a
+  pub run-alike : {s t : State} → stepByte s (getD text a 0) ≡ stepByte t (getD text a 0) → ended s (getD text a 0) ≡ ended t (getD text a 0)
+      → Run text s a [] t a
   unfolding refusedFrom listFrom endFrom
   run-alike {s} {t} e f =
       record {

@@ -76,7 +76,8 @@ module _ {text : List ℕ} {a at i : ℕ} (g : Wording text a at i) where
     word-byte : (b : ℕ) → stepByte (afterWord (drop i preamble)) b ≡ when (eqb b (getD preamble i 0)) (afterWord (drop (suc i) preamble))
     word-byte b = rw left
 
-    word-step : at < length text → getD text at 0 ≡ getD preamble i 0 → Run text (afterWord (drop i preamble)) at [] (afterWord (drop (suc i) preamble)) (at + 1)
+    word-step : at < length text → getD text at 0 ≡ getD preamble i 0
+        → Run text (afterWord (drop i preamble)) at [] (afterWord (drop (suc i) preamble)) (at + 1)
     word-step h e =
         let s : stepByte (afterWord (drop i preamble)) (getD text at 0) ≡ some (afterWord (drop (suc i) preamble)) = word-byte (getD text at 0) ∙ when-true (eq-eqb _ _ e) in
         run-recast quiet (run-step h s)
@@ -123,7 +124,8 @@ module _ {text : List ℕ} {bound start a x at : ℕ} (g : Counted text bound st
     digits-ended t n p = record { run = g .run n p; small = omega (arith, p, g .small); low = g .low; inside = h; behind = rw (e .is) at t }
 
     module _ (t : isDigit b ≡ true) where
-      digit-step : (n : Number) → most n ≡ bound → stepByte (digits n x) (getD text at 0) ≡ when (isNext x (getD text at 0 - 48) bound) (digits n (x * 10 + (getD text at 0 - 48)))
+      digit-step : (n : Number) → most n ≡ bound
+          → stepByte (digits n x) (getD text at 0) ≡ when (isNext x (getD text at 0 - 48) bound) (digits n (x * 10 + (getD text at 0 - 48)))
       digit-step n p = rw (rw (e .is) at t, p)
 
       pub digits-more : isNext x (b - 48) bound ≡ true → Counted text bound start a (x * 10 + (b - 48)) (at + 1)
@@ -141,7 +143,8 @@ module _ {text : List ℕ} {bound start a x at : ℕ} (g : Counted text bound st
   digits-short h n p = run-dead (g .run n p) (dead-end h refl)
 
 -- the first digit, then the others
-pub first-more : {text : List ℕ} {n : Number} {a x b : ℕ} → DigitRead text n a x b → (r : Token) → Numbers text n (digits n x) b r → Numbers text n (first n) a r
+pub first-more : {text : List ℕ} {n : Number} {a x b : ℕ} → DigitRead text n a x b → (r : Token) → Numbers text n (digits n x) b r
+    → Numbers text n (first n) a r
 first-more f (NumberIs y m) q =
     record { run = run-then (f .run) (q .run); small = q .small; low = omega (arith, f .low, q .low); inside = q .inside; behind = q .behind }
 first-more f (NoNumber p) q = run-dead (f .run) q
@@ -155,9 +158,11 @@ not-not true = refl
 not-not false = refl
 
 module _ (text : List ℕ) (a : ℕ) {t : Token} where
-  pub number-inside : {bound x : ℕ} {zero : Bool} {k : Cursor} → ((n : Number) → most n ≡ bound → zeroAllowed n ≡ zero → Numbers text n (first n) a t) → t ≡ NumberIs x k → k .at < length text
+  pub number-inside : {bound x : ℕ} {zero : Bool} {k : Cursor} → ((n : Number) → most n ≡ bound → zeroAllowed n ≡ zero → Numbers text n (first n) a t)
+      → t ≡ NumberIs x k → k .at < length text
   unfolding sample
-  number-inside {bound} {zero = zero} d e = subst (Numbers text (sample bound zero) (first (sample bound zero)) a) e (d (sample bound zero) refl (not-not zero)) .inside
+  number-inside {bound} {zero = zero} d e =
+      subst (Numbers text (sample bound zero) (first (sample bound zero)) a) e (d (sample bound zero) refl (not-not zero)) .inside
 
   module _ (n : Number) (d : Numbers text n (first n) a t) where
     pub number-read : {x : ℕ} {k : Cursor} → t ≡ NumberIs x k → NumberRead text n (first n) a x (k .at)

@@ -41,17 +41,21 @@ list-start text v c a before =
     record { done = []; run = run-stay text (clause (headerWith v c) 0 false) a; wrote = wrote-nothing before 0; few = omega arith; most = omega arith }
 
 -- an element that was read, or not
-pub element-read : (text : List ℕ) (h : Header) (k : ℕ) (s : State) (a : ℕ) {e : Element} {negative : Bool} {x : ℕ} {m : Cursor} → Elemental text h k s a e → e ≡ ElementIs negative x m → ElementRead text h k s a negative x (m .at)
+pub element-read : (text : List ℕ) (h : Header) (k : ℕ) (s : State) (a : ℕ) {e : Element} {negative : Bool} {x : ℕ} {m : Cursor}
+    → Elemental text h k s a e → e ≡ ElementIs negative x m → ElementRead text h k s a negative x (m .at)
 element-read text h k s a d e = subst (Elemental text h k s a) e d
 
 module _ {text : List ℕ} {v c a : ℕ} {before after : List ℤ} {at n k : ℕ} {begun : Bool} (g : Listing text v c a before after at n k begun) where
   pub list-over : at < length text → k ≡ c → Dead text (clause (headerWith v c) 0 false) a at
   list-over h e = run-dead (g .run) (dead-step h (rw (eq-eqb k c e)))
 
-  pub list-refused : {e : Element} {p : ℕ} → Elemental text (headerWith v c) k (clause (headerWith v c) k begun) at e → e ≡ NoElement p → Dead text (clause (headerWith v c) 0 false) a p
+  pub list-refused : {e : Element} {p : ℕ} → Elemental text (headerWith v c) k (clause (headerWith v c) k begun) at e → e ≡ NoElement p
+      → Dead text (clause (headerWith v c) 0 false) a p
   list-refused d e = run-dead (g .run) (subst (Elemental text (headerWith v c) k (clause (headerWith v c) k begun) at) e d)
 
-  pub list-more : {negative : Bool} {x b r j : ℕ} {new : List ℤ} → ElementRead text (headerWith v c) k (clause (headerWith v c) k begun) at negative x b → (k ≡ c → ⊥) → Wrote after n (literal negative x ∷ []) new r → j ≡ closedAfter k x → Listing text v c a before new b r j (not (eqb x 0))
+  pub list-more : {negative : Bool} {x b r j : ℕ} {new : List ℤ}
+      → ElementRead text (headerWith v c) k (clause (headerWith v c) k begun) at negative x b → (k ≡ c → ⊥)
+      → Wrote after n (literal negative x ∷ []) new r → j ≡ closedAfter k x → Listing text v c a before new b r j (not (eqb x 0))
   list-more {negative = negative} {x = x} e n w q =
       rw q
       (record {

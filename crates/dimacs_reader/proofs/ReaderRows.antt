@@ -1,5 +1,5 @@
 -- The reader goes through its rows in order, then writes. Assumes nothing.
-use Prim.Native.Nat.{ℕ, _≤_, _<_}
+use Prim.Native.Nat.{ℕ, _≤_, _<_, _^_}
 use native.Mathlib.Omega.{arith}
 use lib.IntN.{ℤ}
 use lib.ListN.{length, drop}
@@ -11,11 +11,11 @@ use Rattle.answers.specs.declared.Outcome.{Outcome}
 use Rattle.answers.specs.Outcome.{answer, refusal}
 use Rattle.answers.specs.Lent.{filled, unlessRefused}
 use Rattle.answers.proofs.Lent.{wrote-recast, wrote-filled}
-use Rattle.answers.proofs.Rows.{Tells, turns, passes, answers}
+use Rattle.answers.proofs.Rows.{Left, left-all, left-next, left-turn, left-done}
 use Rattle.dimacs.specs.Automaton.{next}
 use Rattle.dimacs.specs.Reader.{Header, State, line, clause, noHeader, headerIn, refusedAt, listOf, listFrom, headerOf}
 use Rattle.dimacs.specs.Calls.{readerRows, readerAnswer, readerLeaves}
-use Rattle.answers.proofs.Settled.{short-by, long-enough, settled}
+use Rattle.answers.proofs.Settled.{short-by, long-enough, settles}
 use Rattle.dimacs_cursor.specs.declared.Cursor.{Cursor}
 use Rattle.dimacs_cursor.specs.declared.Head.{Head}
 use Rattle.dimacs_cursor.specs.declared.Head.the-variants.{Is as HeadIs, Refused as NoHead}
@@ -37,11 +37,16 @@ Reads text buf u new = (u ≡ readerAnswer text buf) × (new ≡ readerLeaves te
 abbrev outcome : List ℕ → Outcome
 outcome text = answer (length (listOf text)) (headerOf text .variables) (headerOf text .clauses)
 
-reads : (text : List ℕ) (buf : List ℤ) {u : Outcome} {new : List ℤ} → Tells (readerRows text (length buf)) (outcome text) u → new ≡ unlessRefused u buf (filled buf (listOf text)) → Reads text buf u new
-reads text buf = settled (readerRows text (length buf)) (outcome text) buf (filled buf (listOf text))
+module _ (text : List ℕ) (buf : List ℤ) where
+  reads : {u : Outcome} {new : List ℤ} → u ≡ readerAnswer text buf → new ≡ unlessRefused u buf (filled buf (listOf text)) → Reads text buf u new
+  reads = settles buf (filled buf (listOf text))
+
+  -- no row is passed yet
+  past-none : Left (readerRows text (length buf)) (outcome text) (readerRows text (length buf))
+  past-none = left-all (readerRows text (length buf)) (outcome text)
 
 pub text-refused : {text : List ℕ} {p : ℕ} (buf : List ℤ) → Dead text line 0 p → Reads text buf (refusal 19 p) buf
-text-refused {text} buf d = reads text buf (turns (d .place)) refl
+text-refused {text} buf d = reads text buf (left-turn (past-none text buf) (sym (d .place))) refl
 
 -- what reading the list came to
 module _ (text : List ℕ) (h : Header) (a : ℕ) (before after : List ℤ) {r : Listed} (d : Lists text h a before after r) where
@@ -57,8 +62,8 @@ module _ {text : List ℕ} {v c a : ℕ} (buf : List ℤ) (h : HeadRead text lin
   body-refused d = text-refused buf (run-dead (h .run) d)
 
   module _ {before after : List ℤ} {n : ℕ} (l : ListRead text (headerWith v c) a before after n) where
-    right : refusedAt text ≡ none
-    right = h .run .refused ∙ l .accepted
+    past-text : Left (readerRows text (length buf)) (outcome text) (drop 1 (readerRows text (length buf)))
+    past-text = left-next (past-none text buf) (sym (h .run .refused ∙ l .accepted))
 
     many : n ≡ length (listOf text)
     many = let m : n ≡ length (listFrom (clause (headerWith v c) 0 false) (drop a text)) = omega (arith, l .wrote .place) in m ∙ ap length (sym (h .run .list))
@@ -66,12 +71,12 @@ module _ {text : List ℕ} {v c a : ℕ} (buf : List ℤ) (h : HeadRead text lin
     head : headerWith v c ≡ headerOf text
     head = sym (ap (λ (s : Option State). next s noHeader headerIn) (h .run .ends ∙ l .ends))
 
-    pub body-short : n < 18446744073709551616 → length buf < n → Reads text buf (refusal 6 n) buf
-    body-short s o = reads text buf (passes right (turns (short-by (length buf) (omega (arith, many)) (omega (arith, many)) ∙ ap some (sym many)))) refl
+    pub body-short : n < 2 ^ 64 → length buf < n → Reads text buf (refusal 6 n) buf
+    body-short s o = reads text buf (left-turn past-text (ap some many ∙ sym (short-by (length buf) (omega (arith, many)) (omega (arith, many))))) refl
 
     pub body-read : n ≤ length buf → (new : List ℤ) (q : Listed) → Lists text (headerWith v c) a buf new q → Reads text buf (answer n v c) new
     body-read o new (NoList p) x = absurd (Option·some-ne-none p (sym (x .place) ∙ l .accepted))
     body-read o new (Elements m) x =
         let w = wrote-recast (sym (h .run .list)) (x .wrote) in
-        let s = reads text buf (passes right (passes (long-enough (length buf) (omega (arith, many))) answers)) (wrote-filled w (omega (arith, many))) in
+        let s = reads text buf (left-done (left-next past-text (sym (long-enough (length buf) (omega (arith, many)))))) (wrote-filled w (omega (arith, many))) in
         ((λ i. answer (many i) (head i .variables) (head i .clauses)) ∙ s .0, s .1)

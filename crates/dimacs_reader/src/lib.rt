@@ -1,7 +1,7 @@
 // The reader: the list of a text, token by token.
 ghost use mathlib.Core.Path.{_≡_};
 ghost use mathlib.Core.List.{[], _∷_};
-ghost use Prim.Native.Nat.{_≤_, _<_};
+ghost use Prim.Native.Nat.{_-_, _≤_, _<_, _^_};
 ghost use Rattle.answers.specs.Lent.{Wrote};
 ghost use Rattle.cnf.specs.Literals.{mostVariables};
 ghost use Rattle.dimacs.specs.Reader.{line};
@@ -23,7 +23,7 @@ pub enum Listed {
 
 // The clauses that are closed after an element.
 fn closed_after(k: usize, number: usize) -> usize
-    requires { ⌜ k < 18446744073709551615 ⌝ }
+    requires { ⌜ k < 2 ^ 64 - 1 ⌝ }
     ensures { λ r. ⌜ r ≡ closedAfter k number ⌝ }
 {
     if number == 0 {
@@ -33,7 +33,7 @@ fn closed_after(k: usize, number: usize) -> usize
 }
 
 fn put_literal(out: &mut [i32], at: usize, negative: bool, x: usize) -> usize
-    requires { ⌜ (x ≤ mostVariables) × (at < 18446744073709551615) ⌝ }
+    requires { ⌜ (x ≤ mostVariables) × (at < 2 ^ 64 - 1) ⌝ }
     ensures { λ r. ⌜ Wrote (now (out .entry)) at (literal negative x ∷ []) (now (out .exit)) r ⌝ }
 {
     if negative {

@@ -42,7 +42,8 @@ neither (some i) second e = absurd (Option·some-ne-none i e)
 
 -- a list that passes ..
 module _ (v : ℕ) where
-  closing-on : {begun : Bool} (l : ℤ) (ls : List ℤ) → ((i : ℕ) → i < suc (length ls) → beyondAt v (l ∷ ls) i ≡ false) → unclosed (l ∷ ls) ≡ false → Closing v begun (l ∷ ls)
+  closing-on : {begun : Bool} (l : ℤ) (ls : List ℤ) → ((i : ℕ) → i < suc (length ls) → beyondAt v (l ∷ ls) i ≡ false) → unclosed (l ∷ ls) ≡ false
+      → Closing v begun (l ∷ ls)
   closing-on l [] h e = more {l = l} {ls = []} (ltb-false v (natAbs l) (h 0 (omega arith))) (rw e done)
   closing-on l (m ∷ ls) h e =
       more (ltb-false v (natAbs l) (h 0 (omega arith))) (closing-on m ls (λ i k. h (suc i) (omega arith)) (sym (unclosed-tail l m ls) ∙ e))

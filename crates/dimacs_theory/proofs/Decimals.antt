@@ -46,7 +46,8 @@ module _ (P : ℕ → List ℕ → Type 0) (one : (d : ℕ) → d < 10 → P d (
       by (yes l) go = subst (P x) (sym (decimal-one x l)) (one x l)
       by (no l) go =
           let e : x / 10 * 10 + x % 10 ≡ x = omega arith in
-          subst (λ y. P y (decimal y)) e (rw (decimal-more (x / 10) (x % 10) (omega arith) (omega arith)) (more (x / 10) (x % 10) (omega arith) (omega arith) (go (omega arith))))
+          subst (λ y. P y (decimal y)) e (rw (decimal-more (x / 10) (x % 10) (omega arith) (omega arith))
+          (more (x / 10) (x % 10) (omega arith) (omega arith) (go (omega arith))))
 
   pub digit-by-digit : (x : ℕ) → P x (decimal x)
   digit-by-digit x = up-to (suc x) x (omega arith)

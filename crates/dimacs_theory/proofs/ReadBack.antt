@@ -44,7 +44,8 @@ module _ (b : ℕ) {t : State} where
   word-kept : (ws part : List ℕ) → part ++ ws ≡ preamble → wordStep ws b ≡ some t → Shape t (part ++ (b ∷ [])) []
   word-kept [] part p e = absurd (Option·none-ne-some t e)
   word-kept (w ∷ ws) part p e =
-      taken (λ t. Shape t (part ++ (b ∷ [])) []) (eqb b w) (afterWord ws) e (λ c. on ws (append-assoc part (b ∷ []) ws ∙ ap (λ x. part ++ x ∷ ws) (eqb-true b w c) ∙ p))
+      taken (λ t. Shape t (part ++ (b ∷ [])) []) (eqb b w) (afterWord ws) e
+      (λ c. on ws (append-assoc part (b ∷ []) ws ∙ ap (λ x. part ++ x ∷ ws) (eqb-true b w c) ∙ p))
     where
       on : (ws : List ℕ) → part ++ (b ∷ []) ++ ws ≡ preamble → Shape (afterWord ws) (part ++ (b ∷ [])) []
       on [] q = before (variables (sym (append-nil _) ∙ q))
@@ -67,14 +68,16 @@ module _ (b : ℕ) {t : State} where
       let one = and-both (isDigit b) (zeroAllowed n || not (eqb b 48)) (two .0) in
       let d = digit-of b (one .0) in
       let spelling : b ∷ [] ≡ decimal (b - 48) = ap (λ x. x ∷ []) (d .is) ∙ sym (decimal-one (b - 48) (d .low)) in
-      subst (λ ds. Shape (digits n (b - 48)) (part ++ ds) ls) (sym spelling) (inside p (record { few = leb-true (b - 48) (most n) (two .1); nonzero = nonzero (zeroAllowed n) (one .1) d })))
+      subst (λ ds. Shape (digits n (b - 48)) (part ++ ds) ls) (sym spelling)
+      (inside p (record { few = leb-true (b - 48) (most n) (two .1); nonzero = nonzero (zeroAllowed n) (one .1) d })))
     where
       nonzero : (z : Bool) → z || not (eqb b 48) ≡ true → Digit b → z ≡ false → b - 48 ≡ 0 → ⊥
       nonzero true o d h e = clash refl h
       nonzero false o d h e = let i = d .is in eqb-false b 48 (not-true (eqb b 48) o) (omega arith)
 
   -- a digit more
-  next-kept : {n : Number} (x : ℕ) {part : List ℕ} {ls : List ℤ} → Head n part ls → isDigit b ≡ true → nextDigit n x b ≡ some t → Shape t (part ++ decimal x ++ (b ∷ [])) ls
+  next-kept : {n : Number} (x : ℕ) {part : List ℕ} {ls : List ℤ} → Head n part ls → isDigit b ≡ true → nextDigit n x b ≡ some t
+      → Shape t (part ++ decimal x ++ (b ∷ [])) ls
   next-kept {n} x {part} {ls} p i e =
       taken (λ t. Shape t (part ++ decimal x ++ (b ∷ [])) ls) (not (eqb x 0) && leb (x * 10 + (b - 48)) (most n)) (digits n (x * 10 + (b - 48))) e
       (λ c.
@@ -86,12 +89,15 @@ module _ (b : ℕ) {t : State} where
       (inside p (record { few = leb-true (x * 10 + (b - 48)) (most n) (both .1); nonzero = λ _ y. z (omega arith) })))
 
   -- the byte behind an element
-  behind-kept : {h : Header} (k : ℕ) (closed : Bool) → afterElement h k closed b ≡ some t → (clause h (tally closed k) (not closed) ≡ t) × (b ≡ cond closed lineFeed space)
-  behind-kept {h} k true e = taken (λ t. (clause h (suc k) false ≡ t) × (b ≡ lineFeed)) (eqb b lineFeed) (clause h (suc k) false) e (λ c. (refl, eqb-true b lineFeed c))
+  behind-kept : {h : Header} (k : ℕ) (closed : Bool) → afterElement h k closed b ≡ some t
+      → (clause h (tally closed k) (not closed) ≡ t) × (b ≡ cond closed lineFeed space)
+  behind-kept {h} k true e =
+      taken (λ t. (clause h (suc k) false ≡ t) × (b ≡ lineFeed)) (eqb b lineFeed) (clause h (suc k) false) e (λ c. (refl, eqb-true b lineFeed c))
   behind-kept {h} k false e = taken (λ t. (clause h k true ≡ t) × (b ≡ space)) (eqb b space) (clause h k true) e (λ c. (refl, eqb-true b space c))
 
   -- the byte behind a number
-  after-kept : {n : Number} {x : ℕ} {part : List ℕ} {ls : List ℤ} → Head n part ls → Fits n x → afterNumber n x b ≡ some t → Shape t (part ++ decimal x ++ (b ∷ [])) (ls ++ readElement n x)
+  after-kept : {n : Number} {x : ℕ} {part : List ℕ} {ls : List ℤ} → Head n part ls → Fits n x → afterNumber n x b ≡ some t
+      → Shape t (part ++ decimal x ++ (b ∷ [])) (ls ++ readElement n x)
   unfolding lines
   after-kept {x = x} {part = part} (variables p) f e =
       taken (λ t. Shape t (part ++ decimal x ++ (b ∷ [])) []) (eqb b space) (first (ofClauses x)) e
@@ -117,7 +123,8 @@ module _ (b : ℕ) {t : State} where
       (rw text (list (listed-more l p room (omega arith))))
 
   -- the first byte of an element
-  clause-kept : {h : Header} {k : ℕ} {begun : Bool} {part : List ℕ} {ls : List ℤ} → Listed h k begun part ls → clauseStep h k b ≡ some t → Shape t (part ++ (b ∷ [])) ls
+  clause-kept : {h : Header} {k : ℕ} {begun : Bool} {part : List ℕ} {ls : List ℤ} → Listed h k begun part ls → clauseStep h k b ≡ some t
+      → Shape t (part ++ (b ∷ [])) ls
   clause-kept {h} {k} {begun} {part} {ls} p e = by (eqb k (h .clauses)) refl (eqb b minus) refl e
     where
       room : (begun : Bool) → tally begun k ≤ h .clauses → (k ≡ h .clauses → ⊥) → k < h .clauses
@@ -130,7 +137,8 @@ module _ (b : ℕ) {t : State} where
       by true q dash r e = absurd (Option·none-ne-some t e)
       by false q true r e =
           taken (λ t. Shape t (part ++ (b ∷ [])) ls) (not (eqb (h .variables) 0)) (first (element h k true)) e
-          (λ c. rw (eqb-true b minus r) (before (literal p (room begun (p .room) (eqb-false k (h .clauses) q)) (λ _. eqb-false (h .variables) 0 (not-true (eqb (h .variables) 0) c)))))
+          (λ c. rw (eqb-true b minus r) (before (literal p (room begun (p .room) (eqb-false k (h .clauses) q))
+          (λ _. eqb-false (h .variables) 0 (not-true (eqb (h .variables) 0) c)))))
       by false q false r e =
           rw (append-nil part) at (first-kept (literal p (room begun (p .room) (eqb-false k (h .clauses) q)) (λ d. clash d refl)) e)
 
@@ -153,7 +161,8 @@ module _ {text : List ℕ} (b : ℕ) {t : State} where
         shape = p;
       }
 
-  shape-kept : {s : State} {part : List ℕ} {ls : List ℤ} → Opened text part → Shape s part ls → stepByte s b ≡ some t → Before t (text ++ (b ∷ [])) (ls ++ ended s b)
+  shape-kept : {s : State} {part : List ℕ} {ls : List ℤ} → Opened text part → Shape s part ls → stepByte s b ≡ some t
+      → Before t (text ++ (b ∷ [])) (ls ++ ended s b)
   shape-kept o nothing e = with-byte o (line-kept b e)
   shape-kept o (remark {bs = bs} a) e = by (eqb b lineFeed) refl e
     where
@@ -166,8 +175,12 @@ module _ {text : List ℕ} (b : ℕ) {t : State} where
           }
 
       by : (c : Bool) → eqb b lineFeed ≡ c → cond c (some line) (when (ltb b 256) comment) ≡ some t → Before t (text ++ (b ∷ [])) []
-      by true q e = subst (λ t. Before t (text ++ (b ∷ [])) []) (Option·some-injective line t e) (record { part = []; opened = closed (eqb-true b lineFeed q); shape = nothing })
-      by false q e = with-byte o (taken (λ t. Shape t (99 ∷ bs ++ (b ∷ [])) []) (ltb b 256) comment e (λ c. remark (all-more CommentByte bs a (ltb-true b 256 c, eqb-false b lineFeed q))))
+      by true q e =
+          subst (λ t. Before t (text ++ (b ∷ [])) []) (Option·some-injective line t e)
+          (record { part = []; opened = closed (eqb-true b lineFeed q); shape = nothing })
+      by false q e =
+          with-byte o (taken (λ t. Shape t (99 ∷ bs ++ (b ∷ [])) []) (ltb b 256) comment e
+          (λ c. remark (all-more CommentByte bs a (ltb-true b 256 c, eqb-false b lineFeed q))))
   shape-kept o (letters {w = w} {ws = ws} {part = part} p) e = with-byte o (word-kept b (w ∷ ws) part p e)
   shape-kept o (before {ls = ls} p) e = rw (append-nil ls) (with-byte o (first-kept b p e))
   shape-kept o (inside {n = n} {x = x} {part = part} {ls = ls} p f) e = by (isDigit b) refl e

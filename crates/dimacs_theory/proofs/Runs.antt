@@ -96,7 +96,8 @@ first-run {x = x} f rest r = number-run (λ d h g. (first-step h g, refl)) x f r
 
 -- an element of the list, and the byte behind it
 module _ {h : Header} {k : ℕ} (begun : Bool) (room : k ≡ h .clauses → ⊥) where
-  plain : (d : ℕ) → d < 10 → Fits (element h k false) d → (stepByte (clause h k begun) (digit d) ≡ some (digits (element h k false) d)) × (_≡_ {A = List ℤ} [] [])
+  plain : (d : ℕ) → d < 10 → Fits (element h k false) d
+      → (stepByte (clause h k begun) (digit d) ≡ some (digits (element h k false) d)) × (_≡_ {A = List ℤ} [] [])
   plain d l f = let z : 48 + d ≡ 45 → ⊥ = omega arith in (rw (ne-eqb k (h .clauses) room, ne-eqb (48 + d) minus z) (first-step l f), refl)
 
   element-run : {u : State} {ls : List ℤ} (l : ℤ) → natAbs l ≤ h .variables → (rest : List ℕ)
@@ -137,14 +138,17 @@ header-run v c few counted rest r =
     (word-run (drop 1 preamble) _
     (rw append-assoc
     (first-run {n = ofVariables} (fits refl few) _
-    (on refl refl (rw (append-assoc (decimal c) (lineFeed ∷ []) rest) (first-run {n = ofClauses v} (fits refl (omega arith)) (lineFeed ∷ rest) (on refl refl r)))))))
+    (on refl refl (rw (append-assoc (decimal c) (lineFeed ∷ []) rest)
+    (first-run {n = ofClauses v} (fits refl (omega arith)) (lineFeed ∷ rest) (on refl refl r)))))))
 
 -- comment lines
-comment-run : {u : State} {ls : List ℤ} (bs : List ℕ) → All CommentByte bs → (rest : List ℕ) → Runs line rest u ls → Runs comment (bs ++ (lineFeed ∷ []) ++ rest) u ls
+comment-run : {u : State} {ls : List ℤ} (bs : List ℕ) → All CommentByte bs → (rest : List ℕ) → Runs line rest u ls
+    → Runs comment (bs ++ (lineFeed ∷ []) ++ rest) u ls
 comment-run [] a rest r = on refl refl r
 comment-run (b ∷ bs) a rest r = on (rw (ne-eqb b lineFeed (a .0 .1), lt-ltb b 256 (a .0 .0))) refl (comment-run bs (a .1) rest r)
 
-comments-run : {u : State} {ls : List ℤ} (cs : List (List ℕ)) → All (All CommentByte) cs → (rest : List ℕ) → Runs line rest u ls → Runs line (commentLines cs ++ rest) u ls
+comments-run : {u : State} {ls : List ℤ} (cs : List (List ℕ)) → All (All CommentByte) cs → (rest : List ℕ) → Runs line rest u ls
+    → Runs line (commentLines cs ++ rest) u ls
 comments-run [] a rest r = r
 comments-run (bs ∷ cs) a rest r =
     rw (append-assoc (commentLine bs) (commentLines cs) rest) (on refl refl (comment-run bs (a .0) (commentLines cs ++ rest) (comments-run cs (a .1) rest r)))

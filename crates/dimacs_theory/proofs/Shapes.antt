@@ -72,7 +72,8 @@ unfolding lines
 lines-more [] l = refl
 lines-more (m ∷ ls) l = rw (lines-more ls l) (sym (append-assoc (signed m) (behind m ∷ lines ls) _))
 
-pub listed-more : {h : Header} {k : ℕ} {begun : Bool} {part : List ℕ} {ls : List ℤ} (l : ℤ) → Listed h k begun part ls → k < h .clauses → natAbs l ≤ h .variables
+pub listed-more : {h : Header} {k : ℕ} {begun : Bool} {part : List ℕ} {ls : List ℤ} (l : ℤ) → Listed h k begun part ls → k < h .clauses
+    → natAbs l ≤ h .variables
     → Listed h (tally (closes l) k) (not (closes l)) (part ++ (signed l ++ (behind l ∷ []))) (ls ++ (l ∷ []))
 listed-more {h} {k} {ls = ls} l p room w =
     record {

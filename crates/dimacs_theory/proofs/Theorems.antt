@@ -35,7 +35,8 @@ rewritten text n = let r = exact.accepted-read (exact.narrow-accepted n) in rw (
 
 -- .. and the texts in the narrow form are those that the reader takes and that have no comment line: the first byte is no `c`.
 pub narrow-exactly : (text : List ℕ) → (refusedAt text ≡ none) × (getD text 0 0 ≡ 99 → ⊥) ↔ Narrow text
-narrow-exactly text = (λ h. exact.uncommented-narrow (exact.exactly text .0 (h .0)) (h .1), λ n. (exact.exactly text .1 (exact.narrow-accepted n), exact.narrow-uncommented n))
+narrow-exactly text =
+    (λ h. exact.uncommented-narrow (exact.exactly text .0 (h .0)) (h .1), λ n. (exact.exactly text .1 (exact.narrow-accepted n), exact.narrow-uncommented n))
 
 -- The reader takes exactly the accepted texts: comment lines, then the text of some V and list ..
 pub takes-accepted : (text : List ℕ) → refusedAt text ≡ none ↔ Accepted text
@@ -75,7 +76,8 @@ read-write text out buf n e h =
     let room : length (n .list) ≤ length out = rw (← r .list) (reader-passed text out e .1) in
     let fits : length (textOf (n .variables) (n .list)) ≤ length buf = omega (arith, ap length (n .is)) in
     let outcome = ap (λ (t : Outcome). t .second) (reader-answers text out r room .outcome) in
-    subst₃ (λ v ls t. Writes v ls buf t) (sym outcome) (sym (reader-hands text out r room)) (sym (n .is)) (writer-answers (n .variables) (n .list) buf (n .writable) fits)
+    subst₃ (λ v ls t. Writes v ls buf t) (sym outcome) (sym (reader-hands text out r room)) (sym (n .is))
+    (writer-answers (n .variables) (n .list) buf (n .writable) fits)
 
 -- Document 01's numbers and values tell the answers apart: two answers of the writer that are told the same are the same, and two of the text reader likewise.
 pub outcome-one-to-one : ((v w : Written) → writtenOutcome v ≡ writtenOutcome w → v ≡ w) × ((r s : Reading) → readingOutcome r ≡ readingOutcome s → r ≡ s)

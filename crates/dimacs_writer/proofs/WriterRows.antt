@@ -4,7 +4,7 @@ use native.Mathlib.Omega.{arith}
 use borrow.Author.Tests.{ltb-true, ltb-false}
 use lib.Dec.{ltb}
 use lib.IntN.{ℤ}
-use lib.ListN.{length, length-append}
+use lib.ListN.{length, drop, length-append}
 use mathlib.Core.Path.{_≡_, refl, sym, _∙_, ap}
 use mathlib.Core.Bool.{Bool, true, false, cond}
 use mathlib.Core.Option.{none, some}
@@ -13,7 +13,7 @@ use Rattle.answers.specs.declared.Outcome.{Outcome}
 use Rattle.answers.specs.Outcome.{answer, refusal, cause}
 use Rattle.answers.specs.Lent.{Wrote, filled, unlessRefused}
 use Rattle.answers.proofs.Lent.{wrote-after, wrote-recast, wrote-filled}
-use Rattle.answers.proofs.Rows.{Tells, turns, passes, answers}
+use Rattle.answers.proofs.Rows.{Left, left-all, left-next, left-turn, left-done}
 use Rattle.cnf.specs.Literals.{tooManyVariables, wrongList}
 use Rattle.cnf.specs.Clauses.{clauseCount}
 use Rattle.dimacs_writer.specs.declared.Needed.{Needed}
@@ -22,7 +22,7 @@ use Rattle.text.specs.Decimal.{decimal}
 use Rattle.dimacs.specs.Text.{lines, headerLine, textOf}
 use Rattle.dimacs_writer.specs.Writer.{counted}
 use Rattle.dimacs.specs.Calls.{writerRows, writerAnswer, writerLeaves}
-use Rattle.answers.proofs.Settled.{short-over, short-by, long-enough, settled}
+use Rattle.answers.proofs.Settled.{short-over, short-by, long-enough, settles}
 use Rattle.dimacs_writer.proofs.Lines.{header-length}
 
 -- what a count that fits, and one that does not, say
@@ -44,7 +44,8 @@ text-append : (v : ℕ) (ls : List ℤ) → length (textOf v ls) ≡ length (hea
 text-append v ls = length-append (headerLine v (clauseCount ls)) (lines ls)
 
 -- the bytes of the text, by its parts
-pub text-counted : {a b k : ℕ} {r : Needed} (v : ℕ) (ls : List ℤ) → k ≡ clauseCount ls → a ≡ length (decimal v) → b ≡ length (decimal k) → r ≡ counted (8 + a + b + length (lines ls)) → r ≡ counted (length (textOf v ls))
+pub text-counted : {a b k : ℕ} {r : Needed} (v : ℕ) (ls : List ℤ) → k ≡ clauseCount ls → a ≡ length (decimal v) → b ≡ length (decimal k)
+    → r ≡ counted (8 + a + b + length (lines ls)) → r ≡ counted (length (textOf v ls))
 text-counted {a} {b} v ls e p q r =
     let h = header-length v (clauseCount ls) in
     let d = ap (λ (n : ℕ). length (decimal n)) e in
@@ -56,53 +57,55 @@ text-counted {a} {b} v ls e p q r =
 abbrev Writes : ℕ → List ℤ → List ℕ → Outcome → List ℕ → Type 0
 Writes v ls buf u new = (u ≡ writerAnswer v ls buf) × (new ≡ writerLeaves v ls buf)
 
-writes : (v : ℕ) (ls : List ℤ) (buf : List ℕ) {u : Outcome} {new : List ℕ} → Tells (writerRows v ls (length buf)) (answer (length (textOf v ls)) 0 0) u → new ≡ unlessRefused u buf (filled buf (textOf v ls)) → Writes v ls buf u new
-writes v ls buf = settled (writerRows v ls (length buf)) (answer (length (textOf v ls)) 0 0) buf (filled buf (textOf v ls))
-
-pub record VariablesRight (v : ℕ) : Type 0 where
-  pub right : tooManyVariables v ≡ false
-
-pub record ListRight (v : ℕ) (ls : List ℤ) : Type 0 where
-  pub before : VariablesRight v
-  pub right : wrongList v ls ≡ none
-
--- the text fits its buffer and the count of its bytes a word
-pub record RoomRight (v : ℕ) (ls : List ℤ) (buf : List ℕ) : Type 0 where
-  pub before : ListRight v ls
-  pub right : length (textOf v ls) ≤ length buf
+-- the text fits its buffer, and the count of its bytes a word
+pub record TextFits (v : ℕ) (ls : List ℤ) (buf : List ℕ) : Type 0 where
+  pub room : length (textOf v ls) ≤ length buf
   pub small : length (textOf v ls) < 2 ^ 64
 
-pub too-many : (v : ℕ) (ls : List ℤ) (buf : List ℕ) → tooManyVariables v ≡ true → Writes v ls buf (refusal 17 0) buf
-too-many v ls buf h = writes v ls buf (turns (ap cause h)) refl
+-- so many rows are passed
+abbrev pub Past : ℕ → List ℤ → List ℕ → ℕ → Type 0
+Past v ls buf k = Left (writerRows v ls (length buf)) (answer (length (textOf v ls)) 0 0) (drop k (writerRows v ls (length buf)))
 
-pub list-wrong : {v i : ℕ} (ls : List ℤ) (buf : List ℕ) → VariablesRight v → wrongList v ls ≡ some i → Writes v ls buf (refusal 16 i) buf
-list-wrong {v} ls buf p h = writes v ls buf (passes (ap cause (p .right)) (turns h)) refl
+module _ (v : ℕ) (ls : List ℤ) (buf : List ℕ) where
+  writes : {u : Outcome} {new : List ℕ} → u ≡ writerAnswer v ls buf → new ≡ unlessRefused u buf (filled buf (textOf v ls)) → Writes v ls buf u new
+  writes = settles buf (filled buf (textOf v ls))
 
-module _ {v : ℕ} {ls : List ℤ} (buf : List ℕ) (p : ListRight v ls) {r : Needed} (e : r ≡ counted (length (textOf v ls))) where
-  pub room-over : length buf < 2 ^ 64 → r ≡ TooMany → Writes v ls buf (refusal 6 (2 ^ 64 - 1)) buf
-  room-over h o = writes v ls buf (passes (ap cause (p .before .right)) (passes (p .right) (turns (short-over (length buf) h (counted-over (length (textOf v ls)) (sym e ∙ o)))))) refl
+  past-none : Past v ls buf 0
+  past-none = left-all (writerRows v ls (length buf)) (answer (length (textOf v ls)) 0 0)
 
-  module _ {n : ℕ} (o : r ≡ Bytes n) where
-    needs : (length (textOf v ls) ≡ n) × (length (textOf v ls) < 2 ^ 64)
-    needs = counted-bytes (length (textOf v ls)) (sym e ∙ o)
+  pub too-many : true ≡ tooManyVariables v → Writes v ls buf (refusal 17 0) buf
+  too-many h = writes (left-turn past-none (ap cause h)) refl
 
-    pub room-short : length buf < n → Writes v ls buf (refusal 6 n) buf
-    room-short h = writes v ls buf (passes (ap cause (p .before .right)) (passes (p .right) (turns (short-by (length buf) (omega (arith, needs .0)) (needs .1) ∙ ap some (needs .0))))) refl
+  pub past-variables : false ≡ tooManyVariables v → Past v ls buf 1
+  past-variables h = left-next past-none (ap cause h)
 
-    pub room-right : n ≤ length buf → RoomRight v ls buf
-    room-right h = record { before = p; right = omega (arith, needs .0); small = needs .1 }
+  pub list-wrong : {i : ℕ} → Past v ls buf 1 → some i ≡ wrongList v ls → Writes v ls buf (refusal 16 i) buf
+  list-wrong p h = writes (left-turn p h) refl
 
-module _ {v : ℕ} {ls : List ℤ} {buf : List ℕ} (p : RoomRight v ls buf) {k : ℕ} (e : k ≡ clauseCount ls) where
+  -- the text, counted
+  module _ (p : Past v ls buf 2) {r : Needed} (e : r ≡ counted (length (textOf v ls))) where
+    pub room-over : length buf < 2 ^ 64 → r ≡ TooMany → Writes v ls buf (refusal 6 (2 ^ 64 - 1)) buf
+    room-over h o = writes (left-turn p (sym (short-over (length buf) h (counted-over (length (textOf v ls)) (sym e ∙ o))))) refl
+
+    module _ {n : ℕ} (o : r ≡ Bytes n) where
+      needs : (length (textOf v ls) ≡ n) × (length (textOf v ls) < 2 ^ 64)
+      needs = counted-bytes (length (textOf v ls)) (sym e ∙ o)
+
+      pub room-short : length buf < n → Writes v ls buf (refusal 6 n) buf
+      room-short h = writes (left-turn p (ap some (sym (needs .0)) ∙ sym (short-by (length buf) (omega (arith, needs .0)) (needs .1)))) refl
+
+      pub room-right : n ≤ length buf → TextFits v ls buf
+      room-right h = record { room = omega (arith, needs .0); small = needs .1 }
+
+module _ {v : ℕ} {ls : List ℤ} {buf : List ℕ} (f : TextFits v ls buf) {k : ℕ} (e : k ≡ clauseCount ls) where
   header : headerLine v k ≡ headerLine v (clauseCount ls)
   header = ap (headerLine v) e
 
   pub header-fits : length (headerLine v k) + length (lines ls) < 2 ^ 64
-  header-fits = let s = p .small in omega (arith, text-append v ls, ap length header)
+  header-fits = let s = f .small in omega (arith, text-append v ls, ap length header)
 
-  pub all-written : {b₁ new : List ℕ} {a r : ℕ} → Wrote buf 0 (headerLine v k) b₁ a → Wrote b₁ a (lines ls) new r → Writes v ls buf (answer r 0 0) new
-  all-written {r = r} w x =
+  pub all-written : {b₁ new : List ℕ} {a r : ℕ} → Past v ls buf 2 → Wrote buf 0 (headerLine v k) b₁ a → Wrote b₁ a (lines ls) new r → Writes v ls buf (answer r 0 0) new
+  all-written {r = r} p w x =
       let t = wrote-after (wrote-recast header w) x in
       let n : r ≡ length (textOf v ls) = omega (arith, t .place) in
-      rw n
-      (writes v ls buf (passes (ap cause (p .before .before .right)) (passes (p .before .right) (passes (long-enough (length buf) (p .right)) answers)))
-      (wrote-filled t (p .right)))
+      rw n (writes v ls buf (left-done (left-next p (sym (long-enough (length buf) (f .room))))) (wrote-filled t (f .room)))

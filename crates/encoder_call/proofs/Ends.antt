@@ -10,7 +10,7 @@ use Rattle.answers.specs.Outcome.{refusal, firstRefusal}
 use Rattle.answers.specs.Lent.{Wrote, filled, unlessRefused}
 use Rattle.answers.proofs.Lent.{wrote-filled}
 use Rattle.answers.proofs.OneToOne.{number-not}
-use Rattle.answers.proofs.Rows.{Tells, answers, turns, passes}
+use Rattle.answers.proofs.Rows.{RowsGive, answers, refuses, passes}
 use Rattle.answers.proofs.Settled.{short-by, long-enough, untouched, settled}
 use Rattle.rules.specs.declared.Grid.{Grid}
 use Rattle.rules.specs.declared.Parsed.{Parsed}
@@ -64,11 +64,11 @@ module _ {g : Grid} {s : List ℕ} (w : Encodable g s) where
     elements : c .elements ≡ length list
     elements = ap (λ (c : Counts). c .elements) e
 
-    ends : {u : Outcome} {new : List ℤ} → Tells (roomRows (gridBoard g s) out) (countsOutcome (countsOf (gridBoard g s))) u → new ≡ unlessRefused u out (filled out list) → GridEnds out u new
+    ends : {u : Outcome} {new : List ℤ} → RowsGive (roomRows (gridBoard g s) out) (countsOutcome (countsOf (gridBoard g s))) u → new ≡ unlessRefused u out (filled out list) → GridEnds out u new
     ends = settled (roomRows (gridBoard g s) out) (countsOutcome (countsOf (gridBoard g s))) out (filled out list)
 
     pub ends-short : length out < c .elements → GridEnds out (refusal 6 (c .elements)) out
-    ends-short l = rw elements (ends (turns (short-by (length out) (omega (arith, elements)) few)) refl)
+    ends-short l = rw elements (ends (refuses (short-by (length out) (omega (arith, elements)) few)) refl)
 
     pub ends-listed : {new : List ℤ} {r : ℕ} → c .elements ≤ length out → Wrote out 0 list new r → GridEnds out (countsOutcome c) new
     ends-listed l x = let h : length list ≤ length out = omega (arith, elements) in rw e (ends (passes (long-enough (length out) h) answers) (wrote-filled x h))

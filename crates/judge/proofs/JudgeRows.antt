@@ -24,5 +24,6 @@ module _ (b : Board) (ds : List ℕ) where
 pub no-white : (b : Board) (ds : List ℕ) → none ≡ firstWhere (whiteAt b ds) (b .size) → some 0 ≡ notOneLoop b ds
 no-white b ds e = ap (λ (o : Option ℕ). fromFirst o (λ s. firstWhere (offLoopAt b ds s) (b .size))) e
 
-pub from-white : (b : Board) (ds : List ℕ) {s : ℕ} {o : Option ℕ} → some s ≡ firstWhere (whiteAt b ds) (b .size) → o ≡ firstWhere (offLoopAt b ds s) (b .size) → o ≡ notOneLoop b ds
+pub from-white : (b : Board) (ds : List ℕ) {s : ℕ} {o : Option ℕ} → some s ≡ firstWhere (whiteAt b ds) (b .size)
+    → o ≡ firstWhere (offLoopAt b ds s) (b .size) → o ≡ notOneLoop b ds
 from-white b ds e h = h ∙ ap (λ (o : Option ℕ). fromFirst o (λ s. firstWhere (offLoopAt b ds s) (b .size))) e

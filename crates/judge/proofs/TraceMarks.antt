@@ -29,14 +29,16 @@ pub record Tracing (g : Grid) (ds : List ℕ) (s : ℕ) (seen₀ seen : List ℕ
   pub rest : onesAt (around (go (neighbour g)) (onto (linkAt ds)) s left (record { cell = x; way = d })) seen ≡ onesAt (loopCells (size g) (neighbour g) (linkAt ds) s) seen₀
 
 pub trace-start : {g : Grid} {s n : ℕ} (ds seen : List ℕ) → OnBoard g s → n ≡ size g → Tracing g ds s seen seen s east n
-trace-start {g} {s} ds seen o e = record { on = o; long = refl; rest = ap (λ (n : ℕ). onesAt (around (go (neighbour g)) (onto (linkAt ds)) s n (record { cell = s; way = east })) seen) e }
+trace-start {g} {s} ds seen o e =
+    record { on = o; long = refl; rest = ap (λ (n : ℕ). onesAt (around (go (neighbour g)) (onto (linkAt ds)) s n (record { cell = s; way = east })) seen) e }
 
 module _ {g : Grid} {ds : List ℕ} {s : ℕ} {seen₀ seen : List ℕ} {x : ℕ} {d : Direction} {left : ℕ} (t : Tracing g ds s seen₀ seen x d left) where
   pub trace-end : left ≡ 0 → seen ≡ onesAt (loopCells (size g) (neighbour g) (linkAt ds) s) seen₀
   unfolding around onesAt
   trace-end e = rw e at (t .rest)
 
-  pub trace-on : {y n : ℕ} {c e : Direction} → 0 < left → y ≡ go (neighbour g) d x → c ≡ opposite d → e ≡ other (byteLink (getD ds y 0)) c → n ≡ leftAfter y s left → Tracing g ds s seen₀ (set seen x 1) y e n
+  pub trace-on : {y n : ℕ} {c e : Direction} → 0 < left → y ≡ go (neighbour g) d x → c ≡ opposite d → e ≡ other (byteLink (getD ds y 0)) c
+      → n ≡ leftAfter y s left → Tracing g ds s seen₀ (set seen x 1) y e n
   unfolding around onesAt
   trace-on {y} {n} {c} {e} h p q r f = record { on = gone-on d (t .on) p; long = length-set seen x 1 ∙ t .long; rest = by left refl h }
     where
@@ -46,11 +48,13 @@ module _ {g : Grid} {ds : List ℕ} {s : ℕ} {seen₀ seen : List ℕ} {x : ℕ
       same : _≡_ {A = State} (step (go (neighbour g)) (onto (linkAt ds)) (record { cell = x; way = d })) (record { cell = y; way = e })
       same = λ k. record { cell = sym p k; way = (sym (r ∙ (λ k. other (byteLink (getD ds (p k) 0)) (q k)))) k }
 
-      after : (b : Bool) (l : ℕ) → n ≡ cond b 0 l → onesAt (from n (record { cell = y; way = e })) (set seen x 1) ≡ onesAt (onward b (record { cell = y; way = e }) (λ z. from l z)) (set seen x 1)
+      after : (b : Bool) (l : ℕ) → n ≡ cond b 0 l
+          → onesAt (from n (record { cell = y; way = e })) (set seen x 1) ≡ onesAt (onward b (record { cell = y; way = e }) (λ z. from l z)) (set seen x 1)
       after true l z = rw z
       after false l z = rw z
 
-      by : (l : ℕ) → left ≡ l → 0 < l → onesAt (from n (record { cell = y; way = e })) (set seen x 1) ≡ onesAt (loopCells (size g) (neighbour g) (linkAt ds) s) seen₀
+      by : (l : ℕ) → left ≡ l → 0 < l
+          → onesAt (from n (record { cell = y; way = e })) (set seen x 1) ≡ onesAt (loopCells (size g) (neighbour g) (linkAt ds) s) seen₀
       by zero w h = absurd (omega arith)
       by (suc l) w h =
           after (eqb y s) l (let z : left - 1 ≡ l = omega arith in rw z at f)
@@ -77,7 +81,8 @@ ones-at (y ∷ l) ms x h = ones-at l (set ms y 1) x (rw (length-set ms y 1) h) �
     by false e false = getD-set-other ms y x 1 0 (λ q. eqb-false x y e q)
 
 -- marked on a clean array, the white cells without a mark are those off the loop
-pub unseen-off : (b : Board) (ds : List ℕ) (s : ℕ) → b .size ≤ mostCells → {seen : List ℕ} → seen ≡ onesAt (loopCells (b .size) (b .next) (linkAt ds) s) (replicate mostCells 0)
+pub unseen-off : (b : Board) (ds : List ℕ) (s : ℕ) → b .size ≤ mostCells → {seen : List ℕ}
+    → seen ≡ onesAt (loopCells (b .size) (b .next) (linkAt ds) s) (replicate mostCells 0)
     → firstWhere (unseenAt b ds seen) (b .size) ≡ firstWhere (offLoopAt b ds s) (b .size)
 unseen-off b ds s few {seen} e = first-same (unseenAt b ds seen) (offLoopAt b ds s) (b .size) same
   where
@@ -92,7 +97,8 @@ unseen-off b ds s few {seen} e = first-same (unseenAt b ds seen) (offLoopAt b ds
     mark x h =
         let l : x < mostCells = omega arith in
         ap (λ (m : List ℕ). eqb (getD m x 0) 0) e
-        ∙ ap (λ (v : ℕ). eqb v 0) (ones-at cells (replicate mostCells 0) x (rw (length-replicate {A = ℕ} mostCells 0) l) ∙ ap (λ (v : ℕ). cond (among x cells) 1 v) (getD-replicate mostCells x 0 0 l))
+        ∙ ap (λ (v : ℕ). eqb v 0) (ones-at cells (replicate mostCells 0) x (rw (length-replicate {A = ℕ} mostCells 0) l) ∙ ap
+        (λ (v : ℕ). cond (among x cells) 1 v) (getD-replicate mostCells x 0 0 l))
         ∙ flip (among x cells)
 
     same : (x : ℕ) → x < b .size → unseenAt b ds seen x ≡ offLoopAt b ds s x

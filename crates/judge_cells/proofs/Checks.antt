@@ -57,10 +57,12 @@ on-drawn d h = record { sides = d .recordFits .sides; inside = h }
 
 -- the first unmet clue of the board is the first cell that is one
 module _ (p : Puzzle) (ds : List ℕ) where
-  unmet-from : (cs : List Cell) (a : ℕ) → ((k : ℕ) → k < length cs → getD (p .cells) (a + k) Open ≡ getD cs k Open) → firstFrom (unmetAt p ds) a (length cs) ≡ unmetClue (blackAt ds) (cluesFrom p a cs)
+  unmet-from : (cs : List Cell) (a : ℕ) → ((k : ℕ) → k < length cs → getD (p .cells) (a + k) Open ≡ getD cs k Open)
+      → firstFrom (unmetAt p ds) a (length cs) ≡ unmetClue (blackAt ds) (cluesFrom p a cs)
   unfolding firstFrom
   unmet-from [] a at = refl
-  unmet-from (c ∷ cs) a at = ap (λ (t : Bool). found t a (firstFrom (unmetAt p ds) (suc a) (length cs))) (ap (unmetCell p (blackAt ds) a) here) ∙ by c (unmet-from cs (suc a) later)
+  unmet-from (c ∷ cs) a at =
+      ap (λ (t : Bool). found t a (firstFrom (unmetAt p ds) (suc a) (length cs))) (ap (unmetCell p (blackAt ds) a) here) ∙ by c (unmet-from cs (suc a) later)
     where
       here : getD (p .cells) a Open ≡ c
       here = let e : a + 0 ≡ a = omega arith in rw e at (at 0 (omega arith))
@@ -73,7 +75,8 @@ module _ (p : Puzzle) (ds : List ℕ) where
       turned false rest = refl
 
       by : (c : Cell) → firstFrom (unmetAt p ds) (suc a) (length cs) ≡ unmetClue (blackAt ds) (cluesFrom p (suc a) cs)
-          → found (unmetCell p (blackAt ds) a c) a (firstFrom (unmetAt p ds) (suc a) (length cs)) ≡ unmetClue (blackAt ds) (clueOf p a c ++ cluesFrom p (suc a) cs)
+          → found (unmetCell p (blackAt ds) a c) a (firstFrom (unmetAt p ds) (suc a) (length cs)) ≡ unmetClue (blackAt ds)
+          (clueOf p a c ++ cluesFrom p (suc a) cs)
       by Open ih = ih
       by (Clued d n) ih = turned (eqb (howMany (blackAt ds) (line p d a)) n) _ ∙ ap (foundClue (eqb (howMany (blackAt ds) (line p d a)) n) a) ih
 
@@ -89,7 +92,8 @@ module _ (p : Puzzle) (ds : List ℕ) where
   first-of f NotTwoLinks = refl
   first-of f White = refl
 
-pub sought : {g : Grid} {s ds : List ℕ} {o : Option ℕ} (t : Test) → DrawingFits g s ds → o ≡ firstWhere (testAt t (puzzle g s) ds) (size g) → o ≡ firstOf t (gridBoard g s) ds
+pub sought : {g : Grid} {s ds : List ℕ} {o : Option ℕ} (t : Test) → DrawingFits g s ds → o ≡ firstWhere (testAt t (puzzle g s) ds) (size g)
+    → o ≡ firstOf t (gridBoard g s) ds
 sought {g = g} {s = s} {ds = ds} t d e = e ∙ first-of (puzzle g s) ds (held-filled (d .recordFits)) t
 
 pub weight-positive : (d : Direction) → 0 < weight d

@@ -38,7 +38,8 @@ module _ {p : Puzzle} {d : Direction} {x : ℕ} {test : ℕ → Bool} {y count j
     pub count-inside : y < size (p .grid)
     count-inside = rw (c .here) (line-inside p d x h)
 
-    pub count-on : {b z : ℕ} {back : Direction} → b ≡ bit (test y) → back ≡ opposite d → z ≡ go (neighbour (p .grid)) back y → CountedTo p d x test z (count + b) (j + 1)
+    pub count-on : {b z : ℕ} {back : Direction} → b ≡ bit (test y) → back ≡ opposite d → z ≡ go (neighbour (p .grid)) back y
+        → CountedTo p d x test z (count + b) (j + 1)
     count-on e o q = rw (add-one j) (record {
       here = line-go p d x h (c .here) o q;
       counted = rw (e, tally-bit, c .here, c .counted) (sym (many-next test (line p d x) x j h));

@@ -1,5 +1,5 @@
 -- How the program goes on after the encoder's call. Assumes nothing.
-use Prim.Native.Nat.{ℕ, _+_, _≤_, _<_}
+use Prim.Native.Nat.{ℕ, _+_, _≤_, _<_, _^_}
 use native.Mathlib.Omega.{arith}
 use lib.IntN.{ℤ}
 use lib.ListN.{length, take, length-append}
@@ -26,11 +26,19 @@ module _ {s : List ℕ} {new : List ℤ} {c : Counts} (w : Encodes s (countsOutc
   put = headerLine (c .variables) (c .clauses) ++ lines (take (c .elements) new)
 
   is-text : put ≡ textOf (variableCount (boardOf s)) (clauseList (boardOf s))
-  is-text = λ i. headerLine (variables w refl i) ((ap (λ (t : Outcome). t .third) (counted w refl) ∙ sym (count-clauses (boardOf s))) i) ++ lines (listed w refl i)
+  is-text =
+      λ i. headerLine (variables w refl i) ((ap (λ (t : Outcome). t .third) (counted w refl) ∙ sym (count-clauses (boardOf s))) i) ++ lines (listed w refl i)
 
   module _ (h : c .variables ≤ mostHeld) where
-    pub listed-fits : length (headerLine (c .variables) (c .clauses)) + length (lines (take (c .elements) new)) < 18446744073709551616
-    listed-fits = omega (arith, text-fits s (unrefused w refl h), ap length is-text, length-append (headerLine (c .variables) (c .clauses)) (lines (take (c .elements) new)))
+    pub listed-fits : length (headerLine (c .variables) (c .clauses)) + length (lines (take (c .elements) new)) < 2 ^ 64
+    listed-fits =
+        omega (
+          arith,
+          text-fits s (unrefused w refl h),
+          ap length is-text,
+          length-append (headerLine (c .variables) (c .clauses))
+              (lines (take (c .elements) new)),
+        )
 
     pub ends-listed : {buf after : List ℕ} {r : ℕ} → Wrote buf 0 put after r → Wrote buf 0 (printedClauses s) after r
     ends-listed p = wrote-recast (is-text ∙ printed-text _ (unrefused w refl h)) p

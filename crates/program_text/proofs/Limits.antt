@@ -32,11 +32,13 @@ use Rattle.program_text.specs.Lines.{refusedLine}
 use Rattle.program_text.specs.Programs.{mostElements, mostHeld, needsMore, programRows, programNumber, printed}
 
 -- calls with the same first rows tell the same number, if they do wherever these are passed
-same-rows : (rs qs ps : List Row) (t u : Outcome) → (Clear rs → firstRefusal qs t .number ≡ firstRefusal ps u .number) → firstRefusal (rs ++ qs) t .number ≡ firstRefusal (rs ++ ps) u .number
+same-rows : (rs qs ps : List Row) (t u : Outcome) → (Clear rs → firstRefusal qs t .number ≡ firstRefusal ps u .number)
+    → firstRefusal (rs ++ qs) t .number ≡ firstRefusal (rs ++ ps) u .number
 same-rows [] qs ps t u h = h tt
 same-rows (r ∷ rs) qs ps t u h = by (r .beside) refl (same-rows rs qs ps t u)
   where
-    by : (o : Option ℕ) → r .beside ≡ o → ((Clear rs → firstRefusal qs t .number ≡ firstRefusal ps u .number) → firstRefusal (rs ++ qs) t .number ≡ firstRefusal (rs ++ ps) u .number)
+    by : (o : Option ℕ) → r .beside ≡ o
+        → ((Clear rs → firstRefusal qs t .number ≡ firstRefusal ps u .number) → firstRefusal (rs ++ qs) t .number ≡ firstRefusal (rs ++ ps) u .number)
         → unless (r .number) o (firstRefusal (rs ++ qs) t) .number ≡ unless (r .number) o (firstRefusal (rs ++ ps) u) .number
     by none e go = go (λ c. h (e, c))
     by (some v) e go = refl
@@ -67,7 +69,8 @@ module _ (s : List ℕ) where
       (clear-accepted c, ltb-false mostElements (length (clauseList (boardOf s))) (n .0), ltb-false mostHeld (variableCount (boardOf s)) (n .1))
 
   -- the same refusal as that of another call
-  pub same-number : (qs : List Row) (t : Outcome) → (Clear (recordRows s) → firstRefusal qs t .number ≡ limited (needsMore (boardOf s))) → firstRefusal (recordRows s ++ qs) t .number ≡ programNumber s
+  pub same-number : (qs : List Row) (t : Outcome) → (Clear (recordRows s) → firstRefusal qs t .number ≡ limited (needsMore (boardOf s)))
+      → firstRefusal (recordRows s ++ qs) t .number ≡ programNumber s
   same-number qs t h = same-rows (recordRows s) qs (row 6 (cause (needsMore (boardOf s))) ∷ []) t (answer 0 0 0) h
 
 -- what is printed
@@ -78,7 +81,8 @@ pub printed-text : {m : ℕ} (text : List ℕ) → m ≡ 0 → text ≡ printed 
 printed-text {m} text e = sym (ap (λ b. cond b text (refusedLine m)) (eq-eqb m 0 e))
 
 -- a record that is turned down
-pub read-refused : (s text : List ℕ) {p : Parsed} {r : RecordRefusal} {t : Outcome} → p ≡ Refused r → parsedOutcome p ≡ recordAnswer s → t ≡ recordRefusalOutcome r → refusedLine (t .number) ≡ printed (programNumber s) text
+pub read-refused : (s text : List ℕ) {p : Parsed} {r : RecordRefusal} {t : Outcome} → p ≡ Refused r → parsedOutcome p ≡ recordAnswer s
+    → t ≡ recordRefusalOutcome r → refusedLine (t .number) ≡ printed (programNumber s) text
 read-refused s text {r = r} q e h =
     let n = ap (λ (t : Outcome). t .number) (passes-up s (row 6 (cause (needsMore (boardOf s))) ∷ []) (answer 0 0 0) q e) in
     printed-refused text (ap (λ (t : Outcome). t .number) h ∙ n) (λ z. refusal-number r (n ∙ z))

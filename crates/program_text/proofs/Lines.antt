@@ -28,7 +28,9 @@ module _ (columns : ℕ) (ds : List ℕ) (x : ℕ) (h : x < length ds) where
       ap (λ (n : ℕ). hexEntry (getD ds x 0) (behindCell columns x) ++ cellsFrom columns ds n) (add-one x) ∙
       sym (ap (drawingFrom columns x) (drop-cons ds x 0 h))
 
-  pub cell-more : {whole before after new : List ℕ} {at next r end : ℕ} → Putting whole before at after next (cellsFrom columns ds x) → end ≡ behindCell columns x → Wrote after next (hexEntry (getD ds x 0) end) new r → Putting whole before at new r (cellsFrom columns ds (x + 1))
+  pub cell-more : {whole before after new : List ℕ} {at next r end : ℕ} → Putting whole before at after next (cellsFrom columns ds x)
+      → end ≡ behindCell columns x → Wrote after next (hexEntry (getD ds x 0) end) new r
+      → Putting whole before at new r (cellsFrom columns ds (x + 1))
   cell-more p e w = put-more p cells-from (wrote-recast (ap (hexEntry (getD ds x 0)) e) w)
 
 -- three bytes a cell

@@ -188,14 +188,21 @@ module _ (g : Grid) where
   ahead west x y h = omega arith
 
   goes-back : (d : Direction) (x y : ℕ) → Has d x y → Has (opposite d) y x
-  goes-back d x y h = rw (← h .is) (record { within = target-stays d x (h .within) (h .there); there = back-inside d x (h .within) (h .there); is = back-target d x (h .there) })
+  goes-back d x y h =
+      rw (← h .is) (record {
+        within = target-stays d x (h .within) (h .there);
+        there = back-inside d x (h .within) (h .there);
+        is = back-target d x
+            (h .there);
+      })
 
   line-stays : (d : Direction) (fuel x : ℕ) (seen : List ℕ) → x < size g → All (λ y. y < size g) seen → All (λ y. y < size g) (outward g d fuel x seen)
   unfolding outward
   line-stays d zero x seen h k = k
   line-stays d (suc fuel) x seen h k = by (neighbour g d x) refl (λ y l. line-stays d fuel y (y ∷ seen) l (l, k))
     where
-      by : (o : Option ℕ) → neighbour g d x ≡ o → ((y : ℕ) → y < size g → All (λ y. y < size g) (outward g d fuel y (y ∷ seen))) → All (λ y. y < size g) (beyond o seen (λ y. outward g d fuel y (y ∷ seen)))
+      by : (o : Option ℕ) → neighbour g d x ≡ o → ((y : ℕ) → y < size g → All (λ y. y < size g) (outward g d fuel y (y ∷ seen)))
+          → All (λ y. y < size g) (beyond o seen (λ y. outward g d fuel y (y ∷ seen)))
       by none e go = k
       by (some y) e go = go y (goes-back d x y (has d x y e) .within)
 
@@ -223,7 +230,8 @@ module _ (g : Grid) where
   not-far south x h = omega arith
   not-far west x h = omega arith
 
-  outward-ends : (d : Direction) (fuel x : ℕ) (seen : List ℕ) (from : ℕ) → getD seen 0 from ≡ x → far d x ≤ fuel → neighbour g d (getD (outward g d fuel x seen) 0 from) ≡ none
+  outward-ends : (d : Direction) (fuel x : ℕ) (seen : List ℕ) (from : ℕ) → getD seen 0 from ≡ x → far d x ≤ fuel
+      → neighbour g d (getD (outward g d fuel x seen) 0 from) ≡ none
   unfolding outward
   outward-ends d zero x seen from e h = rw e (by (neighbour g d x) refl)
     where
@@ -232,7 +240,8 @@ module _ (g : Grid) where
       by (some y) q = let n : far d y < far d x = nearer d x y (has d x y q) in absurd (omega arith)
   outward-ends d (suc fuel) x seen from e h = by (neighbour g d x) refl (λ y. outward-ends d fuel y (y ∷ seen) from refl)
     where
-      by : (o : Option ℕ) → neighbour g d x ≡ o → ((y : ℕ) → far d y ≤ fuel → neighbour g d (getD (outward g d fuel y (y ∷ seen)) 0 from) ≡ none) → neighbour g d (getD (beyond o seen (λ y. outward g d fuel y (y ∷ seen))) 0 from) ≡ none
+      by : (o : Option ℕ) → neighbour g d x ≡ o → ((y : ℕ) → far d y ≤ fuel → neighbour g d (getD (outward g d fuel y (y ∷ seen)) 0 from) ≡ none)
+          → neighbour g d (getD (beyond o seen (λ y. outward g d fuel y (y ∷ seen))) 0 from) ≡ none
       by none q go = rw e q
       by (some y) q go = let n : far d y < far d x = nearer d x y (has d x y q) in go y (omega arith)
 
@@ -251,7 +260,8 @@ module _ (p : Puzzle) where
   clue-after (Open ∷ cs) x c m = let h : suc x ≤ c .cell = clue-after cs (suc x) c m in omega arith
   clue-after (Clued d n ∷ cs) x c m = by (List·Memᴰ·cases-cons m) (clue-after cs (suc x) c)
     where
-      by : (c ≡ record { cell = x; number = n; line = line p d x }) ⊎ (c ∈ cluesFrom p (suc x) cs) → (c ∈ cluesFrom p (suc x) cs → suc x ≤ c .cell) → x ≤ c .cell
+      by : (c ≡ record { cell = x; number = n; line = line p d x }) ⊎ (c ∈ cluesFrom p (suc x) cs) → (c ∈ cluesFrom p (suc x) cs → suc x ≤ c .cell)
+          → x ≤ c .cell
       by (inl e) go = let h : c .cell ≡ x = ap (λ (k : Clue). k .cell) e in omega arith
       by (inr k) go = let h : suc x ≤ c .cell = go k in omega arith
 
@@ -266,10 +276,13 @@ module _ (p : Puzzle) where
   pub line-ends : (d : Direction) (x : ℕ) → x < size (p .grid) → neighbour (p .grid) d (getD (line p d x) 0 x) ≡ none
   line-ends d x h = outward-ends (p .grid) d (size (p .grid)) x [] x refl (not-far (p .grid) d x h)
 
-  clue-stays : (cs : List Cell) (x : ℕ) → x + length cs ≤ size (p .grid) → All (λ (c : Clue). (c .cell < size (p .grid)) × All (λ y. y < size (p .grid)) (c .line)) (cluesFrom p x cs)
+  clue-stays : (cs : List Cell) (x : ℕ) → x + length cs ≤ size (p .grid)
+      → All (λ (c : Clue). (c .cell < size (p .grid)) × All (λ y. y < size (p .grid)) (c .line)) (cluesFrom p x cs)
   clue-stays [] x h = tt
   clue-stays (Open ∷ cs) x h = clue-stays cs (suc x) (omega arith)
-  clue-stays (Clued d n ∷ cs) x h = let l : x < size (p .grid) = omega arith in ((l, line-stays (p .grid) d (size (p .grid)) x [] l tt), clue-stays cs (suc x) (omega arith))
+  clue-stays (Clued d n ∷ cs) x h =
+      let l : x < size (p .grid) = omega arith in
+      ((l, line-stays (p .grid) d (size (p .grid)) x [] l tt), clue-stays cs (suc x) (omega arith))
 
   pub laws : Filled p → Laws (board p)
   laws w = record {

@@ -25,7 +25,8 @@ module _ (g : Grid) (d : Direction) (x : ℕ) where
   chain-outward zero y seen e k = k
   chain-outward (suc fuel) y seen e k = by (neighbour g d y) refl (λ z q. chain-outward fuel z (z ∷ seen) refl (ap (neighbour g d) (sym e) ∙ q, k))
     where
-      by : (o : Option ℕ) → neighbour g d y ≡ o → ((z : ℕ) → neighbour g d y ≡ some z → Chain (outward g d fuel z (z ∷ seen))) → Chain (beyond o seen (λ z. outward g d fuel z (z ∷ seen)))
+      by : (o : Option ℕ) → neighbour g d y ≡ o → ((z : ℕ) → neighbour g d y ≡ some z → Chain (outward g d fuel z (z ∷ seen)))
+          → Chain (beyond o seen (λ z. outward g d fuel z (z ∷ seen)))
       by none q more = k
       by (some z) q more = more z q
 
@@ -47,5 +48,6 @@ module _ (p : Puzzle) (d : Direction) (x : ℕ) where
     line-inside = wired (p .grid) .inside d (getD (line p d x) (suc j) x) (getD (line p d x) j x) outward-next .1
 
     -- a loop goes on there by the neighbour in the opposite direction
-    pub line-go : {y z : ℕ} {back : Direction} → y ≡ getD (line p d x) j x → back ≡ opposite d → z ≡ go (neighbour (p .grid)) back y → z ≡ getD (line p d x) (suc j) x
+    pub line-go : {y z : ℕ} {back : Direction} → y ≡ getD (line p d x) j x → back ≡ opposite d → z ≡ go (neighbour (p .grid)) back y
+        → z ≡ getD (line p d x) (suc j) x
     line-go e o q = q ∙ (λ t. go (neighbour (p .grid)) (o t) (e t)) ∙ ap (λ n. Option·getD n (getD (line p d x) j x)) line-next

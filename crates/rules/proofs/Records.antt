@@ -109,7 +109,8 @@ pub refusal-number : (r : RecordRefusal) → recordRefusalOutcome r .number ≡ 
 refusal-number r = number-not record-numbers r (omega arith)
 
 -- a refusal is passed up unchanged, whatever rows come after the reader's
-pub passes-up : (s : List ℕ) (qs : List Row) (t : Outcome) {p : Parsed} {r : RecordRefusal} → p ≡ Refused r → parsedOutcome p ≡ recordAnswer s → recordRefusalOutcome r ≡ firstRefusal (recordRows s ++ qs) t
+pub passes-up : (s : List ℕ) (qs : List Row) (t : Outcome) {p : Parsed} {r : RecordRefusal} → p ≡ Refused r → parsedOutcome p ≡ recordAnswer s
+    → recordRefusalOutcome r ≡ firstRefusal (recordRows s ++ qs) t
 passes-up s qs t {p} {r} q e =
     let outcome : recordRefusalOutcome r ≡ recordAnswer s = sym (ap parsedOutcome q) ∙ e in
     outcome ∙ still-refused (recordRows s) qs _ t refl (λ z. refusal-number r (ap (λ (u : Outcome). u .number) outcome ∙ z))
@@ -132,4 +133,5 @@ module _ (s : List ℕ) {p : Parsed} {g : Grid} (q : p ≡ Accepted g) (e : pars
   -- the call is left to the rows after the reader's, over the grid that was read
   pub goes-on : (rows : Grid → List Row) (t : Outcome) → firstRefusal (rows g) t ≡ firstRefusal (recordRows s ++ rows (sides s)) t
   goes-on rows t =
-      ap (λ (g : Grid). firstRefusal (rows g) t) read-sides ∙ sym (refusals-append (recordRows s) (rows (sides s)) t ∙ clear-answered (recordRows s) _ (accepted-clear s is-accepted))
+      ap (λ (g : Grid). firstRefusal (rows g) t) read-sides ∙ sym
+      (refusals-append (recordRows s) (rows (sides s)) t ∙ clear-answered (recordRows s) _ (accepted-clear s is-accepted))

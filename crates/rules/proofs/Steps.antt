@@ -22,7 +22,8 @@ module _ {g : Grid} {x : ℕ} (o : OnBoard g x) where
   -- a test that holds leads to the neighbour, one that fails leads nowhere
   pub leads-to : {d : Direction} (e : Direction) → d ≡ e → inside g e x ≡ true → some (target g e x) ≡ neighbour g d x
   leads-to {d} e q h =
-      sym (when-true (ltb x (size g) && inside g d x) (target g d x) _ (both-and _ _ (lt-ltb _ _ (o .inside)) (ap (λ (d : Direction). inside g d x) q ∙ h)) (ap (λ (d : Direction). target g d x) q))
+      sym (when-true (ltb x (size g) && inside g d x) (target g d x) _
+      (both-and _ _ (lt-ltb _ _ (o .inside)) (ap (λ (d : Direction). inside g d x) q ∙ h)) (ap (λ (d : Direction). target g d x) q))
 
   pub leads-nowhere : {d : Direction} (e : Direction) → d ≡ e → inside g e x ≡ false → none ≡ neighbour g d x
   leads-nowhere {d} e q h =

@@ -36,7 +36,8 @@ module _ {size : ℕ} {go : Direction → ℕ → ℕ} {other : ℕ → Directio
   around-from (suc n) zero a h e = let q : m ≡ suc a = omega arith in
       ap (λ (b : Bool). at a .cell ∷ onward b (at (suc a)) (λ v. around go other (u .cell) n v)) (eq-eqb _ _ (rw q at home))
   around-from (suc n) (suc j) a h e =
-      ap (λ (b : Bool). at a .cell ∷ onward b (at (suc a)) (λ v. around go other (u .cell) n v)) (ne-eqb _ _ (λ q. W .fresh 0 (suc a) (omega arith) (omega arith) (sym q)))
+      ap (λ (b : Bool). at a .cell ∷ onward b (at (suc a)) (λ v. around go other (u .cell) n v))
+      (ne-eqb _ _ (λ q. W .fresh 0 (suc a) (omega arith) (omega arith) (sym q)))
       ∙ ap (λ (l : List ℕ). at a .cell ∷ l) (around-from n j (suc a) (omega arith) (omega arith))
 
   pub around-is : around go other (u .cell) size u ≡ listing (λ k. walk go other u k .cell) 0 m

@@ -41,7 +41,13 @@ open-small v h = by (decLe 0x11 v)
     q = or-neither (ltb 0x20 v) (leb 0x11 v && leb v 0x1F) (p .0)
 
     by : Dec (0x11 ≤ v) → v ≤ 16
-    by (yes l) = absurd (eqb-false v 0x20 (p .1) (omega (arith, ltb-false 0x20 v (q .0), leb-false v 0x1F (other-half (leb 0x11 v) (leb v 0x1F) (q .1) (le-leb 0x11 v l)))))
+    by (yes l) =
+        absurd (eqb-false v 0x20 (p .1) (omega (
+          arith,
+          ltb-false 0x20 v (q .0),
+          leb-false v 0x1F
+              (other-half (leb 0x11 v) (leb v 0x1F) (q .1) (le-leb 0x11 v l)),
+        )))
     by (no l) = omega arith
 
 small-open : (v : ℕ) → v < 17 → badByte true v ≡ false

@@ -92,7 +92,9 @@ module _ (a b c : Direction) where
 -- a cell with exactly two links, one of them d: `other` is the second one
 module _ (p : Direction → Bool) (two : degree p ≡ 2) (d : Direction) (h : p d ≡ true) where
   degree-at : degree p ≡ bit (p d) + (bit (p (next1 d)) + bit (p (next2 d)) + bit (p (next3 d)))
-  degree-at = all-four (λ d. degree p ≡ bit (p d) + (bit (p (next1 d)) + bit (p (next2 d)) + bit (p (next3 d)))) (omega arith) (omega arith) (omega arith) (omega arith) d
+  degree-at =
+      all-four (λ d. degree p ≡ bit (p d) + (bit (p (next1 d)) + bit (p (next2 d)) + bit (p (next3 d)))) (omega arith) (omega arith) (omega arith)
+      (omega arith) d
 
   one-more : bit (p (next1 d)) + bit (p (next2 d)) + bit (p (next3 d)) ≡ 1
   one-more = let one : bit (p d) ≡ 1 = ap bit h in omega (arith, degree-at)

@@ -39,7 +39,8 @@ clues-met : (black : ℕ → Bool) (cs : List Clue) → unmetClue black cs ≡ n
 clues-met black [] e = tt
 clues-met black (c ∷ cs) e = by (eqb (howMany black (c .line)) (c .number)) refl e (clues-met black cs)
   where
-    by : (t : Bool) → eqb (howMany black (c .line)) (c .number) ≡ t → foundClue t (c .cell) (unmetClue black cs) ≡ none → (unmetClue black cs ≡ none → Met black cs) → Met black (c ∷ cs)
+    by : (t : Bool) → eqb (howMany black (c .line)) (c .number) ≡ t → foundClue t (c .cell) (unmetClue black cs) ≡ none
+        → (unmetClue black cs ≡ none → Met black cs) → Met black (c ∷ cs)
     by true q e go = (eqb-true _ _ q, go e)
     by false q e go = absurd (Option·some-ne-none (c .cell) e)
 
@@ -54,18 +55,30 @@ module _ {b : Board} (law : Laws b) (ds : List ℕ) where
 
   -- 10: drawing byte
   bytes-right : wrongByte b ds ≡ none ↔ ((x : ℕ) → x < b .size → Allowed (b .isOpen x) (getD ds x 0))
-  bytes-right = (λ e x h. allowed-byte (b .isOpen x) (getD ds x 0) .0 (first-none _ _ e x h), λ a. none-first _ _ (λ x h. allowed-byte (b .isOpen x) (getD ds x 0) .1 (a x h)))
+  bytes-right = (
+    λ e x h. allowed-byte (b .isOpen x) (getD ds x 0) .0 (first-none _ _ e x h),
+    λ a. none-first _ _
+        (λ x h. allowed-byte (b .isOpen x) (getD ds x 0) .1 (a x h)),
+  )
 
   -- 11: black beside black. Who looks east and south from each cell has looked north and west too
   abbrev Untouched : Type 0
   Untouched = (d : Direction) (x y : ℕ) → b .next d x ≡ some y → blackAt ds x ≡ true → blackAt ds y ≡ true → ⊥
 
   touching-right : touching b ds ≡ none ↔ Untouched
-  touching-right = (λ e. untouched (first-none _ _ e), λ u. none-first _ _ (λ x h. and-off (blackAt ds x) (there (blackAt ds) (b .next east x) || there (blackAt ds) (b .next south x)) (λ p. rw (not-there u east x p, not-there u south x p))))
+  touching-right = (
+    λ e. untouched (first-none _ _ e),
+    λ u. none-first _ _
+        (λ x h. and-off (blackAt ds x) (there (blackAt ds) (b .next east x) || there (blackAt ds) (b .next south x))
+        (λ p. rw (not-there u east x p, not-there u south x p))),
+  )
     where
       -- neither to the east nor to the south of a black cell is a black one
-      sides : ((x : ℕ) → x < b .size → touchesAt b ds x ≡ false) → (d : Direction) (x y : ℕ) → b .next d x ≡ some y → blackAt ds x ≡ true → (there (blackAt ds) (b .next east x) ≡ false) × (there (blackAt ds) (b .next south x) ≡ false)
-      sides c d x y e p = or-neither (there (blackAt ds) (b .next east x)) (there (blackAt ds) (b .next south x)) (other-half (blackAt ds x) _ (c x (law .wired .inside d x y e .0)) p)
+      sides : ((x : ℕ) → x < b .size → touchesAt b ds x ≡ false) → (d : Direction) (x y : ℕ) → b .next d x ≡ some y → blackAt ds x ≡ true
+          → (there (blackAt ds) (b .next east x) ≡ false) × (there (blackAt ds) (b .next south x) ≡ false)
+      sides c d x y e p =
+          or-neither (there (blackAt ds) (b .next east x)) (there (blackAt ds) (b .next south x))
+          (other-half (blackAt ds x) _ (c x (law .wired .inside d x y e .0)) p)
 
       beside : (o : Option ℕ) (y : ℕ) → o ≡ some y → there (blackAt ds) o ≡ false → blackAt ds y ≡ true → ⊥
       beside o y e n q = clash q (sym (ap (there (blackAt ds)) e) ∙ n)
@@ -125,7 +138,11 @@ module _ {b : Board} (law : Laws b) (ds : List ℕ) where
 
   -- 14: white cell without exactly two links
   two-right : notTwoLinks b ds ≡ none ↔ ((x : ℕ) → x < b .size → whiteAt b ds x ≡ true → degree (linkAt ds x) ≡ 2)
-  two-right = (λ e x h w. eqb-true _ _ (not-false _ (other-half _ _ (first-none _ _ e x h) w)), λ t. none-first _ _ (λ x h. and-off _ _ (λ w. true-not _ (eq-eqb _ _ (t x h w)))))
+  two-right = (
+    λ e x h w. eqb-true _ _ (not-false _ (other-half _ _ (first-none _ _ e x h) w)),
+    λ t. none-first _ _
+        (λ x h. and-off _ _ (λ w. true-not _ (eq-eqb _ _ (t x h w)))),
+  )
 
   -- 15: no white cell, or not one loop
   abbrev Whole : Type 0
@@ -144,7 +161,8 @@ module _ {b : Board} (law : Laws b) (ds : List ℕ) where
       back w =
           let (s, F) = lead (law .wired) L w in
           ap (λ (o : Option ℕ). fromFirst o (λ s. firstWhere (offLoopAt b ds s) (b .size))) (some-first (whiteAt b ds) (b .size) F)
-          ∙ none-first (offLoopAt b ds s) (b .size) (λ x l. and-off (whiteAt b ds x) _ (λ p. true-not _ (reaches (law .wired) L F x .0 (lead-reaches (law .wired) L w F x l p))))
+          ∙ none-first (offLoopAt b ds s) (b .size) (λ x l. and-off (whiteAt b ds x) _
+          (λ p. true-not _ (reaches (law .wired) L F x .0 (lead-reaches (law .wired) L w F x l p))))
 
   -- all rows
   pub clear-solution : Clear (judgeRows b ds) → SolutionBytes b ds
@@ -166,5 +184,16 @@ module _ {b : Board} (law : Laws b) (ds : List ℕ) where
 
   pub solution-clear : SolutionBytes b ds → Clear (judgeRows b ds)
   solution-clear S =
-      let sol = S .solution in
-      (length-right .1 (S .long), (bytes-right .1 (S .allowed), (touching-right .1 (sol .untouched), (clues-right .1 (sol .met), (matched-right (S .long) (S .allowed) .1 (sol .links .matched), (two-right .1 (sol .links .two), (loop-right (sol .links) .1 (sol .whole), tt)))))))
+      let sol = S .solution in (
+        length-right .1 (S .long),
+        (
+          bytes-right .1 (S .allowed),
+          (
+            touching-right .1 (sol .untouched),
+            (
+              clues-right .1 (sol .met),
+              (matched-right (S .long) (S .allowed) .1 (sol .links .matched), (two-right .1 (sol .links .two), (loop-right (sol .links) .1 (sol .whole), tt))),
+            ),
+          ),
+        ),
+      )

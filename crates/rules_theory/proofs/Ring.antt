@@ -90,7 +90,8 @@ module _ {size : ℕ} {go : Direction → ℕ → ℕ} {link : ℕ → Direction
     never-turned (suc zero) a b e h = let q : b ≡ suc a = omega arith in R .moved _ _ (walk-good a) (ap (λ (w : State). w .cell) (rw q at h))
     never-turned (suc (suc n)) a zero e h = omega arith
     never-turned (suc (suc n)) a (suc b) e h =
-        never-turned n (suc a) b (omega arith) (on-injective (at b) (turned (at (suc a))) (walk-good b) (turned-good (at (suc a)) (walk-good (suc a))) (h ∙ sym (on-turned-on (at a) (walk-good a))))
+        never-turned n (suc a) b (omega arith) (on-injective (at b) (turned (at (suc a))) (walk-good b) (turned-good (at (suc a)) (walk-good (suc a)))
+        (h ∙ sym (on-turned-on (at a) (walk-good a))))
 
     -- a cell seen twice, k steps apart, is the same state, and so the walk was at its beginning after k steps
     pub seen-twice : (a k b : ℕ) → b ≡ a + k → walk go other u a .cell ≡ walk go other u b .cell → walk go other u b ≡ walk go other u a

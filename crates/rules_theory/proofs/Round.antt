@@ -58,7 +58,9 @@ module _ {size : ℕ} {go : Direction → ℕ → ℕ} {link : ℕ → Direction
           long : (k : ℕ) → w .0 ≡ k → 1 < suc k
           long zero q = absurd (R .moved _ _ good (rw q at back-home))
           long (suc k) q = omega arith
-      by (inr h) = let z : suc size ≤ size = pigeons size (suc size) (λ k. at k .cell) (λ k _. R .inside _ _ (walk-good R u good k)) (differ size h) in absurd (omega arith)
+      by (inr h) =
+          let z : suc size ≤ size = pigeons size (suc size) (λ k. at k .cell) (λ k _. R .inside _ _ (walk-good R u good k)) (differ size h) in
+          absurd (omega arith)
 
   module _ {m : ℕ} (W : Round size go other u m) where
     -- any m cells of the walk that follow each other differ, those from 1 to m too
@@ -67,5 +69,6 @@ module _ {size : ℕ} {go : Direction → ℕ → ℕ} {link : ℕ → Direction
     window a b lo hi e = W .fresh 0 (b - a) (omega arith) (omega arith) (sym (comes-back a (b - a) b (omega arith) e))
 
     -- the round is no longer than the number of values that tell its cells apart
-    pub round-fits : (f : ℕ → ℕ) (n : ℕ) → ((k : ℕ) → f (walk go other u k .cell) < n) → ((a b : ℕ) → f (walk go other u a .cell) ≡ f (walk go other u b .cell) → walk go other u a .cell ≡ walk go other u b .cell) → m ≤ n
+    pub round-fits : (f : ℕ → ℕ) (n : ℕ) → ((k : ℕ) → f (walk go other u k .cell) < n)
+        → ((a b : ℕ) → f (walk go other u a .cell) ≡ f (walk go other u b .cell) → walk go other u a .cell ≡ walk go other u b .cell) → m ≤ n
     round-fits f n low tell = pigeons n m (λ k. f (at k .cell)) (λ k _. low k) (λ a b lo hi e. W .fresh a b lo hi (tell a b e))

@@ -52,7 +52,8 @@ judge-right s a ds = (λ e. right .0 (sym passed ∙ e), λ S. passed ∙ right 
 
 -- The first white cell has its links to the east and the south, and none to the north or west.
 module _ {size : ℕ} {next : Direction → ℕ → Option ℕ} {white : ℕ → Bool} {link : ℕ → Direction → Bool} {s : ℕ} where
-  pub first-links : Wired size next → Links size next white link → Least white size s → (link s east ≡ true) × (link s south ≡ true) × (link s north ≡ false) × (link s west ≡ false)
+  pub first-links : Wired size next → Links size next white link → Least white size s
+      → (link s east ≡ true) × (link s south ≡ true) × (link s north ≡ false) × (link s west ≡ false)
   first-links B L F = (first-east B L F, first-south B L F, first-north B L F, first-west B L F)
 
 -- A solution's links are one loop.

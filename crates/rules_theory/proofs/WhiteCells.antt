@@ -46,7 +46,8 @@ module _ (f : ℕ → ℕ) where
   listing-from a zero h = absurd (List·Memᴰ·not-nil h)
   listing-from a (suc n) {x} h = by (List·Memᴰ·cases-cons h) (listing-from (suc a) n)
     where
-      by : (x ≡ f a) ⊎ (x ∈ listing f (suc a) n) → (x ∈ listing f (suc a) n → (k : ℕ) × (suc a ≤ k) × (k < suc a + n) × (f k ≡ x)) → (k : ℕ) × (a ≤ k) × (k < a + suc n) × (f k ≡ x)
+      by : (x ≡ f a) ⊎ (x ∈ listing f (suc a) n) → (x ∈ listing f (suc a) n → (k : ℕ) × (suc a ≤ k) × (k < suc a + n) × (f k ≡ x))
+          → (k : ℕ) × (a ≤ k) × (k < a + suc n) × (f k ≡ x)
       by (inl e) go = (a, omega arith, omega arith, sym e)
       by (inr t) go = let w = go t in let lo = w .1 in let hi = w .2 in (w .0, omega arith, omega arith, w .3)
 

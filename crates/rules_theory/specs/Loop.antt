@@ -38,7 +38,8 @@ pub record WholeLoop (size : ℕ) (next : Direction → ℕ → Option ℕ) (whi
   pub the-whites : (x : ℕ) → x ∈ s ∷ rest ↔ ((x < size) × (white x ≡ true))
   pub linked : Chain (Linked next link) s rest s
 
--- the same by number: after k steps the walk is at the k-th of its cells; links lead from s to these and no others; after m steps, and not before, it is back at s, from the south
+-- the same by number: after k steps the walk is at the k-th of its cells; links lead from s to these and no others; after m steps, and not before, it
+-- is back at s, from the south
 pub record Looped (size : ℕ) (next : Direction → ℕ → Option ℕ) (link : ℕ → Direction → Bool) (s m : ℕ) : Type 0 where
   pub long : 1 < m
   pub fits : m ≤ size

@@ -59,9 +59,11 @@ unsolved-number (TooShort n) e = omega arith
 same-refusal : (s : List ℕ) → solverAnswer s budget lent .number ≡ programNumber s
 same-refusal s =
     same-number s (roomRows (boardOf s) lent) (doneOutcome (searched (boardOf s)))
-    (λ c. by (ltb mostElements (length (clauseList (boardOf s)))) refl (ltb mostHeld (variableCount (boardOf s))) refl (le-ltb mostCells (size (sides s)) (accepted-fits s (clear-accepted s c) .sides .few)))
+    (λ c. by (ltb mostElements (length (clauseList (boardOf s)))) refl (ltb mostHeld (variableCount (boardOf s))) refl
+    (le-ltb mostCells (size (sides s)) (accepted-fits s (clear-accepted s c) .sides .few)))
   where
-    by : (l : Bool) → ltb mostElements (length (clauseList (boardOf s))) ≡ l → (v : Bool) → ltb mostHeld (variableCount (boardOf s)) ≡ v → ltb mostCells (size (sides s)) ≡ false
+    by : (l : Bool) → ltb mostElements (length (clauseList (boardOf s))) ≡ l → (v : Bool) → ltb mostHeld (variableCount (boardOf s)) ≡ v
+        → ltb mostCells (size (sides s)) ≡ false
         → firstRefusal (roomRows (boardOf s) lent) (doneOutcome (searched (boardOf s))) .number ≡ limited (needsMore (boardOf s))
     by true h v k n = rw h
     by false h true k n = rw (h, k)
@@ -79,7 +81,8 @@ module _ {s : List ℕ} {r : Solved} {drawing : List ℕ} (w : Solves s r drawin
   number-is : solvedOutcome r .number ≡ programNumber s
   number-is = ap (λ (t : Outcome). t .number) (w .outcome) ∙ same-refusal s
 
-  pub ends-refused : {u : SolveRefusal} {t : Outcome} {buf out : List ℕ} {n : ℕ} → r ≡ Refused u → t ≡ solvedOutcome r → Wrote buf 0 (refusedLine (t .number)) out n → Wrote buf 0 (printedSolution s) out n
+  pub ends-refused : {u : SolveRefusal} {t : Outcome} {buf out : List ℕ} {n : ℕ} → r ≡ Refused u → t ≡ solvedOutcome r
+      → Wrote buf 0 (refusedLine (t .number)) out n → Wrote buf 0 (printedSolution s) out n
   ends-refused {u} q t p =
       let n = ap (λ (t : Outcome). t .number) t ∙ number-is in
       wrote-recast (printed-refused _ n (λ z. unsolved-number u (sym (ap (λ r. solvedOutcome r .number) q) ∙ number-is ∙ z))) p
@@ -97,7 +100,8 @@ module _ {s : List ℕ} {r : Solved} {drawing : List ℕ} (w : Solves s r drawin
         let a = w .outcome ∙ clear-answered (solverRows s lent) (doneOutcome (searched (boardOf s))) clear in
         same-ending x (searched (boardOf s) .ending) (sym h ∙ ap (λ (t : Outcome). t .first) a)
 
-    ends : {text buf out : List ℕ} {n : ℕ} → text ≡ endText x (drawingText (sides s .columns) (cells s)) → Wrote buf 0 text out n → Wrote buf 0 (printedSolution s) out n
+    ends : {text buf out : List ℕ} {n : ℕ} → text ≡ endText x (drawingText (sides s .columns) (cells s)) → Wrote buf 0 text out n
+        → Wrote buf 0 (printedSolution s) out n
     ends q p = wrote-recast (q ∙ ap (λ x. endText x (drawingText (sides s .columns) (cells s))) ending ∙ printed-text _ (sym number-is ∙ e)) p
 
   pub ends-none : {c : Count} {buf out : List ℕ} {n : ℕ} → r ≡ NoSolution c → Wrote buf 0 noneLine out n → Wrote buf 0 (printedSolution s) out n

@@ -17,7 +17,8 @@ fuel zero b n h k = absurd (omega arith)
 fuel (suc a) zero n h k = absurd (omega arith)
 fuel (suc a) (suc b) n h k = by (ltb n 10) refl (fuel a b (n / 10))
   where
-    by : (t : Bool) → ltb n 10 ≡ t → (n / 10 < a → n / 10 < b → decimalIn a (n / 10) ≡ decimalIn b (n / 10)) → decimalStep t n (λ m. decimalIn a m) ≡ decimalStep t n (λ m. decimalIn b m)
+    by : (t : Bool) → ltb n 10 ≡ t → (n / 10 < a → n / 10 < b → decimalIn a (n / 10) ≡ decimalIn b (n / 10))
+        → decimalStep t n (λ m. decimalIn a m) ≡ decimalStep t n (λ m. decimalIn b m)
     by true e f = refl
     by false e f =
         let l : 10 ≤ n = ltb-false n 10 e in

@@ -16,7 +16,8 @@ use Rattle.count_solutions.proofs.count_text.Tie as tie
 call : (c : tie.After-encode) → Encodes (c .before .before .before .before .args .«record» .now) (encodedOutcome (c .encode .result)) (c .encode .last .1 .0)
 call c = record { outcome = c .encode .ensures .0; left = c .encode .ensures .1 }
 
-answered : (c : tie.After-encode) {n : Counts} → c .encode .result ≡ Written n → Encodes (c .before .before .before .before .args .«record» .now) (countsOutcome n) (c .encode .last .1 .0)
+answered : (c : tie.After-encode) {n : Counts} → c .encode .result ≡ Written n
+    → Encodes (c .before .before .before .before .args .«record» .now) (countsOutcome n) (c .encode .last .1 .0)
 answered c q = outcome-as (ap encodedOutcome q) (call c)
 
 slice-aggregate-encode : tie.Need-slice-aggregate-encode
@@ -41,7 +42,11 @@ same-length : tie.Need-same-length
 same-length c = search needs
 
 returns : tie.Need-returns
-returns c = wrote-recast (refused-line (outcome-as (sym (c .before .before .before .outcome .ensures)) (call (c .before .before .before .before .before .before .before .before))) _ (refused-number (c .before .before .before .before .before .enum-told .given .1) (c .before .before .before .outcome .ensures))) (c .before .before .put-refused .ensures)
+returns c =
+    wrote-recast (refused-line (outcome-as (sym (c .before .before .before .outcome .ensures))
+    (call (c .before .before .before .before .before .before .before .before))) _
+    (refused-number (c .before .before .before .before .before .enum-told .given .1) (c .before .before .before .outcome .ensures)))
+    (c .before .before .put-refused .ensures)
 
 put-refused-requires-2 : tie.Need-put-refused-requires-2
 put-refused-requires-2 c κs = search needs
@@ -50,7 +55,10 @@ same-length-2 : tie.Need-same-length-2
 same-length-2 c = search needs
 
 returns-2 : tie.Need-returns-2
-returns-2 c = wrote-recast (large-line (answered (c .before .before .before .before .before .before .before .before .before) (c .before .before .before .before .before .before .e .given .1)) refl _ (omega (arith, c .before .before .before .before .if1 .taken))) (c .before .before .put-refused2 .ensures)
+returns-2 c =
+    wrote-recast (large-line (answered (c .before .before .before .before .before .before .before .before .before)
+    (c .before .before .before .before .before .before .e .given .1)) refl _ (omega (arith, c .before .before .before .before .if1 .taken)))
+    (c .before .before .put-refused2 .ensures)
 
 array-share-prefix-list : tie.Need-array-share-prefix-list
 array-share-prefix-list c = listed-inside (answered (c .before .before .before .before .before) (c .before .before .e .given .1)) refl
@@ -71,7 +79,9 @@ slice-aggregate-count-solutions-3 : tie.Need-slice-aggregate-count-solutions-3
 slice-aggregate-count-solutions-3 c = simp length-take (omega arith)
 
 count-solutions-requires : tie.Need-count-solutions-requires
-count-solutions-requires c κs = taken (answered (c .before .before .before .before .before .before .before .before) (c .before .before .before .before .before .e .given .1)) (omega (arith, c .before .before .before .if1 .left))
+count-solutions-requires c κs =
+    taken (answered (c .before .before .before .before .before .before .before .before) (c .before .before .before .before .before .e .given .1))
+    (omega (arith, c .before .before .before .if1 .left))
 
 put-count-requires : tie.Need-put-count-requires
 put-count-requires c κs = search needs
@@ -80,7 +90,11 @@ same-length-3 : tie.Need-same-length-3
 same-length-3 c = search needs
 
 returns-3 : tie.Need-returns-3
-returns-3 c = ends-counted (answered (c .before .before .before .before .before .before .before .before .before .before .before .before .before .before .before) (c .before .before .before .before .before .before .before .before .before .before .before .before .e .given .1)) (omega (arith, c .before .before .before .before .before .before .before .before .before .before .if1 .left)) (c .before .before .before .before .before .before .count-solutions .ensures .0) (c .before .before .put-count .ensures)
+returns-3 c =
+    ends-counted (answered (c .before .before .before .before .before .before .before .before .before .before .before .before .before .before .before)
+    (c .before .before .before .before .before .before .before .before .before .before .before .before .e .given .1))
+    (omega (arith, c .before .before .before .before .before .before .before .before .before .before .if1 .left))
+    (c .before .before .before .before .before .before .count-solutions .ensures .0) (c .before .before .put-count .ensures)
 
 pub count-text-spec : {M : Type 1} → statement M
 count-text-spec =

@@ -10,8 +10,15 @@ use Rattle.count_solutions.proofs.main.Statement.{statement}
 use Rattle.count_solutions.proofs.main.Tie as tie
 
 -- what is printed fits the text
-fits : (c : tie.After-count-text) → length (printedCount (take (c .before .before .before .before .before .read-full .result) (c .before .before .before .before .before .read-full .last .1 .0))) ≤ length (c .before .before .before .buffer .result)
-fits c = omega (arith, count-fits (take (c .before .before .before .before .before .read-full .result) (c .before .before .before .before .before .read-full .last .1 .0)), c .before .before .before .buffer .ensures)
+fits : (c : tie.After-count-text)
+    → length (printedCount (take (c .before .before .before .before .before .read-full .result) (c .before .before .before .before .before .read-full .last .1 .0))) ≤ length (c .before .before .before .buffer .result)
+fits c =
+    omega (
+      arith,
+      count-fits (take (c .before .before .before .before .before .read-full .result)
+          (c .before .before .before .before .before .read-full .last .1 .0)),
+      c .before .before .before .buffer .ensures,
+    )
 
 large-buffer-requires : tie.Need-large-buffer-requires
 large-buffer-requires c κs = search needs

@@ -1,4 +1,4 @@
--- `count_solutions::put_many` meets its contract. Assumes nothing.
+-- `count_solutions::put_count` meets its contract. Assumes nothing.
 use Prim.Native.Nat.{ℕ}
 use mathlib.Core.Path.{sym, ap}
 use mathlib.Core.List.{List}

@@ -33,14 +33,16 @@ enum-known-negative : tie.Need-enum-known-negative Inv-loop μ-loop
 enum-known-negative c = c .match .keys1
 
 -- what was found at the place, and the element that was read
-found : (c : tie.After-element Inv-loop μ-loop) → Elemental (c .before .before .before .before .before .args .text .now) (headerWith (c .before .before .before .before .before .args .variables) (c .before .before .before .before .before .args .clauses)) (c .before .before .before .loop .k) (clause (headerWith (c .before .before .before .before .before .args .variables) (c .before .before .before .before .before .args .clauses)) (c .before .before .before .loop .k) (c .before .before .before .loop .begun)) (c .before .before .before .loop .at) (c .element .result)
+found : (c : tie.After-element Inv-loop μ-loop)
+    → Elemental (c .before .before .before .before .before .args .text .now) (headerWith (c .before .before .before .before .before .args .variables) (c .before .before .before .before .before .args .clauses)) (c .before .before .before .loop .k) (clause (headerWith (c .before .before .before .before .before .args .variables) (c .before .before .before .before .before .args .clauses)) (c .before .before .before .loop .k) (c .before .before .before .loop .begun)) (c .before .before .before .loop .at) (c .element .result)
 found c =
     let at-loop = c .before .before .before in
     let at-start = at-loop .before .before in
     c .element .ensures (headerWith (at-start .args .variables) (at-start .args .clauses)) (at-loop .loop .k) (at-loop .loop .begun) refl
     (c .before .if1 .left)
 
-read : (c : tie.After-negative Inv-loop μ-loop) → ElementRead (c .before .before .before .before .before .before .before .args .text .now) (headerWith (c .before .before .before .before .before .before .before .args .variables) (c .before .before .before .before .before .before .before .args .clauses)) (c .before .before .before .before .before .loop .k) (clause (headerWith (c .before .before .before .before .before .before .before .args .variables) (c .before .before .before .before .before .before .before .args .clauses)) (c .before .before .before .before .before .loop .k) (c .before .before .before .before .before .loop .begun)) (c .before .before .before .before .before .loop .at) (c .negative .given .0 .0) (c .negative .given .0 .1 .0) (c .negative .given .0 .1 .1 .0 .at)
+read : (c : tie.After-negative Inv-loop μ-loop)
+    → ElementRead (c .before .before .before .before .before .before .before .args .text .now) (headerWith (c .before .before .before .before .before .before .before .args .variables) (c .before .before .before .before .before .before .before .args .clauses)) (c .before .before .before .before .before .loop .k) (clause (headerWith (c .before .before .before .before .before .before .before .args .variables) (c .before .before .before .before .before .before .before .args .clauses)) (c .before .before .before .before .before .loop .k) (c .before .before .before .before .before .loop .begun)) (c .before .before .before .before .before .loop .at) (c .negative .given .0 .0) (c .negative .given .0 .1 .0) (c .negative .given .0 .1 .1 .0 .at)
 read c =
     let at-loop = c .before .before .before .before .before in
     let at-start = at-loop .before .before in

@@ -1,50 +1,77 @@
 -- `dimacs_writer::write` meets its contract: the rows of the table are passed in its order, then the text is written. Assumes nothing.
+use Prim.Native.Nat.{ℕ}
 use native.Mathlib.Omega.{arith}
+use lib.IntN.{ℤ}
 use lib.ListN.{length}
-use mathlib.Core.Path.{_≡_, sym, _∙_, ap}
-use Rattle.answers.specs.First.{placed}
+use mathlib.Core.Path.{_≡_, sym, _∙_}
+use mathlib.Core.List.{List}
+use Rattle.answers.proofs.First.{found-at, found-none}
+use Rattle.answers.proofs.Rows.{left-next}
+use Rattle.cnf.specs.Clauses.{clauseCount}
 use Rattle.dimacs.specs.Text.{textOf}
 use Rattle.dimacs_writer.specs.Writer.{counted}
 use Rattle.text.proofs.Decimals.{digits-few}
-use Rattle.dimacs_writer.proofs.WriterRows.{VariablesRight, ListRight, RoomRight, too-many, list-wrong, text-counted, room-over, room-short, room-right, header-fits, all-written}
+use Rattle.dimacs_writer.proofs.WriterRows.{Past, TextFits, too-many, past-variables, list-wrong, text-counted, room-over, room-short, room-right, header-fits, all-written}
 use borrow.Author.Needs.{needs}
 use Rattle.dimacs_writer.proofs.write.Statement.{statement}
 use Rattle.dimacs_writer.proofs.write.Tie as tie
 
--- the rows passed at each place
-past-variables : (c : tie.Else1) → VariablesRight (c .before .before .before .args .variables)
-past-variables c = record { right = sym (c .before .too-many-variables .ensures) ∙ c .if1 .left }
+-- V, the list and the buffer that were handed in
+abbrev v : tie.Start → ℕ
+v c = c .args .variables
 
-past-list : (c : tie.After-enum-told) → ListRight (c .before .before .before .before .before .before .args .variables) (c .before .before .before .before .before .before .args .list .now)
-past-list c =
-    let at-else1 = c .before .before .before in
-    record { before = past-variables (at-else1); right = sym (c .before .before .wrong-list .ensures) ∙ ap placed (c .enum-told .given .1) }
+abbrev ls : tie.Start → List ℤ
+ls c = c .args .list .now
+
+abbrev buf : tie.Start → List ℕ
+buf c = c .args .text .now
+
+-- the beginning, seen from later places
+abbrev start1 : tie.After-too-many-variables → tie.Start
+start1 c = c .before .before
+
+abbrev start2 : tie.After-wrong-list → tie.Start
+start2 c = start1 (c .before .before)
+
+abbrev start3 : tie.After-clause-count → tie.Start
+start3 c = start2 (c .before .before .before)
+
+abbrev start4 : tie.After-count-lines → tie.Start
+start4 c = start3 (c .before .before .before)
+
+-- the rows passed there
+past1 : (c : tie.After-wrong-list) → Past (v (start2 c)) (ls (start2 c)) (buf (start2 c)) 1
+past1 c = let e = c .before in past-variables (v (start2 c)) (ls (start2 c)) (buf (start2 c)) (sym (e .if1 .left) ∙ e .before .too-many-variables .ensures)
+
+past2 : (c : tie.After-clause-count) → Past (v (start3 c)) (ls (start3 c)) (buf (start3 c)) 2
+past2 c = let w = c .before .before .before in left-next (past1 w) (found-none (c .before .enum-told .given .1) (w .wrong-list .ensures))
+
+past3 : (c : tie.After-count-lines) → Past (v (start4 c)) (ls (start4 c)) (buf (start4 c)) 2
+past3 c = past2 (c .before .before .before)
 
 -- the bytes were counted
-sized : (c : tie.After-count-lines) → c .count-lines .result ≡ counted (length (textOf (c .before .before .before .before .before .before .before .before .before .before .args .variables) (c .before .before .before .before .before .before .before .before .before .before .args .list .now)))
+sized : (c : tie.After-count-lines) → c .count-lines .result ≡ counted (length (textOf (v (start4 c)) (ls (start4 c))))
 sized c =
-    let at-clause-count = c .before .before .before in
-    let at-too-many-variables = at-clause-count .before .before .before .before .before in
-    let at-start = at-too-many-variables .before .before in
-    text-counted (at-start .args .variables) (at-start .args .list .now) (at-clause-count .clause-count .ensures) (c .before .before .width .ensures)
-    (c .before .width2 .ensures) (c .count-lines .ensures)
+    let w = c .before .before in
+    text-counted (v (start4 c)) (ls (start4 c)) (w .before .clause-count .ensures) (w .width .ensures) (c .before .width2 .ensures) (c .count-lines .ensures)
 
-past-room : (c : tie.Else2) → RoomRight (c .before .before .before .before .before .before .before .before .before .before .before .before .before .before .args .variables) (c .before .before .before .before .before .before .before .before .before .before .before .before .before .before .args .list .now) (c .before .before .before .before .before .before .before .before .before .before .before .before .before .before .args .text .now)
-past-room c =
-    let at-count-lines = c .before .before .before .before in
-    let at-enum-told = at-count-lines .before .before .before .before in
-    let at-too-many-variables = at-enum-told .before .before .before .before in
-    let at-start = at-too-many-variables .before .before in
-    room-right (at-start .args .text .now) (past-list (at-enum-told)) (sized (at-count-lines)) (c .before .before .needed .given .1) (c .if2 .left)
+clauses-counted : (c : tie.After-count-lines) → c .before .before .before .clause-count .result ≡ clauseCount (ls (start4 c))
+clauses-counted c = c .before .before .before .clause-count .ensures
+
+-- and fit
+abbrev counted-at : tie.After-known-told2 → tie.After-count-lines
+counted-at c = c .before .before .before
+
+fits : (c : tie.Else2) → let s = start4 (counted-at (c .before)) in TextFits (v s) (ls s) (buf s)
+fits c =
+    let k = counted-at (c .before) in
+    room-right (v (start4 k)) (ls (start4 k)) (buf (start4 k)) (past3 k) (sized k) (c .before .before .needed .given .1) (c .if2 .left)
 
 too-many-variables-requires : tie.Need-too-many-variables-requires
 too-many-variables-requires c κs = tt
 
 returns : tie.Need-returns
-returns c =
-    let at-start = c .before .before .before in
-    too-many (at-start .args .variables) (at-start .args .list .now) (at-start .args .text .now)
-    (sym (c .before .too-many-variables .ensures) ∙ c .if1 .taken)
+returns c = let s = start1 (c .before) in too-many (v s) (ls s) (buf s) (sym (c .if1 .taken) ∙ c .before .too-many-variables .ensures)
 
 wrong-list-requires : tie.Need-wrong-list-requires
 wrong-list-requires c κs = tt
@@ -54,11 +81,8 @@ enum-known-i c = c .match .keys1
 
 returns-2 : tie.Need-returns-2
 returns-2 c =
-    let at-wrong-list = c .before .before .before in
-    let at-else1 = at-wrong-list .before in
-    let at-start = at-else1 .before .before .before in
-    list-wrong (at-start .args .list .now) (at-start .args .text .now) (past-variables (at-else1))
-    (sym (at-wrong-list .wrong-list .ensures) ∙ ap placed (c .before .i .given .1))
+    let w = c .before .before .before in
+    list-wrong (v (start2 w)) (ls (start2 w)) (buf (start2 w)) (past1 w) (found-at (c .before .i .given .1) (w .wrong-list .ensures))
 
 enum-told : tie.Need-enum-told
 enum-told c = c .match .keys2
@@ -95,45 +119,33 @@ enum-told-2 c = c .match2 .keys2
 
 returns-3 : tie.Need-returns-3
 returns-3 c =
-    let at-clause-count = c .before .before .before .before .before in
-    let at-enum-told = at-clause-count .before in
-    let at-too-many-variables = at-enum-told .before .before .before .before in
-    let at-start = at-too-many-variables .before .before in
-    room-over (at-start .args .text .now) (past-list (at-enum-told)) (sized (c .before .before)) (omega arith) (c .enum-told2 .given .1)
+    let k = c .before .before in
+    room-over (v (start4 k)) (ls (start4 k)) (buf (start4 k)) (past3 k) (sized k) (omega arith) (c .enum-told2 .given .1)
 
 returns-4 : tie.Need-returns-4
 returns-4 c =
-    let at-count-lines = c .before .before .before .before in
-    let at-enum-told = at-count-lines .before .before .before .before in
-    let at-too-many-variables = at-enum-told .before .before .before .before in
-    let at-start = at-too-many-variables .before .before in
-    room-short (at-start .args .text .now) (past-list (at-enum-told)) (sized (at-count-lines)) (c .before .before .needed .given .1) (c .if2 .taken)
+    let k = counted-at (c .before) in
+    room-short (v (start4 k)) (ls (start4 k)) (buf (start4 k)) (past3 k) (sized k) (c .before .before .needed .given .1) (c .if2 .taken)
 
 put-header-requires : tie.Need-put-header-requires
-put-header-requires c κs =
-    let at-count-lines = c .before .before .before .before .before in
-    let at-clause-count = at-count-lines .before .before .before in
-    omega (arith, header-fits (past-room (c .before)) (at-clause-count .clause-count .ensures))
+put-header-requires c κs = let e = c .before in omega (arith, header-fits (fits e) (clauses-counted (counted-at (e .before))))
 
 put-lines-requires : tie.Need-put-lines-requires
 put-lines-requires c κs =
-    let at-put-header = c .before .before .before in
-    let at-else2 = at-put-header .before .before in
-    let at-width2 = at-else2 .before .before .before .before .before in
-    let at-clause-count = at-width2 .before .before in
-    omega (arith, header-fits (past-room (at-else2)) (at-clause-count .clause-count .ensures), at-put-header .put-header .ensures .place)
+    let h = c .before .before .before in
+    let e = h .before .before in
+    omega (arith, header-fits (fits e) (clauses-counted (counted-at (e .before))), h .put-header .ensures .place)
 
 same-length : tie.Need-same-length
 same-length c = search needs
 
 returns-5 : tie.Need-returns-5
 returns-5 c =
-    let at-put-lines-arg = c .before .before .before in
-    let at-put-header = at-put-lines-arg .before .before .before in
-    let at-else2 = at-put-header .before .before in
-    let at-width2 = at-else2 .before .before .before .before .before in
-    let at-clause-count = at-width2 .before .before in
-    all-written (past-room (at-else2)) (at-clause-count .clause-count .ensures) (at-put-header .put-header .ensures) (c .before .before .put-lines .ensures)
+    let l = c .before .before in
+    let h = l .before .before .before .before in
+    let e = h .before .before in
+    let k = counted-at (e .before) in
+    all-written (fits e) (clauses-counted k) (past3 k) (h .put-header .ensures) (l .put-lines .ensures)
 
 pub write-spec : {M : Type 1} → statement M
 write-spec =

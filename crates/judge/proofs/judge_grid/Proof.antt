@@ -25,7 +25,8 @@ size-requires : tie.Need-size-requires
 size-requires c κs = search needs
 
 -- the rules' verdict is the judge's
-ends : (c : tie.After-judge-rules) → ruleVerdictOutcome (c .judge-rules .result) ≡ firstRefusal (judgeRows (theBoard (c .before .before)) (ds (c .before .before))) saysYes
+ends : (c : tie.After-judge-rules)
+    → ruleVerdictOutcome (c .judge-rules .result) ≡ firstRefusal (judgeRows (theBoard (c .before .before)) (ds (c .before .before))) saysYes
 ends c = let a = c .before .before in c .judge-rules .ensures ∙ right-length (theBoard a) (ds a) (n-bytes (c .before))
 
 returns : tie.Need-returns

@@ -15,7 +15,8 @@ use Rattle.print_clauses.proofs.clauses_text.Tie as tie
 call : (c : tie.After-encode) → Encodes (c .before .before .before .before .args .«record» .now) (encodedOutcome (c .encode .result)) (c .encode .last .1 .0)
 call c = record { outcome = c .encode .ensures .0; left = c .encode .ensures .1 }
 
-answered : (c : tie.After-encode) {n : Counts} → c .encode .result ≡ Written n → Encodes (c .before .before .before .before .args .«record» .now) (countsOutcome n) (c .encode .last .1 .0)
+answered : (c : tie.After-encode) {n : Counts} → c .encode .result ≡ Written n
+    → Encodes (c .before .before .before .before .args .«record» .now) (countsOutcome n) (c .encode .last .1 .0)
 answered c q = outcome-as (ap encodedOutcome q) (call c)
 
 slice-aggregate-encode : tie.Need-slice-aggregate-encode

@@ -10,7 +10,8 @@ use Rattle.print_clauses.proofs.main.Statement.{statement}
 use Rattle.print_clauses.proofs.main.Tie as tie
 
 -- what is printed fits the text
-fits : (c : tie.After-clauses-text) → length (printedClauses (take (c .before .before .before .before .before .read-full .result) (c .before .before .before .before .before .read-full .last .1 .0))) ≤ length (c .before .before .before .large-buffer2 .result)
+fits : (c : tie.After-clauses-text)
+    → length (printedClauses (take (c .before .before .before .before .before .read-full .result) (c .before .before .before .before .before .read-full .last .1 .0))) ≤ length (c .before .before .before .large-buffer2 .result)
 fits c =
     let at-large-buffer2 = c .before .before .before in
     let at-read-full = at-large-buffer2 .before .before in

@@ -10,8 +10,15 @@ use Rattle.solve.proofs.main.Statement.{statement}
 use Rattle.solve.proofs.main.Tie as tie
 
 -- what is printed fits the text
-fits : (c : tie.After-solution-text) → length (printedSolution (take (c .before .before .before .before .before .read-full .result) (c .before .before .before .before .before .read-full .last .1 .0))) ≤ length (c .before .before .before .buffer .result)
-fits c = omega (arith, solution-fits (take (c .before .before .before .before .before .read-full .result) (c .before .before .before .before .before .read-full .last .1 .0)), c .before .before .before .buffer .ensures)
+fits : (c : tie.After-solution-text)
+    → length (printedSolution (take (c .before .before .before .before .before .read-full .result) (c .before .before .before .before .before .read-full .last .1 .0))) ≤ length (c .before .before .before .buffer .result)
+fits c =
+    omega (
+      arith,
+      solution-fits (take (c .before .before .before .before .before .read-full .result)
+          (c .before .before .before .before .before .read-full .last .1 .0)),
+      c .before .before .before .buffer .ensures,
+    )
 
 large-buffer-requires : tie.Need-large-buffer-requires
 large-buffer-requires c κs = search needs

@@ -71,7 +71,8 @@ put-decimal-put-decimal-requires : (t : ℕ) → put-decimal-lts.Need-put-decima
   put-decimal-below t,
   put-decimal.Post,
 ) (put-decimal-at t) put-decimal.Post
-put-decimal-put-decimal-requires t c κs = (omega (arith, c .before .before .before .pre .0), omega (arith, tenth (c .before .if1 .left), c .before .before .before .pre .1))
+put-decimal-put-decimal-requires t c κs =
+    (omega (arith, c .before .before .before .pre .0), omega (arith, tenth (c .before .if1 .left), c .before .before .before .pre .1))
 
 put-decimal-add-put-byte-2 : (t : ℕ) → put-decimal-lts.Need-add-put-byte-2 (
   put-byte-reads.Asked,
@@ -95,7 +96,13 @@ put-decimal-put-byte-requires-2 : (t : ℕ) → put-decimal-lts.Need-put-byte-re
   put-decimal-below t,
   put-decimal.Post,
 ) (put-decimal-at t) put-decimal.Post
-put-decimal-put-byte-requires-2 t c κs = omega (arith, tenth (c .before .before .before .before .before .if1 .left), c .before .before .before .put-decimal .ensures .place, c .before .before .before .before .before .before .before .pre .1)
+put-decimal-put-byte-requires-2 t c κs =
+    omega (
+      arith,
+      tenth (c .before .before .before .before .before .if1 .left),
+      c .before .before .before .put-decimal .ensures .place,
+      c .before .before .before .before .before .before .before .pre .1,
+    )
 
 put-decimal-returns-2 : (t : ℕ) → put-decimal-lts.Need-returns-2 (
   put-byte-reads.Asked,
@@ -103,7 +110,9 @@ put-decimal-returns-2 : (t : ℕ) → put-decimal-lts.Need-returns-2 (
   put-decimal-below t,
   put-decimal.Post,
 ) (put-decimal-at t) put-decimal.Post
-put-decimal-returns-2 t c = wrote-recast (decimal-more (c .before .before .before .before .before .before .before .before .if1 .left)) (wrote-after (c .before .before .before .before .before .before .put-decimal .ensures) (c .before .before .put-byte2 .ensures))
+put-decimal-returns-2 t c =
+    wrote-recast (decimal-more (c .before .before .before .before .before .before .before .before .if1 .left))
+    (wrote-after (c .before .before .before .before .before .before .put-decimal .ensures) (c .before .before .put-byte2 .ensures))
 
 put-decimal-same-length-2 : (t : ℕ) → put-decimal-lts.Need-same-length-2 (
   put-byte-reads.Asked,

@@ -16,7 +16,8 @@ after-v x = first (ofClauses x)
 found-v : (c : tie.After-field) → Fields (c .before .before .args .text .now) ofVariables (c .before .before .args .self .at) after-v (c .field .result)
 found-v c = c .field .ensures ofVariables after-v refl refl (λ x b. refl)
 
-read-v : (c : tie.After-variables) → FieldRead (c .before .before .before .before .args .text .now) ofVariables (c .before .before .before .before .args .self .at) (after-v (c .variables .given .0 .0)) (c .variables .given .0 .0) (c .variables .given .0 .1 .0 .at)
+read-v : (c : tie.After-variables)
+    → FieldRead (c .before .before .before .before .args .text .now) ofVariables (c .before .before .before .before .args .self .at) (after-v (c .variables .given .0 .0)) (c .variables .given .0 .0) (c .variables .given .0 .1 .0 .at)
 read-v c =
     let at-start = c .before .before .before .before in
     field-read (at-start .args .text .now) (at-start .args .self .at) ofVariables after-v (found-v (c .before .before)) (c .variables .given .1)
@@ -25,7 +26,8 @@ read-v c =
 abbrev after-c : ℕ → ℕ → State
 after-c v x = clause (headerWith v x) 0 false
 
-found-c : (c : tie.After-field2) → Fields (c .before .before .before .before .before .before .args .text .now) (ofClauses (c .before .before .variables .given .0 .0)) (c .before .before .variables .given .0 .1 .0 .at) (after-c (c .before .before .variables .given .0 .0)) (c .field2 .result)
+found-c : (c : tie.After-field2)
+    → Fields (c .before .before .before .before .before .before .args .text .now) (ofClauses (c .before .before .variables .given .0 .0)) (c .before .before .variables .given .0 .1 .0 .at) (after-c (c .before .before .variables .given .0 .0)) (c .field2 .result)
 found-c c =
     c .field2 .ensures (ofClauses (c .before .before .variables .given .0 .0)) (after-c (c .before .before .variables .given .0 .0)) refl refl (λ x b. refl)
 

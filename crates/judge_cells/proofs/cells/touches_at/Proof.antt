@@ -1,4 +1,4 @@
--- `judge_cells::cells::touching_at` meets its contract. Assumes nothing.
+-- `judge_cells::cells::touches_at` meets its contract. Assumes nothing.
 use mathlib.Core.Path.{sym, _∙_}
 use borrow.Author.Tests.{eq-eqb, ne-eqb}
 use borrow.Author.Needs.{needs}

@@ -22,10 +22,17 @@ enum-told : tie.Need-enum-told
 enum-told c = search needs
 
 returns : tie.Need-returns
-returns c = sym (ap isCell (sym (c .before .before .read-cell .ensures) ∙ c .enum-told .given .1)) ∙ cell-at (c .before .before .before .before .before .args .self) (c .before .before .before .before .before .args .«record» .now) (c .before .before .before .before .before .args .x)
+returns c =
+    let at-start = c .before .before .before .before .before in
+    sym (ap isCell (sym (c .before .before .read-cell .ensures) ∙ c .enum-told .given .1)) ∙ cell-at (at-start .args .self)
+    (at-start .args .«record» .now) (at-start .args .x)
 
 returns-2 : tie.Need-returns-2
-returns-2 c = sym (ap isCell (sym (c .before .before .before .read-cell .ensures) ∙ c .before .c .given .1)) ∙ cell-at (c .before .before .before .before .before .before .args .self) (c .before .before .before .before .before .before .args .«record» .now) (c .before .before .before .before .before .before .args .x)
+returns-2 c =
+    let at-read-cell = c .before .before .before in
+    let at-start = at-read-cell .before .before .before in
+    sym (ap isCell (sym (at-read-cell .read-cell .ensures) ∙ c .before .c .given .1)) ∙ cell-at (at-start .args .self) (at-start .args .«record» .now)
+    (at-start .args .x)
 
 pub cell-spec : {M : Type 1} → statement M
 cell-spec =

@@ -25,7 +25,9 @@ enum-told : tie.Need-enum-told Inv-loop μ-loop
 enum-told c = search needs
 
 returns : tie.Need-returns Inv-loop μ-loop
-returns c = let e = found-none (c .enum-told .given .1) (c .before .before .neighbour .ensures) in (out-end (c .before .before .before .loop .inv) e, out-count (c .before .before .before .loop .inv) e)
+returns c =
+    let e = found-none (c .enum-told .given .1) (c .before .before .neighbour .ensures) in
+    (out-end (c .before .before .before .loop .inv) e, out-count (c .before .before .before .loop .inv) e)
 
 add-cells : tie.Need-add-cells Inv-loop μ-loop
 add-cells c = search needs

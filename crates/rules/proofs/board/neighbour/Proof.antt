@@ -51,7 +51,9 @@ rem-if4 : tie.Need-rem-if4
 rem-if4 c = search needs
 
 returns-4 : tie.Need-returns-4
-returns-4 c = let h : c .before .before .before .args .x % c .before .before .before .args .g .columns ≤ 0 = omega arith in leads-nowhere (c .before .before .before .pre) West (c .before .enum-told4 .given .1) (le-ltb 0 _ h)
+returns-4 c =
+    let h : c .before .before .before .args .x % c .before .before .before .args .g .columns ≤ 0 = omega arith in
+    leads-nowhere (c .before .before .before .pre) West (c .before .enum-told4 .given .1) (le-ltb 0 _ h)
 
 sub-t15 : tie.Need-sub-t15
 sub-t15 c = not-first (c .before .before .before .pre) (c .if4 .left)
@@ -66,7 +68,9 @@ returns-7 : tie.Need-returns-7
 returns-7 c = leads-to (c .before .before .before .pre) South (c .before .enum-told3 .given .1) (lt-ltb _ _ (c .if3 .left))
 
 returns-8 : tie.Need-returns-8
-returns-8 c = let h : 0 < c .before .before .before .args .x % c .before .before .before .args .g .columns = omega arith in leads-to (c .before .before .before .pre) West (c .before .enum-told4 .given .1) (lt-ltb _ _ h)
+returns-8 c =
+    let h : 0 < c .before .before .before .args .x % c .before .before .before .args .g .columns = omega arith in
+    leads-to (c .before .before .before .pre) West (c .before .enum-told4 .given .1) (lt-ltb _ _ h)
 
 pub neighbour-spec : {M : Type 1} → statement M
 neighbour-spec =

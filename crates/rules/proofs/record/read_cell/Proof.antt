@@ -15,10 +15,15 @@ returns-3 : tie.Need-returns-3
 returns-3 c = clue-byte 2 (c .before .before .before .before .args .b) (omega arith) (omega arith) (omega arith) (omega arith)
 
 returns-4 : tie.Need-returns-4
-returns-4 c = clue-byte 3 (c .before .before .before .before .before .args .b) (omega arith) (omega arith) (omega arith) (omega arith)
+returns-4 c =
+    let at-start = c .before .before .before .before .before in
+    clue-byte 3 (at-start .args .b) (omega arith) (omega arith) (omega arith) (omega arith)
 
 returns-5 : tie.Need-returns-5
-returns-5 c = clue-byte 4 (c .before .before .before .before .before .before .args .b) (omega arith) (omega arith) (omega arith) (omega arith)
+returns-5 c =
+    let at-else1 = c .before .before .before .before in
+    let at-start = at-else1 .before .before in
+    clue-byte 4 (at-start .args .b) (omega arith) (omega arith) (omega arith) (omega arith)
 
 returns-6 : tie.Need-returns-6
 returns-6 c = under-clues _ (c .before .match .rest .1) (c .if1 .taken)

@@ -29,7 +29,11 @@ not-allowed-requires : tie.Need-not-allowed-requires Inv-loop μ-loop
 not-allowed-requires c κs = search needs
 
 returns : tie.Need-returns Inv-loop μ-loop
-returns c = seek-found (c .before .before .before .before .loop .inv) (c .before .before .before .loop-test .taken) (sym (c .before .not-allowed .ensures) ∙ c .if1 .taken) (c .before .before .before .before .before .size .ensures)
+returns c =
+    let in-loop = c .before .before .before in
+    let at-loop = in-loop .before in
+    let at-size = at-loop .before in
+    seek-found (at-loop .loop .inv) (in-loop .loop-test .taken) (sym (c .before .not-allowed .ensures) ∙ c .if1 .taken) (at-size .size .ensures)
 
 add-x : tie.Need-add-x Inv-loop μ-loop
 add-x c = search needs
@@ -38,7 +42,9 @@ loop-less : tie.Need-loop-less Inv-loop μ-loop
 loop-less c = search needs
 
 loop-again : tie.Need-loop-again Inv-loop μ-loop
-loop-again c = seek-on (c .before .before .before .before .loop .inv) (c .before .before .before .loop-test .taken) (sym (c .before .not-allowed .ensures) ∙ c .if1 .left)
+loop-again c =
+    seek-on (c .before .before .before .before .loop .inv) (c .before .before .before .loop-test .taken)
+    (sym (c .before .not-allowed .ensures) ∙ c .if1 .left)
 
 returns-2 : tie.Need-returns-2 Inv-loop μ-loop
 returns-2 c = seek-none (c .before .loop .inv) (c .loop-test .left) (c .before .before .size .ensures)
