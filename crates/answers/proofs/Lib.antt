@@ -3,5 +3,7 @@ pub mod Bools
 pub mod First
 pub mod Lent
 pub mod Lists
+pub mod OneToOne
 pub mod Rows
+pub mod ByRows
 pub mod Settled

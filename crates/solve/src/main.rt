@@ -10,6 +10,7 @@ use program_text::put_drawing;
 use program_text::put_refused;
 use program_text::put_word;
 use rules::MOST_CELLS;
+use search_call::Ending;
 use solver_call::Solved;
 use solver_call::solve;
 
@@ -52,11 +53,14 @@ fn solution_text(record: &[u8], text: &mut [u8]) -> usize
         &mut drawing,
         BUDGET,
     );
-    match answer {
-        Solved::Found(_) => put_cells(text, record, &drawing),
-        Solved::None(_) => put_word(text, 0, b"none\n"),
-        Solved::Halted(_) => put_word(text, 0, b"halted\n"),
-        Solved::Refused(_) => put_refused(text, answer.outcome().number as usize),
+    let Solved::Ended(end) = answer else {
+        return put_refused(text, answer.outcome().number as usize);
+    };
+    let ending = end.ending;
+    match ending {
+        Ending::Found => put_cells(text, record, &drawing),
+        Ending::None => put_word(text, 0, b"none\n"),
+        Ending::Halted => put_word(text, 0, b"halted\n"),
     }
 }
 
