@@ -5,4 +5,5 @@ pub mod Lent
 pub mod Lists
 pub mod OneToOne
 pub mod Rows
+pub mod ByRows
 pub mod Settled

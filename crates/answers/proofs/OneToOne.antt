@@ -12,9 +12,13 @@ pub record OneToOne {A : Type 0} (outcome : A → Outcome) : Type 0 where
   pub from : Outcome → A
   pub back : (a : A) → from (outcome a) ≡ a
 
+-- what can be taken back is one-to-one
+pub one-to-one-by : {A B : Type 0} (f : A → B) (g : B → A) → ((a : A) → g (f a) ≡ a) → (a b : A) → f a ≡ f b → a ≡ b
+one-to-one-by f g back a b e = sym (back a) ∙ ap g e ∙ back b
+
 -- so two answers with the same outcome are the same
 pub one-to-one : {A : Type 0} {outcome : A → Outcome} → OneToOne outcome → (a b : A) → outcome a ≡ outcome b → a ≡ b
-one-to-one o a b e = sym (o .back a) ∙ ap (o .from) e ∙ o .back b
+one-to-one {outcome = outcome} o = one-to-one-by outcome (o .from) (o .back)
 
 -- the numbers of the outcomes lie between low and high: an enum that holds this one tells its own cases from these by the number
 pub record Between {A : Type 0} (outcome : A → Outcome) (low high : ℕ) : Type 0 where

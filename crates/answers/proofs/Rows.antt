@@ -49,7 +49,7 @@ abbrev pub Clear : List Row → Type 0
 Clear rs = All (λ (r : Row). r .beside ≡ none) rs
 
 -- how many rows have no number, that is, 0
-abbrev unnumbered : List Row → ℕ
+abbrev pub unnumbered : List Row → ℕ
 unnumbered rs = howMany (λ (r : Row). eqb (r .number) 0) rs
 
 pub answered-clear : (rs : List Row) (t : Outcome) → unnumbered rs ≡ 0 → firstRefusal rs t .number ≡ 0 → Clear rs

@@ -1,6 +1,7 @@
--- How a call answers. Outcome: numbers and values of document 01's table. First: the first index at which a test holds.
+-- How a call answers. Outcome: numbers and values of document 01's table. ByRows: how a call goes by its rows. First: the first index at which a test holds.
 -- Lent: what is left in a lent buffer. Lists: counting, each and some.
 pub mod First
 pub mod Outcome
+pub mod ByRows
 pub mod Lent
 pub mod Lists

@@ -4,7 +4,7 @@ use native.Mathlib.Omega.{arith}
 use lib.IntN.{ℤ, pos}
 use lib.ListN.{length, take, replicate, length-replicate}
 use lib.Seq.{length-take-le}
-use mathlib.Core.Path.{_≡_, refl, _∙_, ap}
+use mathlib.Core.Path.{_≡_, refl, sym, _∙_, ap}
 use mathlib.Core.List.{List}
 use Rattle.answers.specs.Lent.{Wrote}
 use Rattle.answers.proofs.Lent.{wrote-recast}
@@ -12,8 +12,9 @@ use Rattle.rules.specs.Board.{boardOf}
 use Rattle.encoder.specs.Variables.{variableCount}
 use Rattle.encoder_size.specs.declared.Counts.{Counts}
 use Rattle.encoder_call.specs.Answer.{countsOutcome}
-use Rattle.search.specs.Run.{IsAccepted}
+use Rattle.search.specs.Call.{searchOn, Searching, IsTaken}
 use Rattle.solver.specs.SolutionCount.{SolutionCount, NoSolution, OneSolution, SeveralSolutions, Unknown, solutionCountIn, solutionCountOf}
+use Rattle.solver.specs.Begun.{BegunOn}
 use Rattle.solver.proofs.Begun as begun
 use Rattle.program_text.specs.Programs.{mostHeld, budget}
 use Rattle.program_text.proofs.Limits.{printed-text, printed-fits}
@@ -31,8 +32,18 @@ module _ {s : List ℕ} {new : List ℤ} {c : Counts} (w : Encodes s (countsOutc
   abbrev ms : List ℕ
   ms = take (c .variables) (replicate mostHeld 0)
 
-  pub taken : IsAccepted (length ts) (take (c .elements) new) ts ms 0
-  taken = rw (part-long (pos 0), listed w refl) (begun.taken s (read w refl) budget ts ms (part-long (pos 0)) (part-long 0))
+  pub taken : IsTaken Searching (searchOn (length ts) (take (c .elements) new) ts ms 0)
+  taken = begun.begun-taken s _ on
+    where
+      on : BegunOn s (searchOn (length ts) (take (c .elements) new) ts ms 0)
+      on =
+          record {
+            grid = read w refl;
+            variables = part-long (pos 0);
+            list = listed w refl;
+            empty = refl;
+            slices = record { trail = refl; marks = part-long 0 ∙ sym (part-long (pos 0)) };
+          }
 
   pub ends-counted : {m : SolutionCount} {buf after : List ℕ} {r : ℕ} → m ≡ solutionCountIn (length ts) (take (c .elements) new) budget
       → Wrote buf 0 (countLine m) after r → Wrote buf 0 (printedCount s) after r

@@ -7,8 +7,7 @@ use Rattle.encoder.specs.Variables.{variables, same, place}
 use Rattle.encoder.specs.Clauses.{clauses, clauseList}
 use Rattle.search.specs.Trail.{variableValue}
 use Rattle.search.specs.Step.{everyLiteral, firstClause, forcedAt, failedClause, forcedPlace, lowestUnassigned, undo, step}
-use Rattle.search.specs.Run.{run}
-use Rattle.search.specs.NextCall.{following}
+use Rattle.search.specs.Run.{run, following}
 use Rattle.program_text.specs.Lines.{noneLine, oneLine}
 use Rattle.count_solutions.specs.Printed.{printedCount}
 

@@ -8,7 +8,7 @@ use mathlib.Core.Logic.{_↔_}
 use mathlib.Core.List.{List}
 use Rattle.rules.specs.Board.{boardOf}
 use Rattle.rules.specs.Drawing.{SolutionBytes}
-use Rattle.demands.specs.Solutions.{OneSolution as HasOne, SeveralSolutions as HasSeveral}
+use Rattle.rules.specs.Solutions.{OneSolution as HasOne, SeveralSolutions as HasSeveral}
 use Rattle.solver.specs.SolutionCount.{SolutionCount, NoSolution, OneSolution, SeveralSolutions, Unknown, solutionCountOf}
 use Rattle.solver.proofs.SolutionCounts.{count-exactly}
 use Rattle.program_text.specs.Lines.{noneLine, oneLine, severalLine, haltedLine}

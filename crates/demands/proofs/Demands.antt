@@ -8,6 +8,8 @@ use Rattle.answers.specs.Outcome.{answer}
 use Rattle.answers.specs.Lent.{filled, unlessRefused}
 use Rattle.answers.proofs.First.{first-some, some-first}
 use Rattle.answers.proofs.Rows.{answered-clear, clear-answered}
+use Rattle.answers.proofs.ByRows.{by-rows, short}
+use Rattle.answers.proofs.Settled.{untouched}
 use Rattle.rules.specs.Record.{sides, recordRows}
 use Rattle.rules.specs.Board.{boardOf}
 use Rattle.rules.specs.Judge.{judgeRows, saysYes}
@@ -21,16 +23,14 @@ use Rattle.encoder.specs.Variables.{variableCount}
 use Rattle.encoder.specs.Clauses.{clauses, clauseList}
 use Rattle.encoder.specs.Encoding.{encoderRows, encoderAnswer}
 use Rattle.encoder_theory.proofs.Theorems as encoder
-use Rattle.search.specs.Trail.{trailImage, marksImage}
-use Rattle.search.specs.Run.{Done, doneOutcome, searched}
-use Rattle.search_theory.specs.Calls.{Searching}
-use Rattle.demands.specs.Searches.{rows, bySearch, begins}
+use Rattle.search.specs.Trail.{image}
+use Rattle.search.specs.Run.{Done, doneOutcome}
+use Rattle.search.specs.Call.{Searching, rowsOf, runs, bySearch}
+use Rattle.search_theory.proofs.Theorems as search
+use Rattle.search_theory.proofs.ListedSteps as steps
+use Rattle.solver.proofs.Begun as begun
 use Rattle.demands.specs.Demands.{Demand1, Demand2, Demand3}
-use Rattle.answers.proofs.Settled.{untouched}
-use Rattle.demands.proofs.Turning.{by-rows, short, decoder-call}
-use Rattle.demands.proofs.Stepping.{comes-to}
-use Rattle.demands.proofs.Calling as calling
-use Rattle.demands.proofs.Searching as searching
+use Rattle.demands.proofs.DecoderTable.{decoder-call}
 
 pub demand-1 : Demand1
 demand-1 =
@@ -41,12 +41,12 @@ demand-1 =
           by-rows (answer (length (clauseList (boardOf s))) (variableCount (boardOf s)) (length (clauses (boardOf s)))) refl _ (encoderRows s out) refl refl
           (untouched (encoderAnswer s out) out (filled out (clauseList (boardOf s))));
       decoder = λ s values lent. decoder-call s values lent _ refl;
-      search = λ c.
-          let done : Done = searched (c .variables) (c .list) (c .trail) (c .marks) (c .used) (c .budget) in
-          by-rows (doneOutcome done) refl _ (rows c) refl refl
-          (λ n. (untouched (bySearch c .outcome) (c .trail) (trailImage (c .variables) (done .trail)) n, untouched (bySearch c .outcome) (c .marks) (marksImage (c .variables) (done .trail)) n));
+      search = λ c budget.
+          let d : Done = runs Searching c budget in
+          by-rows (doneOutcome d) refl _ (rowsOf c Searching) refl refl (untouched (bySearch c budget .outcome) (c .slices) (image (c .variables) (d .trail)));
       writer = λ v ls out.
-          by-rows (answer (length (textOf v ls)) 0 0) refl _ (writerRows v ls (length out)) refl refl (untouched (writerAnswer v ls out) out (filled out (textOf v ls)));
+          by-rows (answer (length (textOf v ls)) 0 0) refl _ (writerRows v ls (length out)) refl refl
+          (untouched (writerAnswer v ls out) out (filled out (textOf v ls)));
       text-reader = λ text out.
           by-rows (answer (length (listOf text)) (headerOf text .variables) (headerOf text .clauses)) refl _ (readerRows text (length out)) refl refl
           (untouched (readerAnswer text out) out (filled out (listOf text)));
@@ -62,14 +62,16 @@ demand-2 =
       judge-right = rules.judge-right;
       clauses = λ b. refl;
       encoded = λ s out e.
-          let outcome = clear-answered (encoderRows s out) _ (answered-clear (encoderRows s out) _ refl e) in
-          (outcome ∙ ap (answer (length (clauseList (boardOf s))) (variableCount (boardOf s))) (sym (encoder.clauses-outcome (boardOf s))), ap (λ (t : Outcome). unlessRefused t out (filled out (clauseList (boardOf s)))) outcome);
+          let outcome = clear-answered (encoderRows s out) _ (answered-clear (encoderRows s out) _ refl e) in (
+            outcome ∙ ap (answer (length (clauseList (boardOf s))) (variableCount (boardOf s))) (sym (encoder.clauses-outcome (boardOf s))),
+            ap (λ (t : Outcome). unlessRefused t out (filled out (clauseList (boardOf s)))) outcome,
+          );
       text = λ v ls buf e.
           let outcome = clear-answered (writerRows v ls (length buf)) _ (answered-clear (writerRows v ls (length buf)) _ refl e) in
           record { outcome = outcome; left = ap (λ (t : Outcome). unlessRefused t buf (filled buf (textOf v ls))) outcome };
       reads-back = dimacs.write-read;
       written-again = λ text out buf e u room. dimacs.read-write text out buf (dimacs.narrow-exactly text .0 (reader-passed text out e .0, u)) e room;
-      listed-steps = λ c e. calling.stepped Searching c e (comes-to (c .variables) (c .list) (c .budget) (begins c));
+      listed-steps = λ c ok. steps.stepped ok;
     }
 
 pub demand-3 : Demand3
@@ -79,11 +81,11 @@ demand-3 =
       comes-from-one = λ s acc ds S.
           let (a, h, d) = encoder.comes-from-one s acc ds S in
           (a, h, d, λ c k e. encoder.comes-from-only-one s acc ds c a k e h d);
-      same-open = searching.same-open;
-      unless-halted = searching.unless-halted;
-      few-steps = calling.few-steps Searching;
-      halted-steps = calling.halted-steps Searching;
-      begun-taken = searching.begun-taken;
-      none-exactly = searching.none-exactly;
-      found-decodes = searching.found-decodes;
+      same-open = λ c ok. search.same-open ok;
+      unless-halted = λ c ok. search.unless-halted ok;
+      few-steps = λ c ok. search.few-steps ok;
+      halted-steps = λ c ok. search.halted-steps ok;
+      begun-taken = begun.begun-taken;
+      none-exactly = begun.none-exactly;
+      found-decodes = begun.found-decodes;
     }

@@ -1,11 +1,8 @@
--- Read Demands.antt, the three demands, Following.antt, Budgets.antt and Lines.antt, requests E1, E2 and E3, and Stars.antt, the starred cases. The others prove
--- what these need beyond the theories.
+-- Read Demands.antt, the three demands, RequestE1.antt, RequestE2.antt and RequestE3.antt, and Stars.antt, the starred cases: short proofs that cite the
+-- theories and solver.
 pub mod Demands
+pub mod RequestE1
+pub mod RequestE2
+pub mod RequestE3
 pub mod Stars
-pub mod Turning
-pub mod Calling
-pub mod Stepping
-pub mod Searching
-pub mod Following
-pub mod Budgets
-pub mod Lines
+pub mod DecoderTable

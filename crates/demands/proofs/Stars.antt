@@ -12,6 +12,7 @@ use Rattle.answers.specs.First.{firstFrom}
 use Rattle.answers.specs.Lists.{All}
 use Rattle.rules.specs.Record.{recordAnswer}
 use Rattle.rules.specs.Board.{boardOf, outward}
+use Rattle.rules.specs.Solutions.{Solutions}
 use Rattle.rules.specs.Walk.{around, among}
 use Rattle.rules.specs.Judge.{judgeAnswer, saysYes}
 use Rattle.rules_theory.proofs.Theorems.{judge-right}
@@ -24,18 +25,15 @@ use Rattle.encoder.proofs.Cases as grids
 use Rattle.encoder.proofs.Lists.{all-append}
 use Rattle.search.specs.Trail.{trailOf, variableValue}
 use Rattle.search.specs.Step.{everyLiteral, firstClause, forcedAt, failedClause, forcedPlace, lowestUnassigned, undo, step}
-use Rattle.search.specs.Run.{None, endingNumber, run}
-use Rattle.search.specs.NextCall.{following}
+use Rattle.search.specs.Run.{None, endingNumber, run, following}
+use Rattle.search.specs.Call.{Search, Handed, searchOn, Searching, bySearch}
 use Rattle.search.proofs.Cases as lists
-use Rattle.search_theory.specs.Calls.{Searching}
 use Rattle.search_theory.specs.Listing.{none}
-use Rattle.demands.specs.Searches.{Search, bySearch, BegunOn}
-use Rattle.demands.specs.Solutions.{Solutions}
 use Rattle.dimacs.specs.Sample.{oneCellText}
+use Rattle.search_theory.proofs.Handed.{taken-answered, ends-at}
+use Rattle.solver.specs.Begun.{BegunOn}
+use Rattle.solver.proofs.Begun.{begun-taken, next-hands, then-none, lists-solutions}
 use Rattle.demands.specs.Stars.{GridStar, TextIs, searchOf, GridHolds, grid, refused, list, Holds, gridCase, gridStars, stars}
-use Rattle.demands.proofs.Calling.{at-end}
-use Rattle.demands.proofs.Searching.{begun-taken}
-use Rattle.demands.proofs.Following.{goes-to, then-none, lists-solutions}
 
 -- lists that were computed whole, case by case
 at-each : {A B : Type 0} (f g : A → B) (cs : List A) → map f cs ≡ map g cs → All (λ c. f c ≡ g c) cs
@@ -82,18 +80,11 @@ printed-text = refl
 
 -- the search begun empty on its clauses
 abbrev begun : GridStar → Search
-begun g =
-    record {
-      variables = g .grid .outcome .second;
-      list = g .grid .list;
-      trail = replicate (g .grid .outcome .second) (pos 0);
-      marks = replicate (g .grid .outcome .second) 0;
-      used = 0;
-      budget = 1000000;
-    }
+begun g = let v : ℕ = g .grid .outcome .second in searchOn v (g .grid .list) (replicate v (pos 0)) (replicate v 0) 0
 
 -- what is computed of a grid, with the number of its solutions
-module _ (g : GridStar) (e : computes g ≡ claims g) (encoded : grids.encodes (g .grid) ≡ g .grid) (text : TextIs (g .grid .outcome .second) (g .grid .list) (g .text)) where
+module _ (g : GridStar) (e : computes g ≡ claims g) (encoded : grids.encodes (g .grid) ≡ g .grid)
+    (text : TextIs (g .grid .outcome .second) (g .grid .list) (g .text)) where
   begun-on : BegunOn (g .grid .bytes) (begun g)
   begun-on =
       record {
@@ -101,11 +92,10 @@ module _ (g : GridStar) (e : computes g ≡ claims g) (encoded : grids.encodes (
         variables = sym (ap (λ (f : Facts). f .variables) e);
         list = sym (ap (λ (f : Facts). f .clauses) e);
         empty = refl;
-        trail = length-replicate (g .grid .outcome .second) (pos 0);
-        marks = length-replicate (g .grid .outcome .second) 0;
+        slices = record { trail = length-replicate (g .grid .outcome .second) (pos 0); marks = length-replicate (g .grid .outcome .second) 0 };
       }
 
-  says : bySearch (begun g) .outcome ≡ g .says
+  says : bySearch (begun g) 1000000 .outcome ≡ g .says
   says = ap (λ (f : Facts). f .says) e
 
   holds : {dss : List (List ℕ)} → dss ≡ g .solutions → Solutions (boardOf (g .grid .bytes)) dss → GridHolds g
@@ -119,18 +109,26 @@ module _ (g : GridStar) (e : computes g ≡ claims g) (encoded : grids.encodes (
       }
 
   none-holds : {n u : ℕ} → g .says ≡ answer 2 n u → [] ≡ g .solutions → GridHolds g
-  none-holds h q = holds q (lists-solutions (g .grid .bytes) (begun g) begun-on [] (none 1000000 (says ∙ h)))
+  none-holds h q =
+      let answered = taken-answered Searching (begun g) 1000000 .0 (begun-taken (g .grid .bytes) (begun g) begun-on) in
+      holds q (lists-solutions (g .grid .bytes) (begun g) begun-on [] (none 1000000 (answered, ap (λ (t : Outcome). t .first) (says ∙ h))))
 
   one-holds : {ds : List ℕ} → g .says .first ≡ 1 → ds ∷ [] ≡ g .solutions → judgeAnswer (g .grid .bytes) ds ≡ saysYes
       → following (g .grid .outcome .second) (g .grid .list) 1000000 (run (g .grid .outcome .second) (g .grid .list) 1000000 [] .trail) .ending ≡ None
       → GridHolds g
   unfolding trailOf
   one-holds {ds} n q judged last =
+      let v : ℕ = g .grid .outcome .second in
       let found = ap (λ (t : Outcome). t .first) says ∙ n in
-      let ends = ap (λ t. following (g .grid .outcome .second) (g .grid .list) 1000000 t .ending) (at-end Searching (begun g) (begun-taken (g .grid .bytes) (begun g) begun-on)) ∙ last in
-      let o = then-none (g .grid .bytes) (begun g) begun-on found 1000000 (ap (λ (t : Outcome). t .first) (goes-to (g .grid .bytes) (begun g) begun-on found 1000000) ∙ ap endingNumber ends) in
+      let ends = ap (λ t. following v (g .grid .list) 1000000 t .ending) (ends-at (begun-taken (g .grid .bytes) (begun g) begun-on) 1000000) ∙ last in
+      let hands = next-hands (g .grid .bytes) (begun g) begun-on 1000000 found 1000000 in
+      let o = then-none (g .grid .bytes) (begun g) begun-on 1000000 found 1000000 (ap (λ (h : Handed). h .outcome .first) hands ∙ ap endingNumber ends) in
       let S = judge-right (g .grid .bytes) (begun-on .grid) ds .0 judged in
-      holds q (record { apart = (λ y m e. List·Memᴰ·not-nil m, tt); each = (S, tt); all = λ es R. List·Memᴰ·head (o .only es R ∙ sym (o .only ds S)) })
+      holds q (record {
+        apart = (λ y m e. List·Memᴰ·not-nil m, tt);
+        each = (S, tt);
+        all = λ es R. List·Memᴰ·head (o .only es R ∙ sym (o .only ds S));
+      })
 
 grids-hold : All GridHolds gridStars
 grids-hold = by (at-each computes claims gridStars computed) (at-each grids.encodes (λ g. g) grids.cases grids.cases-hold)

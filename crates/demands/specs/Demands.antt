@@ -1,11 +1,11 @@
--- The three demands of the request, each one statement, in its order and words; what is in quotation marks is the request's.
--- They speak of the definitions to which contracts bind the code. An "Answer" is what a call tells: 0 as its number, or the number of a refusal; "Leaves" and
--- "After" is what it leaves in a lent buffer. The function whose contract carries each to the code:
+-- The three demands of the request, each one statement, in its order; what is in quotation marks is the request's, word for word.
+-- They speak of the definitions to which contracts bind the code. An "Answer" is what a call tells: 0 as its number, or the number of a refusal; "Leaves"
+-- is what it leaves in a lent buffer. The function whose contract carries each to the code:
 --   recordAnswer                            the record reader, `rules::record::read`
 --   judgeAnswer                             the judge, `judge::judge`
 --   encoderAnswer, encoderLeaves            the encoder, `encoder_call::encode`
 --   decoderAnswer, decoderLeaves            the decoder, `decoder::decode`
---   searchAnswer, trailAfter, marksAfter    the search, `search_call::search` (here `bySearch` of what the call gets)
+--   bySearch, all that it hands out         the search, `search_call::search`
 --   writerAnswer, writerLeaves              the text writer, `dimacs_writer::write`
 --   readerAnswer, readerLeaves              the text reader, `dimacs_reader::read`
 use Prim.Native.Nat.{ℕ, _+_, _-_, _≤_, _<_, _^_}
@@ -19,6 +19,7 @@ use mathlib.Core.List.{List, [], _∷_, _++_}
 use Rattle.answers.specs.First.{firstWhere, Least}
 use Rattle.answers.specs.Outcome.{answer}
 use Rattle.answers.specs.Lent.{capped, tooShort, filled}
+use Rattle.answers.specs.ByRows.{ByRows}
 use Rattle.rules.specs.Record.{recordRows, recordAnswer, IsAccepted}
 use Rattle.rules.specs.Board.{Board, boardOf}
 use Rattle.rules.specs.Drawing.{SolutionBytes}
@@ -36,35 +37,42 @@ use Rattle.encoder.specs.Encoding.{encoderRows, encoderAnswer, encoderLeaves}
 use Rattle.encoder.specs.Decoding.{decoderAnswer, decoderLeaves, Satisfying, DecodesTo}
 use Rattle.search.specs.Trail.{valuesOf}
 use Rattle.search.specs.Run.{Found, None, Halted}
-use Rattle.search_theory.specs.Openings.{OpenAt, NoneOpenAt, FoundOne}
-use Rattle.demands.specs.Table.{Call, decoderTable}
-use Rattle.demands.specs.Searches.{Search, rows, bySearch, IsTaken, begins, Says, steps, endsAt, BegunOn, ComesTo, Stepped}
+use Rattle.search.specs.Call.{Search, Searching, rowsOf, begins, IsTaken, bySearch, Says, steps, endsAt}
+use Rattle.search_theory.specs.Openings.{OpenAt, FoundOne}
+use Rattle.search_theory.specs.ListedSteps.{Stepped}
+use Rattle.solver.specs.Begun.{BegunOn}
+use Rattle.demands.specs.DecoderTable.{decoderTable}
 
--- DEMAND 1. "Input that breaks document 01, or an output that is too short, is turned down with the number and place given there, and every lent buffer
--- stays as it was; all other input is answered, and every call ends."
+-- DEMAND 1
 pub record Demand1 : Type 0 where
+  -- "If a record, drawing, value list, clause list, trail or text breaks document 01, or an output is too short, the call is turned down with the number and
+  -- place given there and every lent buffer stays as it was; all other input is answered,"
   -- (Each call with the numbers of its rows in document 01's order, its rows, what it tells, and that its lent buffers are as they were; record reader and
-  -- judge are lent none. `Call` says the rest.)
-  pub record-reader : (s : List ℕ) → Call (1 ∷ 2 ∷ 3 ∷ 4 ∷ 5 ∷ []) (recordRows s) (recordAnswer s) Unit
-  pub judge : (s ds : List ℕ) → Call (1 ∷ 2 ∷ 3 ∷ 4 ∷ 5 ∷ 7 ∷ 10 ∷ 11 ∷ 12 ∷ 13 ∷ 14 ∷ 15 ∷ []) (recordRows s ++ judgeRows (boardOf s) ds) (judgeAnswer s ds) Unit
-  pub encoder : (s : List ℕ) (out : List ℤ) → Call (1 ∷ 2 ∷ 3 ∷ 4 ∷ 5 ∷ 6 ∷ []) (encoderRows s out) (encoderAnswer s out) (encoderLeaves s out ≡ out)
+  -- judge are lent none. `ByRows` says the rest.)
+  pub record-reader : (s : List ℕ) → ByRows (1 ∷ 2 ∷ 3 ∷ 4 ∷ 5 ∷ []) (recordRows s) (recordAnswer s) Unit
+  pub judge : (s ds : List ℕ)
+      → ByRows (1 ∷ 2 ∷ 3 ∷ 4 ∷ 5 ∷ 7 ∷ 10 ∷ 11 ∷ 12 ∷ 13 ∷ 14 ∷ 15 ∷ []) (recordRows s ++ judgeRows (boardOf s) ds) (judgeAnswer s ds) Unit
+  pub encoder : (s : List ℕ) (out : List ℤ) → ByRows (1 ∷ 2 ∷ 3 ∷ 4 ∷ 5 ∷ 6 ∷ []) (encoderRows s out) (encoderAnswer s out) (encoderLeaves s out ≡ out)
   pub decoder : (s values lent : List ℕ)
-      → Call (1 ∷ 2 ∷ 3 ∷ 4 ∷ 5 ∷ 8 ∷ 7 ∷ 9 ∷ 10 ∷ 11 ∷ 12 ∷ 13 ∷ 14 ∷ 15 ∷ []) (decoderTable s values lent) (decoderAnswer s values lent) (decoderLeaves s values lent ≡ lent)
-  pub search : (c : Search) → Call (17 ∷ 16 ∷ 18 ∷ []) (rows c) (bySearch c .outcome) ((bySearch c .trail ≡ c .trail) × (bySearch c .marks ≡ c .marks))
-  pub writer : (v : ℕ) (ls : List ℤ) (out : List ℕ) → Call (17 ∷ 16 ∷ 6 ∷ []) (writerRows v ls (length out)) (writerAnswer v ls out) (writerLeaves v ls out ≡ out)
-  pub text-reader : (text : List ℕ) (out : List ℤ) → Call (19 ∷ 6 ∷ []) (readerRows text (length out)) (readerAnswer text out) (readerLeaves text out ≡ out)
+      → ByRows (1 ∷ 2 ∷ 3 ∷ 4 ∷ 5 ∷ 8 ∷ 7 ∷ 9 ∷ 10 ∷ 11 ∷ 12 ∷ 13 ∷ 14 ∷ 15 ∷ []) (decoderTable s values lent) (decoderAnswer s values lent)
+      (decoderLeaves s values lent ≡ lent)
+  pub search : (c : Search) (budget : ℕ)
+      → ByRows (17 ∷ 16 ∷ 18 ∷ []) (rowsOf c Searching) (bySearch c budget .outcome) (bySearch c budget .slices ≡ c .slices)
+  pub writer : (v : ℕ) (ls : List ℤ) (out : List ℕ) → ByRows (17 ∷ 16 ∷ 6 ∷ []) (writerRows v ls (length out)) (writerAnswer v ls out) (writerLeaves v ls out ≡ out)
+  pub text-reader : (text : List ℕ) (out : List ℤ) → ByRows (19 ∷ 6 ∷ []) (readerRows text (length out)) (readerAnswer text out) (readerLeaves text out ≡ out)
   -- (The places: each "first .." of the table is the least index at which a test holds; beside 6 stand the elements needed; and the place beside 19 is the
   -- "first byte where no accepted text can go on, or the text's length if it ends too soon".)
   pub first-place : (p : ℕ → Bool) (n m : ℕ) → firstWhere p n ≡ some m ↔ Least p n m
   pub too-short : (room needed n : ℕ) → tooShort room needed ≡ some n ↔ (room < needed) × (n ≡ capped needed)
   pub text-place : (text : List ℕ) (k : ℕ) → refusedAt text ≡ some k ↔ Refused Accepted text k
-  -- (Every call ends: this is the language's, whose check proves of each function that it returns.)
+  -- "and every call ends."
+  -- (This is the language's, whose check proves of each function that it returns.)
 
 -- DEMAND 2
 pub record Demand2 : Type 0 where
-  -- "The judge says yes exactly when a drawing keeps every rule;"
+  -- "The judge says yes exactly when a drawing keeps every Yajilin rule;"
   pub judge-right : (s : List ℕ) → IsAccepted s → (ds : List ℕ) → judgeAnswer s ds ≡ saysYes ↔ SolutionBytes (boardOf s) ds
-  -- "the clauses are document 01's in its order;"
+  -- "the clauses are those of document 01 in its order;"
   -- (Unless turned down, the encoder writes them and touches nothing past them; it tells the count of elements written, V and the number of clauses.)
   pub clauses : (b : Board) → clauseList b ≡ each (joined (touching b ∷ clueLines b ∷ links b ∷ start b ∷ distance b ∷ [])) (written b)
   pub encoded : (s : List ℕ) (out : List ℤ) → encoderAnswer s out .number ≡ 0
@@ -79,30 +87,36 @@ pub record Demand2 : Type 0 where
   -- (Its first byte is no `c`. What was read is written, given room.)
   pub written-again : (text : List ℕ) (out : List ℤ) (buf : List ℕ) → readerAnswer text out .number ≡ 0 → (getD text 0 0 ≡ 99 → ⊥) → length text ≤ length buf
       → Writes (readerAnswer text out .second) (elementsRead text out) buf text
-  -- "the search makes the listed steps, no others."
-  pub listed-steps : (c : Search) → IsTaken c → Stepped (c .variables) (ComesTo (c .variables) (c .list) (begins c) (c .budget)) (bySearch c)
+  -- "and the search makes the listed steps, no others."
+  pub listed-steps : (c : Search) → IsTaken Searching c → (budget : ℕ) → Stepped Searching c budget (bySearch c budget)
 
 -- DEMAND 3
 pub record Demand3 : Type 0 where
-  -- "Each satisfying assignment of an accepted grid's clauses decodes to a solution,"
+  -- "Whatever the accepted grid, each satisfying assignment of its clauses decodes to a solution,"
   pub decodes : (s : List ℕ) → IsAccepted s → (a : List Bool) → Satisfying s a → (ds : List ℕ) × DecodesTo s a ds × SolutionBytes (boardOf s) ds
-  -- "and each solution comes from exactly one of them."
+  -- "and each solution comes from exactly one of those assignments."
   pub comes-from-one : (s : List ℕ) → IsAccepted s → (ds : List ℕ) → SolutionBytes (boardOf s) ds
       → (a : List Bool) × Satisfying s a × DecodesTo s a ds × ((c : List Bool) → Satisfying s c → DecodesTo s c ds → c ≡ a)
-  -- "For any accepted list, trail and budget, the satisfying assignments open at the search's beginning are those open at its end;"
-  pub same-open : (c : Search) → IsTaken c → (a : List Bool) → OpenAt (c .variables) (c .list) (begins c) a ↔ OpenAt (c .variables) (c .list) (endsAt (bySearch c)) a
-  -- "unless halted it says 'none' if there are none, else 'found' with one of them as its trail."
-  pub unless-halted : (c : Search) → IsTaken c → (Says (bySearch c) Halted → ⊥)
-      → (Says (bySearch c) None × NoneOpenAt (c .variables) (c .list) (begins c)) ⊎ (Says (bySearch c) Found × FoundOne (c .variables) (c .list) (begins c) (endsAt (bySearch c)))
-  -- "Its steps are at most the budget and at most 2^(V+1) − 1;"
-  pub few-steps : (c : Search) → IsTaken c → (steps (bySearch c) ≤ c .budget) × (steps (bySearch c) ≤ 2 ^ (c .variables + 1) - 1)
-  -- "if halted, they are the whole budget and fewer than 2^(V+1) − 1."
-  pub halted-steps : (c : Search) → IsTaken c → Says (bySearch c) Halted → (steps (bySearch c) ≡ c .budget) × (steps (bySearch c) < 2 ^ (c .variables + 1) - 1)
+  -- "Whatever accepted list and trail the search begins with, and whatever its budget, the satisfying assignments open at its beginning are exactly those open
+  -- at its end."
+  pub same-open : (c : Search) → IsTaken Searching c → (budget : ℕ) (a : List Bool)
+      → OpenAt (c .variables) (c .list) (begins c) a ↔ OpenAt (c .variables) (c .list) (endsAt (bySearch c budget)) a
+  -- "Unless halted, it says "none" if there are none, and otherwise "found", with one of them as its trail."
+  pub unless-halted : (c : Search) → IsTaken Searching c → (budget : ℕ) → (Says (bySearch c budget) Halted → ⊥)
+      → (Says (bySearch c budget) None × ((a : List Bool) → OpenAt (c .variables) (c .list) (begins c) a → ⊥))
+      ⊎ (Says (bySearch c budget) Found × FoundOne Searching c (endsAt (bySearch c budget)))
+  -- "The steps it reports for V variables are at most its budget and at most 2^(V+1) − 1;"
+  pub few-steps : (c : Search) → IsTaken Searching c → (budget : ℕ)
+      → (steps (bySearch c budget) ≤ budget) × (steps (bySearch c budget) ≤ 2 ^ (c .variables + 1) - 1)
+  -- "if it is halted, they are its whole budget and fewer than 2^(V+1) − 1."
+  pub halted-steps : (c : Search) → IsTaken Searching c → (budget : ℕ) → Says (bySearch c budget) Halted
+      → (steps (bySearch c budget) ≡ budget) × (steps (bySearch c budget) < 2 ^ (c .variables + 1) - 1)
   -- "Begun empty on a grid's clauses and not halted,"
   -- (No search turns a grid's clauses down.)
-  pub begun-taken : (s : List ℕ) (c : Search) → BegunOn s c → IsTaken c
-  -- "it says 'none' exactly when the grid has no solution,"
-  pub none-exactly : (s : List ℕ) (c : Search) → BegunOn s c → (Says (bySearch c) Halted → ⊥) → Says (bySearch c) None ↔ ((ds : List ℕ) → SolutionBytes (boardOf s) ds → ⊥)
-  -- "and at 'found' its trail decodes to one."
-  pub found-decodes : (s : List ℕ) (c : Search) → BegunOn s c → Says (bySearch c) Found
-      → (ds : List ℕ) × DecodesTo s (valuesOf (c .variables) (endsAt (bySearch c))) ds × SolutionBytes (boardOf s) ds
+  pub begun-taken : (s : List ℕ) (c : Search) → BegunOn s c → IsTaken Searching c
+  -- "it says "none" exactly when the grid has no solution,"
+  pub none-exactly : (s : List ℕ) (c : Search) → BegunOn s c → (budget : ℕ) → (Says (bySearch c budget) Halted → ⊥)
+      → Says (bySearch c budget) None ↔ ((ds : List ℕ) → SolutionBytes (boardOf s) ds → ⊥)
+  -- "and at "found" its trail decodes to one."
+  pub found-decodes : (s : List ℕ) (c : Search) → BegunOn s c → (budget : ℕ) → Says (bySearch c budget) Found
+      → (ds : List ℕ) × DecodesTo s (valuesOf (c .variables) (endsAt (bySearch c budget))) ds × SolutionBytes (boardOf s) ds

@@ -1,10 +1,8 @@
--- The three demands of the request. Read Demands.antt: each demand is one statement. Table, Searches and Solutions have the words that it needs beyond
--- those of the calls' definitions; Stars has the starred cases of document 01. Following, Budgets, Lines: document 02's requests E1, E2 and E3.
-pub mod Table
-pub mod Searches
-pub mod Solutions
+-- The three demands of the request. Read Demands.antt: each demand is one statement. Then RequestE1, RequestE2, RequestE3: document 02's requests.
+-- Stars has the starred cases of document 01. DecoderTable: the decoder's rows in the order of document 01's table.
+pub mod DecoderTable
 pub mod Demands
+pub mod RequestE1
+pub mod RequestE2
+pub mod RequestE3
 pub mod Stars
-pub mod Following
-pub mod Budgets
-pub mod Lines

@@ -9,12 +9,12 @@ use Rattle.answers.specs.declared.Outcome.{Outcome}
 use Rattle.answers.specs.Outcome.{answer}
 use Rattle.rules.specs.Record.{recordAnswer, IsAccepted}
 use Rattle.rules.specs.Board.{boardOf}
+use Rattle.rules.specs.Solutions.{Solutions}
 use Rattle.rules_theory.proofs.Cases as records
 use Rattle.dimacs.specs.Text.{textOf}
 use Rattle.dimacs.specs.Sample.{oneCellText}
 use Rattle.encoder.proofs.Cases as grids
 use Rattle.search.proofs.Cases as lists
-use Rattle.demands.specs.Solutions.{Solutions}
 
 -- a grid: its record, what the encoder tells (elements, V, clauses) and writes; its solutions; what the search begun empty tells (1 found or 2 none,
 -- the steps, the used count); its DIMACS text, where document 01 prints it

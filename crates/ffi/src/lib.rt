@@ -6,8 +6,8 @@ ghost use Rattle.rules.specs.Judge.{judgeAnswer};
 ghost use Rattle.dimacs.specs.Calls.{writerAnswer, writerLeaves, readerAnswer, readerLeaves};
 ghost use Rattle.encoder.specs.Encoding.{encoderAnswer, encoderLeaves};
 ghost use Rattle.encoder.specs.Decoding.{decoderAnswer, decoderLeaves};
-ghost use Rattle.search.specs.Run.{searchAnswer, trailAfter, marksAfter};
-ghost use Rattle.search.specs.NextCall.{nextAnswer, nextTrail, nextMarks};
+ghost use Rattle.search.specs.Trail.{slices};
+ghost use Rattle.search.specs.Call.{searchOn, bySearch, byNext};
 
 // Is the drawing a solution of the record's grid? Answered: yes, four zeros.
 #[no_mangle]
@@ -84,10 +84,9 @@ pub extern "C" fn yajilin_search(
     budget: u64,
     answer: &mut [u64; 4],
 ) -> u64
-    ensures { λ r. ⌜ r ≡ searchAnswer variables (now (list .entry)) (now (trail .entry)) (now (marks .entry)) used budget .number ⌝ }
-    ensures { λ r. ⌜ now (trail .exit) ≡ trailAfter variables (now (list .entry)) (now (trail .entry)) (now (marks .entry)) used budget ⌝ }
-    ensures { λ r. ⌜ now (marks .exit) ≡ marksAfter variables (now (list .entry)) (now (trail .entry)) (now (marks .entry)) used budget ⌝ }
-    ensures { λ r. ⌜ now (answer .exit) ≡ words (searchAnswer variables (now (list .entry)) (now (trail .entry)) (now (marks .entry)) used budget) ⌝ }
+    ensures { λ r. ⌜ r ≡ bySearch (searchOn variables (now (list .entry)) (now (trail .entry)) (now (marks .entry)) used) budget .outcome .number ⌝ }
+    ensures { λ r. ⌜ slices (now (trail .exit)) (now (marks .exit)) ≡ bySearch (searchOn variables (now (list .entry)) (now (trail .entry)) (now (marks .entry)) used) budget .slices ⌝ }
+    ensures { λ r. ⌜ now (answer .exit) ≡ words (bySearch (searchOn variables (now (list .entry)) (now (trail .entry)) (now (marks .entry)) used) budget .outcome) ⌝ }
 {
     let found = search_call::search(
         variables as usize,
@@ -111,10 +110,9 @@ pub extern "C" fn yajilin_next(
     budget: u64,
     answer: &mut [u64; 4],
 ) -> u64
-    ensures { λ r. ⌜ r ≡ nextAnswer variables (now (list .entry)) (now (trail .entry)) (now (marks .entry)) used budget .number ⌝ }
-    ensures { λ r. ⌜ now (trail .exit) ≡ nextTrail variables (now (list .entry)) (now (trail .entry)) (now (marks .entry)) used budget ⌝ }
-    ensures { λ r. ⌜ now (marks .exit) ≡ nextMarks variables (now (list .entry)) (now (trail .entry)) (now (marks .entry)) used budget ⌝ }
-    ensures { λ r. ⌜ now (answer .exit) ≡ words (nextAnswer variables (now (list .entry)) (now (trail .entry)) (now (marks .entry)) used budget) ⌝ }
+    ensures { λ r. ⌜ r ≡ byNext (searchOn variables (now (list .entry)) (now (trail .entry)) (now (marks .entry)) used) budget .outcome .number ⌝ }
+    ensures { λ r. ⌜ slices (now (trail .exit)) (now (marks .exit)) ≡ byNext (searchOn variables (now (list .entry)) (now (trail .entry)) (now (marks .entry)) used) budget .slices ⌝ }
+    ensures { λ r. ⌜ now (answer .exit) ≡ words (byNext (searchOn variables (now (list .entry)) (now (trail .entry)) (now (marks .entry)) used) budget .outcome) ⌝ }
 {
     let found = search_next::next(
         variables as usize,

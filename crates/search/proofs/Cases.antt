@@ -9,7 +9,8 @@ use Rattle.answers.specs.First.{firstFrom}
 use Rattle.answers.specs.Outcome.{answer}
 use Rattle.search.specs.Trail.{trailOf, variableValue}
 use Rattle.search.specs.Step.{everyLiteral, firstClause, forcedAt, failedClause, forcedPlace, lowestUnassigned, undo, step}
-use Rattle.search.specs.Run.{run, searchAnswer}
+use Rattle.search.specs.Run.{run}
+use Rattle.search.specs.Call.{searchOn, bySearch}
 
 -- V and a list, and what the search tells with budget 1,000,000: 1 found or 2 none, the steps, the used count
 pub record Case : Type 0 where
@@ -26,7 +27,7 @@ cases =
     []
 
 abbrev pub fromEmpty : Case → Outcome
-fromEmpty c = searchAnswer (c .v) (c .list) (replicate (c .v) (pos 0)) (replicate (c .v) 0) 0 1000000
+fromEmpty c = bySearch (searchOn (c .v) (c .list) (replicate (c .v) (pos 0)) (replicate (c .v) 0) 0) 1000000 .outcome
 
 pub cases-hold : map fromEmpty cases ≡ map (λ (c : Case). c .says) cases
 unfolding firstFrom trailOf variableValue everyLiteral firstClause forcedAt failedClause forcedPlace lowestUnassigned undo step run

@@ -1,8 +1,8 @@
--- Laws of the search's definitions. Cases: the starred lists, computed. Orders, Nexts: calls of the search and of `next`, computed.
--- Slices: a run that is halted and gone on with.
+-- Laws of the search's definitions. Cases: the starred lists, computed. OrderCases, NextCases: calls of the search and of `next`, computed.
+-- BudgetSums: a run that is halted and continued.
 pub mod Trails
 pub mod Endings
 pub mod Cases
-pub mod Orders
-pub mod Nexts
-pub mod Slices
+pub mod OrderCases
+pub mod NextCases
+pub mod BudgetSums

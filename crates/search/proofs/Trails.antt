@@ -1,17 +1,23 @@
 -- The image of a trail in the buffers, and the trail read from them, undo each other. Assumes nothing.
-use Prim.Native.Nat.{ℕ, zero, suc, _+_, _-_, _≤_}
+use Prim.Native.Nat.{ℕ, zero, suc, _+_, _-_, _≤_, _<_}
 use native.Mathlib.Omega.{arith}
 use lib.IntN.{ℤ, pos}
 use lib.ListN.{length, getD, take, replicate}
 use lib.Seq.{take-suc, append-snoc}
 use mathlib.Core.Path.{_≡_, refl, sym, _∙_, ap}
 use mathlib.Core.List.{List, [], _∷_, _++_}
-use Rattle.search.specs.Trail.{Entry, entry, Trail, laid, trailImage, marksImage, entryAt, trailOf}
+use Rattle.search.specs.Trail.{Entry, entry, Trail, Slices, slices, laid, imageBy, image, entryAt, trailOf}
 
-pub length-trail : (ts : List ℤ) (ms : List ℕ) (n : ℕ) → length (trailOf ts ms n) ≡ n
+pub length-trail : (s : Slices) (n : ℕ) → length (trailOf s n) ≡ n
 unfolding trailOf
-length-trail ts ms zero = refl
-length-trail ts ms (suc n) = ap suc (length-trail ts ms n)
+length-trail s zero = refl
+length-trail s (suc n) = ap suc (length-trail s n)
+
+-- entries that are the same make the same trail
+pub same-trail : (s r : Slices) (n : ℕ) → ((i : ℕ) → i < n → entryAt s i ≡ entryAt r i) → trailOf s n ≡ trailOf r n
+unfolding trailOf
+same-trail s r zero h = refl
+same-trail s r (suc n) h = (λ t. h n (omega arith) t ∷ same-trail s r n (λ i l. h i (omega arith)) t)
 
 pub length-laid : {A : Type 0} (f : Entry → A) (t : Trail) (rest : List A) → length (laid f t rest) ≡ length t + length rest
 unfolding laid
@@ -27,7 +33,7 @@ laid-rest f (e ∷ t) rest k d =
     rw s (laid-rest f t (f e ∷ rest) (suc k) d)
 
 -- the trail read from its image
-read-laid : (t : Trail) (ts : List ℤ) (ms : List ℕ) → trailOf (laid (λ e. e .literal) t ts) (laid (λ e. e .mark) t ms) (length t) ≡ t
+read-laid : (t : Trail) (ts : List ℤ) (ms : List ℕ) → trailOf (slices (laid (λ e. e .literal) t ts) (laid (λ e. e .mark) t ms)) (length t) ≡ t
 unfolding laid trailOf
 read-laid [] ts ms = refl
 read-laid (e ∷ t) ts ms =
@@ -36,22 +42,25 @@ read-laid (e ∷ t) ts ms =
     last : {A : Type 0} (f : Entry → A) (rest : List A) (d : A) → getD (laid f t (f e ∷ rest)) (length t) d ≡ f e
     last f rest d = let z : length t + 0 ≡ length t = omega arith in rw z at (laid-rest f t (f e ∷ rest) 0 d)
 
-pub read-image : (v : ℕ) (t : Trail) → trailOf (trailImage v t) (marksImage v t) (length t) ≡ t
+pub read-image : (v : ℕ) (t : Trail) → trailOf (image v t) (length t) ≡ t
 read-image v t = read-laid t (replicate (v - length t) (pos 0)) (replicate (v - length t) 0)
 
 -- the image of the trail that was read, for one field of the entries
-module _ {A : Type 0} (f : Entry → A) (xs : List A) (d : A) (ts : List ℤ) (ms : List ℕ) (same : (i : ℕ) → f (entryAt ts ms i) ≡ getD xs i d) where
-  laid-read : (n : ℕ) → n ≤ length xs → (rest : List A) → laid f (trailOf ts ms n) rest ≡ take n xs ++ rest
+module _ {A : Type 0} (f : Entry → A) (xs : List A) (d : A) (s : Slices) (same : (i : ℕ) → f (entryAt s i) ≡ getD xs i d) where
+  laid-read : (n : ℕ) → n ≤ length xs → (rest : List A) → laid f (trailOf s n) rest ≡ take n xs ++ rest
   unfolding laid trailOf
   laid-read zero h rest = refl
   laid-read (suc n) h rest =
-      laid-read n (omega arith) (f (entryAt ts ms n) ∷ rest) ∙ rw (same n, take-suc xs n d h) (sym (append-snoc (take n xs) (getD xs n d) rest))
+      laid-read n (omega arith) (f (entryAt s n) ∷ rest) ∙ rw (same n, take-suc xs n d h) (sym (append-snoc (take n xs) (getD xs n d) rest))
 
--- .. is the used elements, then zeros
-pub image-read : (v : ℕ) (ts : List ℤ) (ms : List ℕ) (n : ℕ) → n ≤ length ts → n ≤ length ms
-    → (trailImage v (trailOf ts ms n) ≡ take n ts ++ replicate (v - n) (pos 0)) × (marksImage v (trailOf ts ms n) ≡ take n ms ++ replicate (v - n) 0)
-image-read v ts ms n h k =
-    rw (length-trail ts ms n) (
-      laid-read (λ e. e .literal) ts (pos 0) ts ms (λ i. refl) n h (replicate (v - n) (pos 0)),
-      laid-read (λ e. e .mark) ms 0 ts ms (λ i. refl) n k (replicate (v - n) 0),
-    )
+  -- .. is the used elements, then the unused ones
+  image-by : (v n : ℕ) → n ≤ length xs → imageBy f d v (trailOf s n) ≡ take n xs ++ replicate (v - n) d
+  image-by v n h = rw (length-trail s n) (laid-read n h (replicate (v - n) d))
+
+-- the used elements of slices of V elements, then zeros
+abbrev pub cut : ℕ → Slices → ℕ → Slices
+cut v s n = slices (take n (s .trail) ++ replicate (v - n) (pos 0)) (take n (s .marks) ++ replicate (v - n) 0)
+
+pub image-read : (v : ℕ) (s : Slices) (n : ℕ) → n ≤ length (s .trail) → n ≤ length (s .marks) → image v (trailOf s n) ≡ cut v s n
+image-read v s n h k =
+    (λ i. slices (image-by (λ e. e .literal) (s .trail) (pos 0) s (λ i. refl) v n h i) (image-by (λ e. e .mark) (s .marks) 0 s (λ i. refl) v n k i))

@@ -1,4 +1,4 @@
--- The trail of "Search": its entries, its image in the two lent buffers, the values that it gives, and the assignments open at it.
+-- The trail of "Search": its entries, its image in the lent slices, the values that it gives, and the assignments open at it.
 use Prim.Native.Nat.{ℕ, zero, suc, _-_}
 use lib.Dec.{eqb}
 use lib.IntN.{ℤ, pos, negsuc, natAbs}
@@ -8,6 +8,7 @@ use mathlib.Core.Bool.{Bool, true, false, cond}
 use mathlib.Core.Logic.{_⊎_}
 use mathlib.Core.List.{List, [], _∷_}
 use Rattle.answers.specs.Lists.{All}
+use Rattle.answers.specs.Lent.{filled}
 use Rattle.cnf.specs.Clauses.{value}
 
 -- a used entry is a literal marked 1 (choice, other value untried) or 0
@@ -22,25 +23,43 @@ entry l m = record { literal = l; mark = m }
 abbrev pub Trail : Type 0
 Trail = List Entry
 
--- one field of the entries in the order of a buffer, the earliest first, and after the latest the rest
+-- the lent slices that hold a trail
+pub record Slices : Type 0 where
+  pub trail : List ℤ
+  pub marks : List ℕ
+
+abbrev pub slices : List ℤ → List ℕ → Slices
+slices trail marks = record { trail = trail; marks = marks }
+
+-- each of them has V elements
+pub record HasLength (v : ℕ) (s : Slices) : Type 0 where
+  pub trail : length (s .trail) ≡ v
+  pub marks : length (s .marks) ≡ v
+
+-- each is written from its first place on; elements past what is written are untouched
+abbrev pub filledSlices : Slices → Slices → Slices
+filledSlices before s = slices (filled (before .trail) (s .trail)) (filled (before .marks) (s .marks))
+
+-- one field of the entries in the order of a slice, the earliest first, and after the latest the rest
 unfoldable pub laid : {A : Type 0} → (Entry → A) → Trail → List A → List A
 laid field [] rest = rest
 laid field (e ∷ t) rest = laid field t (field e ∷ rest)
 
--- the image of a trail in the two buffers of V elements: unused entries and marks are 0
-abbrev pub trailImage : ℕ → Trail → List ℤ
-trailImage v t = laid (λ e. e .literal) t (replicate (v - length t) (pos 0))
+-- one field of the entries in a slice of V elements, with what stands in its unused ones
+abbrev pub imageBy : {A : Type 0} → (Entry → A) → A → ℕ → Trail → List A
+imageBy field unused v t = laid field t (replicate (v - length t) unused)
 
-abbrev pub marksImage : ℕ → Trail → List ℕ
-marksImage v t = laid (λ e. e .mark) t (replicate (v - length t) 0)
+-- the image of a trail in slices of V elements: unused entries and marks are 0
+abbrev pub image : ℕ → Trail → Slices
+image v t = slices (imageBy (λ e. e .literal) (pos 0) v t) (imageBy (λ e. e .mark) 0 v t)
 
--- the trail read from two buffers with a used count
-abbrev pub entryAt : List ℤ → List ℕ → ℕ → Entry
-entryAt ts ms i = entry (getD ts i (pos 0)) (getD ms i 0)
+-- the trail read from slices with a used count
+abbrev pub entryAt : Slices → ℕ → Entry
+entryAt s i = entry (getD (s .trail) i (pos 0)) (getD (s .marks) i 0)
 
-unfoldable pub trailOf : List ℤ → List ℕ → ℕ → Trail
-trailOf ts ms zero = []
-trailOf ts ms (suc used) = entryAt ts ms used ∷ trailOf ts ms used
+unfoldable pub trailOf : Slices → ℕ → Trail
+trailOf s zero = []
+trailOf s (suc used) = entryAt s used ∷ trailOf s used
 
 -- a variable or a literal is true, false or unassigned
 pub data Value : Type 0 where

@@ -1,1 +1,1 @@
-// The search: so far its definitions.
+// The search: its definitions, no code.

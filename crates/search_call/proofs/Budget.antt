@@ -6,20 +6,25 @@ use lib.ListN.{length}
 use mathlib.Core.Path.{_≡_, refl, sym, _∙_, ap, subst}
 use mathlib.Core.List.{List}
 use Rattle.answers.specs.Outcome.{answer}
+use Rattle.search.specs.Trail.{slices}
 use Rattle.search.specs.Step.{Next, step}
-use Rattle.search.specs.Run.{Ending, Found, None, Halted, Done, ends, after, endingNumber, doneOutcome, run}
+use Rattle.search.specs.Run.{Done, ends, after, endingNumber, doneOutcome, run}
 use Rattle.search.proofs.Trails.{length-trail}
-use Rattle.search.proofs.Slices.{counted}
+use Rattle.search.proofs.BudgetSums.{counted}
 use Rattle.search_scan.specs.PackedValues.{bareMarks}
 use Rattle.search_trail.specs.Packed.{packedTrail, Packed}
 use Rattle.search_step.specs.declared.Stepped.{Stepped}
 use Rattle.search_step.specs.declared.Stepped.the-variants.{MovedTo, Found as SaysFound, None as SaysNone}
 use Rattle.search_step.specs.Steps.{ListFits, nextOf, Steps}
 use Rattle.search_step.proofs.Chosen.{Standing}
-use Rattle.search_call.specs.declared.Answer.{Answer}
-use Rattle.search_call.specs.declared.Answer.the-variants.{Found as FoundAt, None as NoneAt, Halted as HaltedAt}
-use Rattle.search_call.specs.Answers.{answerOutcome, usedOf}
+use Rattle.search_call.specs.declared.Ending.{Ending as Answer}
+use Rattle.search_call.specs.declared.Ending.the-variants.{Found as FoundAt, None as NoneAt, Halted as HaltedAt}
+use Rattle.search_call.specs.declared.End.{End}
+use Rattle.search_call.specs.Answers.{endingOf}
 use Rattle.search_call.specs.Runs.{Ran}
+
+abbrev endAt : Answer → ℕ → ℕ → End
+endAt x n used = record { ending = x; steps = n; used = used }
 
 -- n steps are made, and the rest of the budget leads to where the whole leads
 pub record Going (ls : List ℤ) (budget : ℕ) (ts₀ : List ℤ) (ms₀ : List ℕ) (first : ℕ) (ts : List ℤ) (ms : List ℕ) (used n : ℕ) : Type 0 where
@@ -42,21 +47,21 @@ module _ {ls : List ℤ} {budget : ℕ} {ts₀ : List ℤ} {ms₀ : List ℕ} {f
   go-standing = let e = sym (g .running .bytes) in record { running = subst (λ (v : ℕ). Packed v ts ms used) e (g .running); listed = subst (λ (v : ℕ). ListFits v ls) e (g .listed) }
 
   -- an answer, with the trail as it is in us, ns
-  answers : {us : List ℤ} {ns : List ℕ} {m : ℕ} (x : Ending) (r : Answer) → answerOutcome r ≡ answer (endingNumber x) m used → usedOf r ≡ used → Packed (length ms₀) us ns used → packedTrail us ns used ≡ packedTrail ts ms used
-      → ends x m (packedTrail ts ms used) ≡ whole → Ran ls budget ts₀ ms₀ first r us ns
-  answers {us} {ns} {m} x r t u k s e =
+  answers : {us : List ℤ} {ns : List ℕ} {m : ℕ} (x : Answer) → Packed (length ms₀) us ns used → packedTrail us ns used ≡ packedTrail ts ms used
+      → ends (endingOf x) m (packedTrail ts ms used) ≡ whole → Ran ls budget ts₀ ms₀ first (endAt x m used) us ns
+  answers {us} {ns} {m} x k s e =
       record {
-        tells = t ∙ ap (answer (endingNumber x) m) (sym (length-trail ts (bareMarks ms) used)) ∙ ap doneOutcome e;
-        trail = ap (packedTrail us ns) u ∙ s ∙ ap (λ (d : Done). d .trail) e;
-        running = subst (Packed (length ms₀) us ns) (sym u) k;
+        tells = ap (answer (endingNumber (endingOf x)) m) (sym (length-trail (slices ts (bareMarks ms)) used)) ∙ ap doneOutcome e;
+        trail = s ∙ ap (λ (d : Done). d .trail) e;
+        running = k;
       }
 
-  pub go-over : budget ≤ n → Ran ls budget ts₀ ms₀ first (HaltedAt (record { steps = n; used = used })) ts ms
+  pub go-over : budget ≤ n → Ran ls budget ts₀ ms₀ first (endAt HaltedAt n used) ts ms
   unfolding run
   go-over h =
       let z : budget - n ≡ 0 = omega arith in
       let q : n + 0 ≡ n = omega arith in
-      answers Halted _ refl refl (g .running) refl (rw q at (rw z at (g .rest)))
+      answers HaltedAt (g .running) refl (rw q at (rw z at (g .rest)))
 
   module _ (h : n < budget) {r : Stepped} {us : List ℤ} {ns : List ℕ} (s : Steps ts ms used (step (length ms) ls) r us ns) where
     -- one step is made of what is left
@@ -77,11 +82,11 @@ module _ {ls : List ℤ} {budget : ℕ} {ts₀ : List ℤ} {ms₀ : List ℕ} {f
         let z : n + 1 + d .steps ≡ n + suc (d .steps) = omega arith in
         record { early = omega arith; listed = g .listed; running = kept (s .running); rest = ap (λ (m : ℕ). ends (d .ending) m (d .trail)) z ∙ next h s }
 
-    finds : Steps ts ms used (step (length ms) ls) SaysFound us ns → Ran ls budget ts₀ ms₀ first (FoundAt (record { steps = n + 1; used = used })) us ns
-    finds s = answers Found _ refl refl (kept (s .running)) (s .stays) (next h s)
+    finds : Steps ts ms used (step (length ms) ls) SaysFound us ns → Ran ls budget ts₀ ms₀ first (endAt FoundAt (n + 1) used) us ns
+    finds s = answers FoundAt (kept (s .running)) (s .stays) (next h s)
 
-    fails : Steps ts ms used (step (length ms) ls) SaysNone us ns → Ran ls budget ts₀ ms₀ first (NoneAt (record { steps = n + 1; used = used })) us ns
-    fails s = answers None _ refl refl (kept (s .running)) (s .stays) (next h s)
+    fails : Steps ts ms used (step (length ms) ls) SaysNone us ns → Ran ls budget ts₀ ms₀ first (endAt NoneAt (n + 1) used) us ns
+    fails s = answers NoneAt (kept (s .running)) (s .stays) (next h s)
 
     module _ {r : Stepped} (s : Steps ts ms used (step (length ms) ls) r us ns) where
       turned : {x : Stepped} → r ≡ x → Steps ts ms used (step (length ms) ls) x us ns
@@ -90,8 +95,8 @@ module _ {ls : List ℤ} {budget : ℕ} {ts₀ : List ℤ} {ms₀ : List ℕ} {f
       pub go-moved : {u : ℕ} → r ≡ MovedTo u → Going ls budget ts₀ ms₀ first us ns u (n + 1)
       go-moved e = moves (turned e)
 
-      pub go-found : r ≡ SaysFound → Ran ls budget ts₀ ms₀ first (FoundAt (record { steps = n + 1; used = used })) us ns
+      pub go-found : r ≡ SaysFound → Ran ls budget ts₀ ms₀ first (endAt FoundAt (n + 1) used) us ns
       go-found e = finds (turned e)
 
-      pub go-none : r ≡ SaysNone → Ran ls budget ts₀ ms₀ first (NoneAt (record { steps = n + 1; used = used })) us ns
+      pub go-none : r ≡ SaysNone → Ran ls budget ts₀ ms₀ first (endAt NoneAt (n + 1) used) us ns
       go-none e = fails (turned e)

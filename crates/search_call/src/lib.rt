@@ -3,11 +3,11 @@ ghost use mathlib.Core.Path.{_≡_};
 ghost use lib.ListN.{length};
 ghost use Rattle.answers.specs.declared.Outcome.{Outcome};
 ghost use Rattle.answers.specs.Outcome.{firstRefusal};
-ghost use Rattle.search.specs.Trail.{trailImage, marksImage};
-ghost use Rattle.search.specs.Run.{searchRows, IsAccepted, doneOutcome, searched, searchAnswer, trailAfter, marksAfter};
+ghost use Rattle.search.specs.Run.{endingNumber};
+ghost use Rattle.search.specs.Call.{searchOn, handed, Searching, searchRows, IsTaken, handsTaken, bySearch};
 ghost use Rattle.search_trail.specs.Packed.{Packed};
 ghost use Rattle.search_step.specs.Steps.{ListFits};
-ghost use Rattle.search_call.specs.Answers.{answerOutcome, usedOf, checkedTells};
+ghost use Rattle.search_call.specs.Answers.{endingOf, endOutcome, searchRefusalOutcome, answerOutcome, checkedTells};
 ghost use Rattle.search_call.specs.Runs.{Ran};
 use answers::Outcome;
 use answers::Place;
@@ -22,27 +22,75 @@ use search_trail::clear_marks;
 use search_trail::clear_trail;
 use search_trail::pack_values;
 
-// The steps that this call made, and the used count.
-pub struct Count {
+// The answers of the search.
+pub enum Ending {
+    Found,
+    None,
+    Halted,
+}
+
+// How a search ended: its answer, the steps that this call made, the used count.
+pub struct End {
+    pub ending: Ending,
     pub steps: u64,
     pub used: usize,
 }
 
-// The answers of the search; then its refusals, 17, 16 and 18 of document 01's table, and 20 of document 02, of `next` only.
-pub enum Answer {
-    Found(Count),
-    None(Count),
-    Halted(Count),
+// Why a call is turned down: 17, 16 and 18 of document 01's table, and 20 of document 02, of `next` only.
+pub enum SearchRefusal {
     Lengths,
     List(usize),
     Entry(usize),
     Untrue,
 }
 
+// What a call of the search answers.
+pub enum Answer {
+    Ended(End),
+    Refused(SearchRefusal),
+}
+
 // Whether a list and a trail are accepted, or how they are turned down.
 pub enum Checked {
     Accepted,
-    Refused(Answer),
+    Refused(SearchRefusal),
+}
+
+impl Ending {
+    // 1, 2 or 3.
+    fn number(self) -> u64
+        ensures { λ r. ⌜ r ≡ endingNumber (endingOf self) ⌝ }
+    {
+        match self {
+            Ending::Found => 1,
+            Ending::None => 2,
+            Ending::Halted => 3,
+        }
+    }
+}
+
+impl End {
+    // Document 01's values.
+    pub fn outcome(self) -> Outcome
+        ensures { λ r. ⌜ r ≡ endOutcome self ⌝ }
+    {
+        let ending = self.ending;
+        answered(ending.number(), self.steps, self.used as u64)
+    }
+}
+
+impl SearchRefusal {
+    // Document 01's number, and the value beside it.
+    pub fn outcome(self) -> Outcome
+        ensures { λ r. ⌜ r ≡ searchRefusalOutcome self ⌝ }
+    {
+        match self {
+            SearchRefusal::Lengths => refused(17, 0),
+            SearchRefusal::List(i) => refused(16, i as u64),
+            SearchRefusal::Entry(i) => refused(18, i as u64),
+            SearchRefusal::Untrue => refused(20, 0),
+        }
+    }
 }
 
 impl Answer {
@@ -51,51 +99,32 @@ impl Answer {
         ensures { λ r. ⌜ r ≡ answerOutcome self ⌝ }
     {
         match self {
-            Answer::Found(c) => answered(1, c.steps, c.used as u64),
-            Answer::None(c) => answered(2, c.steps, c.used as u64),
-            Answer::Halted(c) => answered(3, c.steps, c.used as u64),
-            Answer::Lengths => refused(17, 0),
-            Answer::List(i) => refused(16, i as u64),
-            Answer::Entry(i) => refused(18, i as u64),
-            Answer::Untrue => refused(20, 0),
-        }
-    }
-
-    fn used(self) -> usize
-        ensures { λ r. ⌜ r ≡ usedOf self ⌝ }
-    {
-        match self {
-            Answer::Found(c) => c.used,
-            Answer::None(c) => c.used,
-            Answer::Halted(c) => c.used,
-            Answer::Lengths => 0,
-            Answer::List(_) => 0,
-            Answer::Entry(_) => 0,
-            Answer::Untrue => 0,
+            Answer::Ended(e) => e.outcome(),
+            Answer::Refused(r) => r.outcome(),
         }
     }
 }
 
 // 17, 16 and 18: the first cause against a list and a trail.
 pub fn check(variables: usize, list: &[i32], trail: &[i32], marks: &[u8], used: usize) -> Checked
-    ensures { λ r. ⌜ ((t : Outcome) → checkedTells r t ≡ firstRefusal (searchRows variables (now (list .entry)) (now (trail .entry)) (now (marks .entry)) used) t) ⌝ }
+    ensures { λ r. ⌜ ((t : Outcome) → checkedTells r t ≡ firstRefusal (searchRows (searchOn variables (now (list .entry)) (now (trail .entry)) (now (marks .entry)) used)) t) ⌝ }
 {
     if wrong_lengths(variables, trail, marks, used) {
-        return Checked::Refused(Answer::Lengths);
+        return Checked::Refused(SearchRefusal::Lengths);
     }
     let p = wrong_list(list, variables);
     if let Place::At(i) = p {
-        return Checked::Refused(Answer::List(i));
+        return Checked::Refused(SearchRefusal::List(i));
     }
     let p = first_wrong_entry(variables, trail, marks, used);
     if let Place::At(i) = p {
-        return Checked::Refused(Answer::Entry(i));
+        return Checked::Refused(SearchRefusal::Entry(i));
     }
     Checked::Accepted
 }
 
 // Steps until one answers, or the budget is used up.
-fn run(list: &[i32], trail: &mut [i32], marks: &mut [u8], first: usize, budget: u64) -> Answer
+fn run(list: &[i32], trail: &mut [i32], marks: &mut [u8], first: usize, budget: u64) -> End
     requires { ⌜ Packed (length (now marks)) (now trail) (now marks) first ⌝ }
     requires { ⌜ ListFits (length (now marks)) (now list) ⌝ }
     ensures { λ r. ⌜ Ran (now (list .entry)) budget (now (trail .entry)) (now (marks .entry)) first r (now (trail .exit)) (now (marks .exit)) ⌝ }
@@ -107,34 +136,42 @@ fn run(list: &[i32], trail: &mut [i32], marks: &mut [u8], first: usize, budget: 
         let steps = n + 1;
         match s {
             Stepped::MovedTo(u) => used = u,
-            Stepped::Found => return Answer::Found(Count { steps, used }),
-            Stepped::None => return Answer::None(Count { steps, used }),
+            Stepped::Found => {
+                return End {
+                    ending: Ending::Found,
+                    steps,
+                    used,
+                };
+            }
+            Stepped::None => {
+                return End {
+                    ending: Ending::None,
+                    steps,
+                    used,
+                };
+            }
         }
         n = steps;
     }
-    Answer::Halted(Count { steps: n, used })
+    End {
+        ending: Ending::Halted,
+        steps: n,
+        used,
+    }
 }
 
-// The search of an accepted list from an accepted trail.
-pub fn searched(
-    list: &[i32],
-    trail: &mut [i32],
-    marks: &mut [u8],
-    used: usize,
-    budget: u64,
-) -> Answer
-    requires { ⌜ IsAccepted (length (now marks)) (now list) (now trail) (now marks) used ⌝ }
-    ensures { λ r. ⌜ answerOutcome r ≡ doneOutcome (searched (length (now (marks .entry))) (now (list .entry)) (now (trail .entry)) (now (marks .entry)) used budget) ⌝ }
-    ensures { λ r. ⌜ now (trail .exit) ≡ trailImage (length (now (marks .entry))) (searched (length (now (marks .entry))) (now (list .entry)) (now (trail .entry)) (now (marks .entry)) used budget .trail) ⌝ }
-    ensures { λ r. ⌜ now (marks .exit) ≡ marksImage (length (now (marks .entry))) (searched (length (now (marks .entry))) (now (list .entry)) (now (trail .entry)) (now (marks .entry)) used budget .trail) ⌝ }
+// The search of an accepted list from an accepted trail. V is the marks' length.
+pub fn searched(list: &[i32], trail: &mut [i32], marks: &mut [u8], used: usize, budget: u64) -> End
+    requires { ⌜ IsTaken Searching (searchOn (length (now marks)) (now list) (now trail) (now marks) used) ⌝ }
+    ensures { λ r. ⌜ handed (endOutcome r) (now (trail .exit)) (now (marks .exit)) ≡ handsTaken Searching (searchOn (length (now (marks .entry))) (now (list .entry)) (now (trail .entry)) (now (marks .entry)) used) budget ⌝ }
 {
     clear_marks(marks, used);
     pack_values(trail, marks, used);
-    let answer = run(list, trail, marks, used, budget);
-    let last = answer.used();
+    let end = run(list, trail, marks, used, budget);
+    let last = end.used;
     clear_trail(trail, last);
     clear_marks(marks, last);
-    answer
+    end
 }
 
 // The search: V, a clause list, a trail with its marks and its used count, a budget.
@@ -146,13 +183,11 @@ pub fn search(
     used: usize,
     budget: u64,
 ) -> Answer
-    ensures { λ r. ⌜ answerOutcome r ≡ searchAnswer variables (now (list .entry)) (now (trail .entry)) (now (marks .entry)) used budget ⌝ }
-    ensures { λ r. ⌜ now (trail .exit) ≡ trailAfter variables (now (list .entry)) (now (trail .entry)) (now (marks .entry)) used budget ⌝ }
-    ensures { λ r. ⌜ now (marks .exit) ≡ marksAfter variables (now (list .entry)) (now (trail .entry)) (now (marks .entry)) used budget ⌝ }
+    ensures { λ r. ⌜ handed (answerOutcome r) (now (trail .exit)) (now (marks .exit)) ≡ bySearch (searchOn variables (now (list .entry)) (now (trail .entry)) (now (marks .entry)) used) budget ⌝ }
 {
     let c = check(variables, list, trail, marks, used);
     if let Checked::Refused(r) = c {
-        return r;
+        return Answer::Refused(r);
     }
-    searched(list, trail, marks, used, budget)
+    Answer::Ended(searched(list, trail, marks, used, budget))
 }

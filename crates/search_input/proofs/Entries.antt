@@ -11,18 +11,18 @@ use mathlib.Core.List.{List}
 use Rattle.answers.proofs.Bools.{clash, or-neither}
 use Rattle.cnf.specs.Literals.{closes, codeOf}
 use Rattle.cnf.proofs.Lists.{code-closes, code-beyond, code-within}
-use Rattle.search.specs.Trail.{isUnassigned, made, trailOf, variableValue}
-use Rattle.search.specs.Run.{wrongEntryAt}
+use Rattle.search.specs.Trail.{slices, isUnassigned, made, trailOf, variableValue}
+use Rattle.search.specs.Call.{wrongEntryAt}
 use Rattle.search_input.specs.Entries.{Until, faultyAt, variableAt, usedBefore, usedAt, Inside}
 use Rattle.search_input.proofs.Bounds.{until-both, until-same}
 
 -- a variable has a value exactly if an entry stands on it
-used-before : (ts : List ℤ) (ms : List ℕ) (n x : ℕ) → not (isUnassigned (variableValue (trailOf ts ms n) x)) ≡ usedBefore ts n x
+used-before : (ts : List ℤ) (ms : List ℕ) (n x : ℕ) → not (isUnassigned (variableValue (trailOf (slices ts ms) n) x)) ≡ usedBefore ts n x
 unfolding trailOf variableValue usedBefore
 used-before ts ms zero x = refl
 used-before ts ms (suc n) x = by (eqb (variableAt ts n) x) (getD ts n (pos 0)) (used-before ts ms n x)
   where
-    by : (b : Bool) (l : ℤ) → not (isUnassigned (variableValue (trailOf ts ms n) x)) ≡ usedBefore ts n x → not (isUnassigned (cond b (made l) (variableValue (trailOf ts ms n) x))) ≡ b || usedBefore ts n x
+    by : (b : Bool) (l : ℤ) → not (isUnassigned (variableValue (trailOf (slices ts ms) n) x)) ≡ usedBefore ts n x → not (isUnassigned (cond b (made l) (variableValue (trailOf (slices ts ms) n) x))) ≡ b || usedBefore ts n x
     by true (pos m) e = refl
     by true (negsuc m) e = refl
     by false l e = e
@@ -58,12 +58,12 @@ faulty-inside v ts ms {used} {n} u = record { low = λ i h. some (getD ts i (pos
     some (negsuc m) z = omega arith
 
 -- an entry is wrong by itself, or for the entries before it
-pub wrong-entries : (v : ℕ) (ts : List ℤ) (ms : List ℕ) {used n m : ℕ} → Until (faultyAt v ts ms) used n → Until (usedAt ts) n m → Until (wrongEntryAt v ts ms) used m
+pub wrong-entries : (v : ℕ) (ts : List ℤ) (ms : List ℕ) {used n m : ℕ} → Until (faultyAt v ts ms) used n → Until (usedAt ts) n m → Until (wrongEntryAt v (slices ts ms)) used m
 wrong-entries v ts ms a b = until-same (until-both a b) (λ i h. by i)
   where
     swap : (a b c : Bool) → a || c || b ≡ a || b || c
     swap true b c = refl
     swap false b c = or-comm c b
 
-    by : (i : ℕ) → faultyAt v ts ms i || usedAt ts i ≡ wrongEntryAt v ts ms i
+    by : (i : ℕ) → faultyAt v ts ms i || usedAt ts i ≡ wrongEntryAt v (slices ts ms) i
     by i = rw (← used-before ts ms i (variableAt ts i)) (swap (closes (getD ts i (pos 0)) || ltb v (variableAt ts i)) _ (ltb 1 (getD ms i 0)))

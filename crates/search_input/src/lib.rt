@@ -4,7 +4,8 @@ ghost use Prim.Native.Nat.{_+_, _<_, _≤_};
 ghost use lib.ListN.{length};
 ghost use Rattle.answers.specs.First.{firstWhere, placed};
 ghost use Rattle.cnf.specs.Literals.{mostVariables};
-ghost use Rattle.search.specs.Run.{wrongLengths, wrongEntryAt};
+ghost use Rattle.search.specs.Trail.{slices};
+ghost use Rattle.search.specs.Call.{wrongLengths, wrongEntryAt};
 ghost use Rattle.search_input.specs.Entries.{Until, faultyAt, usedAt, Inside};
 ghost use Rattle.search_input.specs.Flags.{NoFlag, isMet, met, againAt};
 use answers::Place;
@@ -13,7 +14,7 @@ use cnf::too_many_variables;
 
 // 17: V too large, trail or marks not V long, used over V.
 pub fn wrong_lengths(v: usize, trail: &[i32], marks: &[u8], used: usize) -> bool
-    ensures { λ r. ⌜ r ≡ wrongLengths v (now (trail .entry)) (now (marks .entry)) used ⌝ }
+    ensures { λ r. ⌜ r ≡ wrongLengths v (slices (now (trail .entry)) (now (marks .entry))) used ⌝ }
 {
     if too_many_variables(v) {
         return true;
@@ -135,7 +136,7 @@ fn first_again(v: usize, trail: &[i32], n: usize) -> usize
 pub fn first_wrong_entry(v: usize, trail: &[i32], marks: &[u8], used: usize) -> Place
     requires { ⌜ v ≤ mostVariables ⌝ }
     requires { ⌜ (used ≤ length (now trail)) × (used ≤ length (now marks)) ⌝ }
-    ensures { λ r. ⌜ placed r ≡ firstWhere (wrongEntryAt v (now (trail .entry)) (now (marks .entry))) used ⌝ }
+    ensures { λ r. ⌜ placed r ≡ firstWhere (wrongEntryAt v (slices (now (trail .entry)) (now (marks .entry)))) used ⌝ }
 {
     let faulty = first_faulty(v, trail, marks, used);
     let first = first_again(v, trail, faulty);

@@ -12,9 +12,9 @@ use Rattle.cnf.specs.Literals.{unclosed}
 use Rattle.cnf.specs.Clauses.{split, Satisfies}
 use Rattle.search.specs.Trail.{Trail, variableValue, Turned, Open, valuesOf}
 use Rattle.search.specs.Step.{undo, undone}
-use Rattle.search.specs.Run.{Ending, Found, None, Halted, Done, ends, oneMore, after, run}
-use Rattle.search.specs.NextCall.{following}
-use Rattle.search_theory.specs.Calls.{Call, Searching, Following, goesOn}
+use Rattle.search.specs.Run.{Ending, Found, None, Halted, Done, ends, oneMore, after, run, following}
+use Rattle.search.specs.Call.{Call, Searching, Following, comesTo}
+use Rattle.search_theory.specs.Budgets.{goesOn}
 use Rattle.search_theory.proofs.Lists.{Proper}
 use Rattle.search_theory.proofs.Legal.{Legal, AllAssigned}
 use Rattle.search_theory.proofs.Measure.{marked, number, number-more}
@@ -27,21 +27,17 @@ abbrev pub Left : Call → List Bool → Trail → Type 0
 Left Searching a t = Open a t
 Left Following a t = Turned a t
 
-abbrev pub comesTo : Call → ℕ → List ℤ → ℕ → Trail → Done
-comesTo Searching v ls b t = run v ls b t
-comesTo Following v ls b t = following v ls b t
-
 -- a number that falls from "found" to "found"
 abbrev pub room : ℕ → Call → Trail → ℕ
 room v Searching t = number v t
 room v Following t = marked v t
 
 -- what an answer means: x of a call begun at t that ends at u, after n steps of a budget b
-abbrev pub Says : ℕ → List ℤ → Call → Trail → ℕ → Ending → ℕ → Trail → Type 0
-Says v ls c t b Found n u =
+abbrev pub Meaning : ℕ → List ℤ → Call → Trail → ℕ → Ending → ℕ → Trail → Type 0
+Meaning v ls c t b Found n u =
     AllAssigned v (variableValue u) × Satisfies (valuesOf v u) ls × (number v u ≤ room v c t) × ((a : List Bool) → Satisfies a ls → Open a u → Left c a t)
-Says v ls c t b None n u = (a : List Bool) → Satisfies a ls → Left c a t → ⊥
-Says v ls c t b Halted n u = (n ≡ b) × (n < number v t) × ((a : List Bool) → Satisfies a ls → Left c a t ↔ Left (goesOn c n) a u)
+Meaning v ls c t b None n u = (a : List Bool) → Satisfies a ls → Left c a t → ⊥
+Meaning v ls c t b Halted n u = (n ≡ b) × (n < number v t) × ((a : List Bool) → Satisfies a ls → Left c a t ↔ Left (goesOn c n) a u)
 
 pub record Came (v : ℕ) (ls : List ℤ) (c : Call) (t : Trail) (b : ℕ) (d : Done) : Type 0 where
   pub legal : Legal v (d .trail)
@@ -50,7 +46,7 @@ pub record Came (v : ℕ) (ls : List ℤ) (c : Call) (t : Trail) (b : ℕ) (d : 
   pub was-open : (a : List Bool) → Satisfies a ls → Open a (d .trail) → Open a t
   pub within : d .steps ≤ b
   pub few : d .steps ≤ number v t
-  pub says : Says v ls c t b (d .ending) (d .steps) (d .trail)
+  pub says : Meaning v ls c t b (d .ending) (d .steps) (d .trail)
 
 module _ {v : ℕ} {ls : List ℤ} (closed : unclosed ls ≡ false) (proper : All (All (Proper v)) (split ls)) where
   search-came : (t : Trail) (b : ℕ) → Legal v t → Came v ls Searching t b (run v ls b t)
@@ -68,13 +64,13 @@ module _ {v : ℕ} {ls : List ℤ} (closed : unclosed ls ≡ false) (proper : Al
       e : Ended v ls t b (run v ls b t)
       e = ended closed proper t b l
 
-      by : (x : Ending) (n : ℕ) → Means v ls t b x n (run v ls b t .trail) → Says v ls Searching t b x n (run v ls b t .trail)
+      by : (x : Ending) (n : ℕ) → Means v ls t b x n (run v ls b t .trail) → Meaning v ls Searching t b x n (run v ls b t .trail)
       by Found n h = (h .0, h .1, e .falls, λ a s. e .same a s .1)
       by None n h = h
       by Halted n h = (h .0, h .1, e .same)
 
   -- `next` ends where it begins, with the drop at the latest
-  stays : {t : Trail} {b : ℕ} → Legal v t → (x : Ending) (n : ℕ) → n ≤ b → n ≤ 1 → Says v ls Following t b x n t → Came v ls Following t b (ends x n t)
+  stays : {t : Trail} {b : ℕ} → Legal v t → (x : Ending) (n : ℕ) → n ≤ b → n ≤ 1 → Meaning v ls Following t b x n t → Came v ls Following t b (ends x n t)
   stays {t} l x n h k says =
       let p = number-more v t in
       record { legal = l; chosen = λ c. c; opens = λ a s. inr; was-open = λ a s o. o; within = h; few = omega arith; says = says }
@@ -101,7 +97,7 @@ module _ {v : ℕ} {ls : List ℤ} (closed : unclosed ls ≡ false) (proper : Al
             says = later (run v ls b u .ending) (run v ls b u .steps) (d .says);
           }
         where
-          later : (x : Ending) (n : ℕ) → Says v ls Searching u b x n (run v ls b u .trail) → Says v ls Following t (suc b) x (suc n) (run v ls b u .trail)
+          later : (x : Ending) (n : ℕ) → Meaning v ls Searching u b x n (run v ls b u .trail) → Meaning v ls Following t (suc b) x (suc n) (run v ls b u .trail)
           later Found n h = let f = h .2 in let m = r .falls in (h .0, h .1, omega arith, λ a s o. r .was-open a (h .3 a s o))
           later None n h = λ a s o. h a s (r .opens a o)
           later Halted n h =

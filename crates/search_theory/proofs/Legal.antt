@@ -10,8 +10,8 @@ use mathlib.Core.Bool.{true, false, not}
 use mathlib.Core.List.{List, [], _∷_}
 use Rattle.answers.proofs.Bools.{clash, or-neither}
 use Rattle.cnf.specs.Literals.{closes, beyond}
-use Rattle.search.specs.Trail.{Entry, Trail, Value, True, False, Unassigned, isUnassigned, variableValue, trailOf, Values}
-use Rattle.search.specs.Run.{wrongEntry, wrongEntryAt}
+use Rattle.search.specs.Trail.{Entry, Trail, Value, True, False, Unassigned, isUnassigned, variableValue, Slices, trailOf, Values}
+use Rattle.search.specs.Call.{wrongEntry, wrongEntryAt}
 use Rattle.search_theory.proofs.Lists.{Proper}
 
 -- an entry that may stand on a trail
@@ -47,17 +47,17 @@ entry-right v t e h =
 right-entry : (v : ℕ) (t : Trail) (e : Entry) → Right v t e → wrongEntry v t e ≡ false
 right-entry v t e r = rw (r .proper .nonzero, r .proper .within, r .free, le-ltb 1 (e .mark) (r .marked))
 
-module _ (v : ℕ) (ts : List ℤ) (ms : List ℕ) where
-  pub read-legal : (n : ℕ) → ((i : ℕ) → i < n → wrongEntryAt v ts ms i ≡ false) → Legal v (trailOf ts ms n)
+module _ (v : ℕ) (s : Slices) where
+  pub read-legal : (n : ℕ) → ((i : ℕ) → i < n → wrongEntryAt v s i ≡ false) → Legal v (trailOf s n)
   unfolding trailOf
   read-legal zero h = tt
   read-legal (suc n) h = (entry-right v _ _ (h n (omega arith)), read-legal n (λ i k. h i (omega arith)))
 
-  pub legal-read : (n : ℕ) → Legal v (trailOf ts ms n) → (i : ℕ) → i < n → wrongEntryAt v ts ms i ≡ false
+  pub legal-read : (n : ℕ) → Legal v (trailOf s n) → (i : ℕ) → i < n → wrongEntryAt v s i ≡ false
   unfolding trailOf
   legal-read zero l i h = absurd (omega arith)
   legal-read (suc n) l i h = by (ℕ-discrete i n) (legal-read n (l .1) i)
     where
-      by : Dec (i ≡ n) → (i < n → wrongEntryAt v ts ms i ≡ false) → wrongEntryAt v ts ms i ≡ false
-      by (yes e) go = ap (wrongEntryAt v ts ms) e ∙ right-entry v _ _ (l .0)
+      by : Dec (i ≡ n) → (i < n → wrongEntryAt v s i ≡ false) → wrongEntryAt v s i ≡ false
+      by (yes e) go = ap (wrongEntryAt v s) e ∙ right-entry v _ _ (l .0)
       by (no e) go = go (omega arith)

@@ -1,5 +1,5 @@
--- Theorems about the search. Read Theorems.antt (the search), Following.antt (`next`), Budgets.antt (calls in slices) and Listing.antt (calls carried on until
--- "none"): they state the results. The others are in the order of the proofs.
+-- Theorems about the search and `next`. Read Theorems.antt (every call), ListedSteps.antt (its steps), Budgets.antt (calls in parts) and Listing.antt (calls
+-- carried on until "none"): they state the results. The others are in the order of the proofs.
 pub mod Theorems
 pub mod Lists
 pub mod Values
@@ -13,7 +13,7 @@ pub mod Runs
 pub mod Accepted
 pub mod Orders
 pub mod Calls
-pub mod NextCall
-pub mod Taken
+pub mod Handed
 pub mod Budgets
 pub mod Listing
+pub mod ListedSteps

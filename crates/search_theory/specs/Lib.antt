@@ -1,6 +1,6 @@
--- What the theorems say, where `search` has no word for it. Calls: the search and `next` side by side. Listing: calls carried on until "none".
--- Budgets: a call in slices.
+-- What the theorems say, where `search` has no word for it. Openings: what is open at a trail, and found. ListedSteps: the steps of document 01 as relations.
+-- Listing: calls continued until "none". Budgets: a call in parts.
 pub mod Openings
-pub mod Calls
-pub mod Listing
+pub mod ListedSteps
 pub mod Budgets
+pub mod Listing

@@ -7,6 +7,7 @@ use mathlib.Core.Bool.{Bool}
 use mathlib.Core.List.{List}
 use Rattle.cnf.specs.Clauses.{Assignment, Satisfies}
 use Rattle.search.specs.Trail.{Trail, Agrees, Open, valuesOf}
+use Rattle.search.specs.Call.{Search, Call, Searching, Following, begins, given}
 
 -- a satisfying assignment that is open at a trail
 pub record OpenAt (v : ℕ) (ls : List ℤ) (t : Trail) (a : List Bool) : Type 0 where
@@ -14,8 +15,10 @@ pub record OpenAt (v : ℕ) (ls : List ℤ) (t : Trail) (a : List Bool) : Type 0
   pub satisfies : Satisfies a ls
   pub isOpen : Open a t
 
-abbrev pub NoneOpenAt : ℕ → List ℤ → Trail → Type 0
-NoneOpenAt v ls t = (a : List Bool) → OpenAt v ls t a → ⊥
+-- what a call looks for, by what is open at a trail: the search, the satisfying assignments; `next`, those other than the one that it was given
+abbrev pub Sought : Call → Search → Trail → List Bool → Type 0
+Sought Searching s t a = OpenAt (s .variables) (s .list) t a
+Sought Following s t a = OpenAt (s .variables) (s .list) t a × (a ≡ given s → ⊥)
 
 -- a trail that is one assignment: its V values make its literals true, and no others do
 pub record OneAssignment (v : ℕ) (t : Trail) : Type 0 where
@@ -23,12 +26,8 @@ pub record OneAssignment (v : ℕ) (t : Trail) : Type 0 where
   pub agrees : Agrees (valuesOf v t) t
   pub only : (a : List Bool) → Assignment v a → Agrees a t → a ≡ valuesOf v t
 
--- the trail is full, and as an assignment it is one of the satisfying ones that were open at the beginning
-pub record FoundOne (v : ℕ) (ls : List ℤ) (begins t : Trail) : Type 0 where
-  pub full : length t ≡ v
-  pub values : OneAssignment v t
-  pub isOne : OpenAt v ls begins (valuesOf v t)
-
--- the satisfying assignments open at a trail other than the given one
-abbrev pub OtherAt : ℕ → List ℤ → List Bool → Trail → List Bool → Type 0
-OtherAt v ls given t a = OpenAt v ls t a × (a ≡ given → ⊥)
+-- the trail is full, and as an assignment it is one of those that the call looked for
+pub record FoundOne (x : Call) (s : Search) (t : Trail) : Type 0 where
+  pub full : length t ≡ s .variables
+  pub values : OneAssignment (s .variables) t
+  pub isOne : Sought x s (begins s) (valuesOf (s .variables) t)

@@ -13,37 +13,31 @@ use mathlib.Core.Bool.{Bool, true, false, cond}
 use mathlib.Core.List.{List, _∷_}
 use Rattle.cnf.specs.Literals.{codeOf}
 use Rattle.cnf.proofs.Lists.{code-variable}
-use Rattle.search.specs.Trail.{Entry, entry, Trail, entryAt, trailOf, Unassigned, made, variableValue}
-use Rattle.search.proofs.Trails.{length-trail}
+use Rattle.search.specs.Trail.{Entry, entry, Trail, Slices, slices, entryAt, trailOf, Unassigned, made, variableValue}
+use Rattle.search.proofs.Trails.{length-trail, same-trail}
 use Rattle.search_theory.proofs.Legal.{Right, Legal}
 use Rattle.search_theory.proofs.Full.{legal-length}
 use Rattle.search_scan.specs.PackedValues.{packedValues, bareMarks}
 use Rattle.search_trail.specs.Packed.{packedTrail, Packed, HasByte, withValue, madeTrue, assigned}
 use Rattle.search_trail.proofs.Bytes.{bare-value, packed-value, packed-marked, low-marked, low-others, proper-byte, number-made}
 
--- entries that are the same make the same trail
-pub same-trail : (ts us : List ℤ) (ms ns : List ℕ) (n : ℕ) → ((i : ℕ) → i < n → entryAt ts ms i ≡ entryAt us ns i) → trailOf ts ms n ≡ trailOf us ns n
-unfolding trailOf
-same-trail ts us ms ns zero h = refl
-same-trail ts us ms ns (suc n) h = (λ t. h n (omega arith) t ∷ same-trail ts us ms ns n (λ i l. h i (omega arith)) t)
-
 -- what is legal of a trail is so of its beginning
-module _ (v : ℕ) (ts : List ℤ) (ms : List ℕ) where
-  pub legal-before : (n : ℕ) → Legal v (trailOf ts ms n) → (i : ℕ) → i ≤ n → Legal v (trailOf ts ms i)
+module _ (v : ℕ) (s : Slices) where
+  pub legal-before : (n : ℕ) → Legal v (trailOf s n) → (i : ℕ) → i ≤ n → Legal v (trailOf s i)
   unfolding trailOf
-  legal-before zero l i h = let e : 0 ≡ i = omega arith in subst (λ (j : ℕ). Legal v (trailOf ts ms j)) e l
+  legal-before zero l i h = let e : 0 ≡ i = omega arith in subst (λ (j : ℕ). Legal v (trailOf s j)) e l
   legal-before (suc n) l i h = by (ℕ-discrete i (suc n)) (legal-before n (l .1) i)
     where
-      by : Dec (i ≡ suc n) → (i ≤ n → Legal v (trailOf ts ms i)) → Legal v (trailOf ts ms i)
-      by (yes e) go = subst (λ (j : ℕ). Legal v (trailOf ts ms j)) (sym e) l
+      by : Dec (i ≡ suc n) → (i ≤ n → Legal v (trailOf s i)) → Legal v (trailOf s i)
+      by (yes e) go = subst (λ (j : ℕ). Legal v (trailOf s j)) (sym e) l
       by (no e) go = go (omega arith)
 
-  pub legal-at : (n : ℕ) → Legal v (trailOf ts ms n) → (i : ℕ) → i < n → Right v (trailOf ts ms i) (entryAt ts ms i)
+  pub legal-at : (n : ℕ) → Legal v (trailOf s n) → (i : ℕ) → i < n → Right v (trailOf s i) (entryAt s i)
   unfolding trailOf
   legal-at n l i h = legal-before n l (suc i) (omega arith) .0
 
-  pub legal-used : (n : ℕ) → Legal v (trailOf ts ms n) → n ≤ v
-  legal-used n l = let h = legal-length v (trailOf ts ms n) l in let e = length-trail ts ms n in omega arith
+  pub legal-used : (n : ℕ) → Legal v (trailOf s n) → n ≤ v
+  legal-used n l = let h = legal-length v (trailOf s n) l in let e = length-trail s n in omega arith
 
 -- values with an entry more, or less
 module _ {ms : List ℕ} (e : Entry) (t : Trail) (b : HasByte ms (codeOf (e .literal))) where
@@ -61,11 +55,11 @@ module _ {ms : List ℕ} (e : Entry) (t : Trail) (b : HasByte ms (codeOf (e .lit
 
 module _ {v : ℕ} {ts : List ℤ} {ms : List ℕ} {i : ℕ} (r : Packed v ts ms i) where
   pub running-used : i ≤ v
-  running-used = legal-used v ts (bareMarks ms) i (r .legal)
+  running-used = legal-used v (slices ts (bareMarks ms)) i (r .legal)
 
   -- another literal in the first unused entry
   pub set-trail : (l : ℤ) → packedTrail ts ms i ≡ packedTrail (set ts i l) ms i
-  set-trail l = same-trail ts (set ts i l) (bareMarks ms) (bareMarks ms) i (λ j h. ap (λ (x : ℤ). entry x (getD (bareMarks ms) j 0)) (sym (getD-set-other ts i j l (pos 0) (λ e. omega arith))))
+  set-trail l = same-trail (slices ts (bareMarks ms)) (slices (set ts i l) (bareMarks ms)) i (λ j h. ap (λ (x : ℤ). entry x (getD (bareMarks ms) j 0)) (sym (getD-set-other ts i j l (pos 0) (λ e. omega arith))))
 
   pub running-set : (l : ℤ) → Packed v (set ts i l) ms i
   running-set l =
@@ -84,7 +78,7 @@ module _ {v : ℕ} {ts : List ℤ} {ms : List ℕ} {i : ℕ} (r : Packed v ts ms
 
     pub entered-trail : packedTrail ts (assigned ts ms i m) (suc i) ≡ new ∷ packedTrail ts ms i
     unfolding trailOf
-    entered-trail = (λ t. entry (getD ts i (pos 0)) (mark t) ∷ same-trail ts ts (bareMarks (assigned ts ms i m)) (bareMarks ms) i same t)
+    entered-trail = (λ t. entry (getD ts i (pos 0)) (mark t) ∷ same-trail (slices ts (bareMarks (assigned ts ms i m))) (slices ts (bareMarks ms)) i same t)
       where
         room : i < length (madeTrue ts ms i)
         room = simp length-set (let e = r .bytes in omega arith)
@@ -92,7 +86,7 @@ module _ {v : ℕ} {ts : List ℤ} {ms : List ℕ} {i : ℕ} (r : Packed v ts ms
         mark : getD (bareMarks (assigned ts ms i m)) i 0 ≡ m
         mark = low-marked (madeTrue ts ms i) i m room k
 
-        same : (j : ℕ) → j < i → entryAt ts (bareMarks (assigned ts ms i m)) j ≡ entryAt ts (bareMarks ms) j
+        same : (j : ℕ) → j < i → entryAt (slices ts (bareMarks (assigned ts ms i m))) j ≡ entryAt (slices ts (bareMarks ms)) j
         same j l =
             ap (entry (getD ts j (pos 0)))
             (low-others (madeTrue ts ms i) i m j (λ e. omega arith) ∙ ap (λ (ns : List ℕ). getD ns j 0) (bare-value ms (codeOf (getD ts i (pos 0))) (1 + codeOf (getD ts i (pos 0)) % 2)))
@@ -118,8 +112,8 @@ value-start r = record { running = r; same = refl }
 module _ {v : ℕ} {ts : List ℤ} {ms₀ ms : List ℕ} {i : ℕ} (g : Valuing v ts ms₀ ms i) where
   -- one more
   module _ (n : ℕ) (l : Legal v (packedTrail ts ms₀ n)) (h : i < n) where
-    right : Right v (packedTrail ts ms i) (entryAt ts (bareMarks ms) i)
-    right = rw (g .same) (legal-at v ts (bareMarks ms₀) n l i h)
+    right : Right v (packedTrail ts ms i) (entryAt (slices ts (bareMarks ms)) i)
+    right = rw (g .same) (legal-at v (slices ts (bareMarks ms₀)) n l i h)
 
     pub load-byte : HasByte ms (codeOf (getD ts i (pos 0)))
     load-byte = proper-byte (getD ts i (pos 0)) (right .proper) (g .running .bytes)
@@ -134,7 +128,7 @@ module _ {v : ℕ} {ts : List ℤ} {ms₀ ms : List ℕ} {i : ℕ} (g : Valuing 
             literals = g .running .literals;
             bytes = simp length-set (g .running .bytes);
             legal = rw (add-one, e) (right, g .running .legal);
-            values = λ x. rw (add-one, e) (values-more (entryAt ts (bareMarks ms) i) (packedTrail ts ms i) load-byte (g .running .values) x);
+            values = λ x. rw (add-one, e) (values-more (entryAt (slices ts (bareMarks ms)) i) (packedTrail ts ms i) load-byte (g .running .values) x);
           };
           same = e ∙ g .same;
         }
@@ -147,8 +141,8 @@ module _ {v : ℕ} {ts : List ℤ} {ms₀ ms : List ℕ} {i : ℕ} (g : Valuing 
     back : i ≡ suc (i - 1)
     back = omega arith
 
-    was : Right v (packedTrail ts ms (i - 1)) (entryAt ts (bareMarks ms) (i - 1))
-    was = legal-at v ts (bareMarks ms) i (g .running .legal) (i - 1) (omega arith)
+    was : Right v (packedTrail ts ms (i - 1)) (entryAt (slices ts (bareMarks ms)) (i - 1))
+    was = legal-at v (slices ts (bareMarks ms)) i (g .running .legal) (i - 1) (omega arith)
 
     byte : HasByte ms (codeOf (getD ts (i - 1) (pos 0)))
     byte = proper-byte (getD ts (i - 1) (pos 0)) (was .proper) (g .running .bytes)
@@ -162,8 +156,8 @@ module _ {v : ℕ} {ts : List ℤ} {ms₀ ms : List ℕ} {i : ℕ} (g : Valuing 
             few = g .running .few;
             literals = g .running .literals;
             bytes = simp length-set (g .running .bytes);
-            legal = rw e (legal-before v ts (bareMarks ms) i (g .running .legal) (i - 1) (omega arith));
-            values = λ x. rw e (values-less (entryAt ts (bareMarks ms) (i - 1)) (packedTrail ts ms (i - 1)) byte (λ n. g .running .values n ∙ ap (λ (j : ℕ). variableValue (packedTrail ts ms j) n) back) (was .free) x);
+            legal = rw e (legal-before v (slices ts (bareMarks ms)) i (g .running .legal) (i - 1) (omega arith));
+            values = λ x. rw e (values-less (entryAt (slices ts (bareMarks ms)) (i - 1)) (packedTrail ts ms (i - 1)) byte (λ n. g .running .values n ∙ ap (λ (j : ℕ). variableValue (packedTrail ts ms j) n) back) (was .free) x);
           };
           same = e ∙ g .same;
         }

@@ -7,13 +7,13 @@ use mathlib.Core.Path.{_≡_}
 use mathlib.Core.Bool.{cond}
 use mathlib.Core.List.{List}
 use Rattle.cnf.specs.Literals.{mostVariables, codeOf}
-use Rattle.search.specs.Trail.{Trail, trailOf, variableValue}
+use Rattle.search.specs.Trail.{Trail, slices, trailOf, variableValue}
 use Rattle.search_theory.proofs.Legal.{Legal}
 use Rattle.search_scan.specs.PackedValues.{packedValues, bareMarks}
 
 -- the trail in the buffers: literals, and marks in the lowest bits
 abbrev pub packedTrail : List ℤ → List ℕ → ℕ → Trail
-packedTrail ts ms used = trailOf ts (bareMarks ms) used
+packedTrail ts ms used = trailOf (slices ts (bareMarks ms)) used
 
 -- they hold a legal trail, and above the marks the values that it gives
 pub record Packed (v : ℕ) (ts : List ℤ) (ms : List ℕ) (used : ℕ) : Type 0 where

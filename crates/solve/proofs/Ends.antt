@@ -14,23 +14,27 @@ use Rattle.answers.specs.Outcome.{firstRefusal}
 use Rattle.answers.specs.Lent.{Wrote, filled}
 use Rattle.answers.proofs.Lent.{wrote-recast}
 use Rattle.answers.proofs.Rows.{Clear, answered-clear, clear-answered}
-use Rattle.rules.specs.declared.Grid.{Grid}
-use Rattle.rules.specs.Record.{sides, size, mostCells, Sides, RecordFits}
+use Rattle.rules.specs.Record.{sides, size, mostCells, RecordFits}
 use Rattle.rules.specs.Board.{boardOf}
 use Rattle.rules.proofs.Records.{accepted-fits, refusal-number}
 use Rattle.encoder.specs.Variables.{variableCount}
 use Rattle.encoder.specs.Clauses.{clauseList}
 use Rattle.encoder.proofs.Lists.{made-long}
-use Rattle.search.specs.Run.{Ending, Found, None, Halted, endingNumber, doneOutcome}
+use Rattle.search.specs.Trail.{slices}
+use Rattle.search.specs.Run as search
+use Rattle.search.specs.Run.{endingNumber, doneOutcome}
 use Rattle.search.proofs.Endings.{same-ending}
 use Rattle.solver.specs.SolverCall.{Lent, roomRows, solverRows, atFound, written, solverAnswer, solverLeaves}
-use Rattle.search_call.specs.declared.Count.{Count}
+use Rattle.search_call.specs.declared.Ending.{Ending as Answer}
+use Rattle.search_call.specs.declared.Ending.the-variants.{Found}
+use Rattle.search_call.specs.declared.End.{End}
+use Rattle.search_call.specs.Answers.{endingOf}
 use Rattle.solver_call.specs.declared.SolveRefusal.{SolveRefusal}
 use Rattle.solver_call.specs.declared.SolveRefusal.the-variants.{Record, TooShort}
 use Rattle.solver_call.specs.declared.Solved.{Solved}
-use Rattle.solver_call.specs.declared.Solved.the-variants.{Found as Solution, None as NoSolution, Halted as Stopped, Refused}
+use Rattle.solver_call.specs.declared.Solved.the-variants.{Ended, Refused}
 use Rattle.solver_call.specs.Answer.{solveRefusalOutcome, solvedOutcome}
-use Rattle.program_text.specs.Lines.{refusedLine, noneLine, haltedLine, drawingText}
+use Rattle.program_text.specs.Lines.{refusedLine, drawingText}
 use Rattle.program_text.specs.Programs.{mostElements, mostHeld, needsMore, programNumber, budget, searched, endText, drawingAt, printedSolution}
 use Rattle.program_text.proofs.Lines.{drawing-length}
 use Rattle.program_text.proofs.Limits.{limited, clear-parts, clear-accepted, unrefused, same-number, printed-refused, printed-text, printed-fits}
@@ -40,8 +44,7 @@ abbrev pub lent : Lent
 lent =
     record {
       list = replicate mostElements (pos 0);
-      trail = replicate mostHeld (pos 0);
-      marks = replicate mostHeld 0;
+      slices = slices (replicate mostHeld (pos 0)) (replicate mostHeld 0);
       values = replicate mostHeld 0;
       drawing = replicate mostCells 0;
     }
@@ -59,11 +62,9 @@ unsolved-number (TooShort n) e = omega arith
 same-refusal : (s : List ℕ) → solverAnswer s budget lent .number ≡ programNumber s
 same-refusal s =
     same-number s (roomRows (boardOf s) lent) (doneOutcome (searched (boardOf s)))
-    (λ c. by (ltb mostElements (length (clauseList (boardOf s)))) refl (ltb mostHeld (variableCount (boardOf s))) refl
-    (le-ltb mostCells (size (sides s)) (accepted-fits s (clear-accepted s c) .sides .few)))
+    (λ c. by (ltb mostElements (length (clauseList (boardOf s)))) refl (ltb mostHeld (variableCount (boardOf s))) refl (le-ltb mostCells (size (sides s)) (accepted-fits s (clear-accepted s c) .sides .few)))
   where
-    by : (l : Bool) → ltb mostElements (length (clauseList (boardOf s))) ≡ l → (v : Bool) → ltb mostHeld (variableCount (boardOf s)) ≡ v
-        → ltb mostCells (size (sides s)) ≡ false
+    by : (l : Bool) → ltb mostElements (length (clauseList (boardOf s))) ≡ l → (v : Bool) → ltb mostHeld (variableCount (boardOf s)) ≡ v → ltb mostCells (size (sides s)) ≡ false
         → firstRefusal (roomRows (boardOf s) lent) (doneOutcome (searched (boardOf s))) .number ≡ limited (needsMore (boardOf s))
     by true h v k n = rw h
     by false h true k n = rw (h, k)
@@ -88,59 +89,52 @@ module _ {s : List ℕ} {r : Solved} {drawing : List ℕ} (w : Solves s r drawin
       wrote-recast (printed-refused _ n (λ z. unsolved-number u (sym (ap (λ r. solvedOutcome r .number) q) ∙ number-is ∙ z))) p
 
   -- answered: the search ends as told
-  module _ (x : Ending) (e : solvedOutcome r .number ≡ 0) (h : solvedOutcome r .first ≡ endingNumber x) where
+  module _ {e : End} (q : r ≡ Ended e) {x : Answer} (k : e .ending ≡ x) where
+    answered : solvedOutcome r .number ≡ 0
+    answered = ap (λ r. solvedOutcome r .number) q
+
+    said : solvedOutcome r .first ≡ endingNumber (endingOf x)
+    said = ap (λ r. solvedOutcome r .first) q ∙ ap (λ (y : Answer). endingNumber (endingOf y)) k
+
     clear : Clear (solverRows s lent)
-    clear = answered-clear (solverRows s lent) (doneOutcome (searched (boardOf s))) refl (sym (ap (λ (t : Outcome). t .number) (w .outcome)) ∙ e)
+    clear = answered-clear (solverRows s lent) (doneOutcome (searched (boardOf s))) refl (sym (ap (λ (t : Outcome). t .number) (w .outcome)) ∙ answered)
 
     recordFits : RecordFits (sides s) s
     recordFits = accepted-fits s (clear-accepted s (clear-parts s (roomRows (boardOf s) lent) clear .0))
 
-    ending : x ≡ searched (boardOf s) .ending
+    ending : endingOf x ≡ searched (boardOf s) .ending
     ending =
         let a = w .outcome ∙ clear-answered (solverRows s lent) (doneOutcome (searched (boardOf s))) clear in
-        same-ending x (searched (boardOf s) .ending) (sym h ∙ ap (λ (t : Outcome). t .first) a)
+        same-ending (endingOf x) (searched (boardOf s) .ending) (sym said ∙ ap (λ (t : Outcome). t .first) a)
 
-    ends : {text buf out : List ℕ} {n : ℕ} → text ≡ endText x (drawingText (sides s .columns) (cells s)) → Wrote buf 0 text out n
-        → Wrote buf 0 (printedSolution s) out n
-    ends q p = wrote-recast (q ∙ ap (λ x. endText x (drawingText (sides s .columns) (cells s))) ending ∙ printed-text _ (sym number-is ∙ e)) p
+    pub ends : {text buf out : List ℕ} {n : ℕ} → text ≡ endText (endingOf x) (drawingText (sides s .columns) (cells s))
+        → Wrote buf 0 text out n → Wrote buf 0 (printedSolution s) out n
+    ends h p =
+        wrote-recast (h ∙ ap (λ x. endText x (drawingText (sides s .columns) (cells s))) ending ∙ printed-text _ (sym number-is ∙ answered)) p
 
-  pub ends-none : {c : Count} {buf out : List ℕ} {n : ℕ} → r ≡ NoSolution c → Wrote buf 0 noneLine out n → Wrote buf 0 (printedSolution s) out n
-  ends-none q p = ends None (ap (λ r. solvedOutcome r .number) q) (ap (λ r. solvedOutcome r .first) q) refl p
-
-  pub ends-halted : {c : Count} {buf out : List ℕ} {n : ℕ} → r ≡ Stopped c → Wrote buf 0 haltedLine out n → Wrote buf 0 (printedSolution s) out n
-  ends-halted q p = ends Halted (ap (λ r. solvedOutcome r .number) q) (ap (λ r. solvedOutcome r .first) q) refl p
-
-  module _ {c : Count} (q : r ≡ Solution c) where
-    e : solvedOutcome r .number ≡ 0
-    e = ap (λ r. solvedOutcome r .number) q
-
-    h : solvedOutcome r .first ≡ 1
-    h = ap (λ r. solvedOutcome r .first) q
-
+  module _ {e : End} (q : r ≡ Ended e) (k : e .ending ≡ Found) where
     drawn : drawing ≡ filled (lent .drawing) (cells s)
     drawn =
         w .left ∙
-        ap (λ n. cond (eqb n 0) (written (boardOf s) (searched (boardOf s)) lent) lent .drawing) (sym (ap (λ (t : Outcome). t .number) (w .outcome)) ∙ e) ∙
-        ap (λ x. atFound x (lent .drawing) (filled (lent .drawing) (cells s))) (sym (ending Found e h))
+        ap (λ n. cond (eqb n 0) (written (boardOf s) (searched (boardOf s)) lent) lent .drawing) (sym (ap (λ (t : Outcome). t .number) (w .outcome)) ∙ answered q k) ∙
+        ap (λ x. atFound x (lent .drawing) (filled (lent .drawing) (cells s))) (sym (ending q k))
 
-    -- over the grid that was read
-    module _ {g : Grid} (is : g ≡ sides s) where
-      pub found-sides : Sides g
-      found-sides = rw is (recordFits Found e h .sides)
+    pub found-held : RecordFits (sides s) s
+    found-held = recordFits q k
 
-      pub found-inside : size g ≤ length drawing
-      found-inside = rw is (omega (arith, cells-long s, simp length-append at (ap length drawn)))
+    pub found-inside : size (sides s) ≤ length drawing
+    found-inside = omega (arith, cells-long s, simp length-append at (ap length drawn))
 
-      pub ends-found : {buf out : List ℕ} {n : ℕ} → Wrote buf 0 (drawingText (g .columns) (take (size g) drawing)) out n → Wrote buf 0 (printedSolution s) out n
-      ends-found p =
-          let is-drawn : take (size (sides s)) drawing ≡ cells s = ap (take (size (sides s))) drawn ∙ take-at (cells s) _ (size (sides s)) (cells-long s) in
-          ends Found e h (ap (λ (g : Grid). drawingText (g .columns) (take (size g) drawing)) is ∙ ap (drawingText (sides s .columns)) is-drawn) p
+    pub ends-found : {buf out : List ℕ} {n : ℕ} → Wrote buf 0 (drawingText (sides s .columns) (take (size (sides s)) drawing)) out n
+        → Wrote buf 0 (printedSolution s) out n
+    ends-found p =
+        ends q k (ap (drawingText (sides s .columns)) (ap (take (size (sides s))) drawn ∙ take-at (cells s) _ (size (sides s)) (cells-long s))) p
 
 -- what the program prints fits 4,096 bytes
 pub solution-fits : (s : List ℕ) → length (printedSolution s) ≤ 4096
 solution-fits s = printed-fits s _ 4096 (omega arith) (λ e. by (searched (boardOf s) .ending) (accepted-fits s (unrefused s e .0) .sides .few))
   where
-    by : (x : Ending) → size (sides s) ≤ mostCells → length (endText x (drawingText (sides s .columns) (cells s))) ≤ 4096
-    by Found h = omega (arith, drawing-length (sides s .columns) 0 (cells s), cells-long s)
-    by None h = omega arith
-    by Halted h = omega arith
+    by : (x : search.Ending) → size (sides s) ≤ mostCells → length (endText x (drawingText (sides s .columns) (cells s))) ≤ 4096
+    by search.Found h = omega (arith, drawing-length (sides s .columns) 0 (cells s), cells-long s)
+    by search.None h = omega arith
+    by search.Halted h = omega arith

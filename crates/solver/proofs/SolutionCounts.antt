@@ -4,20 +4,16 @@ use mathlib.Core.Path.{_≡_, refl, sym, _∙_, ap, subst}
 use mathlib.Core.Bool.{Bool, true, false}
 use mathlib.Core.Logic.{_↔_}
 use mathlib.Core.List.{List}
-use Rattle.answers.specs.declared.Outcome.{Outcome}
 use Rattle.answers.proofs.Bools.{clash}
 use Rattle.rules.specs.Record.{IsAccepted}
 use Rattle.rules.specs.Board.{boardOf}
 use Rattle.rules.specs.Drawing.{SolutionBytes}
+use Rattle.rules.specs.Solutions.{OneSolution as HasOne, SeveralSolutions as HasSeveral}
 use Rattle.encoder.specs.Variables.{variableCount}
 use Rattle.encoder.specs.Clauses.{clauseList}
-use Rattle.search.specs.Run.{Ending, Found, None, Halted, Done, endingNumber}
-use Rattle.search.specs.NextCall.{following}
+use Rattle.search.specs.Run.{Ending, Found, None, Halted, Done, endingNumber, following}
+use Rattle.search.specs.Call.{Search, Handed, bySearch, byNext, Says, resumed}
 use Rattle.search.proofs.Endings.{same-ending, other-ending}
-use Rattle.demands.specs.Searches.{Search, bySearch, Says}
-use Rattle.demands.specs.Solutions.{OneSolution as HasOne, SeveralSolutions as HasSeveral}
-use Rattle.demands.specs.Following.{byNext, resumed}
-use Rattle.demands.proofs.Following as calls
 use Rattle.solver.specs.SolverCall.{solved}
 use Rattle.solver.specs.SolutionCount.{SolutionCount, NoSolution, OneSolution, SeveralSolutions, Unknown, second, afterFirst, solutionCountOf}
 use Rattle.solver.proofs.Begun as begun
@@ -44,19 +40,19 @@ module _ (s : List ℕ) (acc : IsAccepted s) (budget : ℕ) where
   outcome-next found b = by (following v (clauseList (boardOf s)) b (done .trail) .ending) refl
     where
       c : Search
-      c = begun.zeros s acc budget
+      c = begun.zeros s acc
 
-      first : Says (bySearch c) Found
-      first = ap (λ (t : Outcome). t .first) (begun.zeros-tell s acc budget) ∙ ap endingNumber found
+      first : Says (bySearch c budget) Found
+      first = ap (λ (h : Handed). h .outcome .first) (begun.zeros-hand s acc budget) ∙ ap endingNumber found
 
-      said : (x : Ending) → following v (clauseList (boardOf s)) b (done .trail) .ending ≡ x → Says (byNext (resumed c (bySearch c) b)) x
+      said : (x : Ending) → following v (clauseList (boardOf s)) b (done .trail) .ending ≡ x → Says (byNext (resumed c (bySearch c budget)) b) x
       said x e =
-          ap (λ (t : Outcome). t .first) (calls.goes-to s c (begun.zeros-begun s acc budget) first b)
+          ap (λ (h : Handed). h .outcome .first) (begun.next-hands s c (begun.zeros-begun s acc) budget first b)
           ∙ ap endingNumber (ap (λ t. following v (clauseList (boardOf s)) b t .ending) (begun.zeros-end s acc budget) ∙ e)
 
       by : (x : Ending) → following v (clauseList (boardOf s)) b (done .trail) .ending ≡ x → Tells s (second x)
-      by None e = calls.then-none s c (begun.zeros-begun s acc budget) first b (said None e)
-      by Found e = calls.then-found s c (begun.zeros-begun s acc budget) first b (said Found e)
+      by None e = begun.then-none s c (begun.zeros-begun s acc) budget first b (said None e)
+      by Found e = begun.then-found s c (begun.zeros-begun s acc) budget first b (said Found e)
       by Halted e = tt
 
   outcome-many : Tells s (solutionCountOf (boardOf s) budget)
@@ -64,7 +60,7 @@ module _ (s : List ℕ) (acc : IsAccepted s) (budget : ℕ) where
     where
       by : (x : Ending) → done .ending ≡ x → Tells s (afterFirst x (following v (clauseList (boardOf s)) (budget - done .steps) (done .trail) .ending))
       by Found e = outcome-next e (budget - done .steps)
-      by None e = begun.none-exactly s acc budget (λ h. other-ending (sym e ∙ same-ending (done .ending) Halted h) refl) .0 (ap endingNumber e)
+      by None e = begun.solved-none s acc budget (λ h. other-ending (sym e ∙ same-ending (done .ending) Halted h) refl) .0 (ap endingNumber e)
       by Halted e = tt
 
 -- two things told of one grid are the same, if both are settled

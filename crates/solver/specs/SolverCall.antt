@@ -11,14 +11,13 @@ use Rattle.rules.specs.Board.{Board, boardOf}
 use Rattle.encoder.specs.Variables.{variableCount}
 use Rattle.encoder.specs.Clauses.{clauseList}
 use Rattle.encoder.specs.Decoding.{bytesOf, decoded}
-use Rattle.search.specs.Trail.{Trail, trailImage, marksImage, valuesOf}
+use Rattle.search.specs.Trail.{Trail, Slices, filledSlices, image, valuesOf}
 use Rattle.search.specs.Run.{Ending, Found, None, Halted, Done, run, doneOutcome}
 
--- the five lent buffers
+-- the lent buffers
 pub record Lent : Type 0 where
   pub list : List ℤ
-  pub trail : List ℤ
-  pub marks : List ℕ
+  pub slices : Slices
   pub values : List ℕ
   pub drawing : List ℕ
 
@@ -34,8 +33,8 @@ trailBytes v t = bytesOf (valuesOf v t)
 abbrev pub roomRows : Board → Lent → List Row
 roomRows b lent =
     row 6 (tooShort (length (lent .list)) (length (clauseList b))) ∷
-    row 6 (tooShort (length (lent .trail)) (variableCount b)) ∷
-    row 6 (tooShort (length (lent .marks)) (variableCount b)) ∷
+    row 6 (tooShort (length (lent .slices .trail)) (variableCount b)) ∷
+    row 6 (tooShort (length (lent .slices .marks)) (variableCount b)) ∷
     row 6 (tooShort (length (lent .values)) (variableCount b)) ∷
     row 6 (tooShort (length (lent .drawing)) (b .size)) ∷
     []
@@ -54,13 +53,12 @@ atFound Found before after = after
 atFound None before after = before
 atFound Halted before after = before
 
--- the clause list, the trail at which the search ends and its marks; at "found" the trail's bytes and the drawing to which they decode
+-- the clause list, and the trail at which the search ends; at "found" the trail's bytes and the drawing to which they decode
 abbrev pub written : Board → Done → Lent → Lent
 written b done lent =
     record {
       list = filled (lent .list) (clauseList b);
-      trail = filled (lent .trail) (trailImage (variableCount b) (done .trail));
-      marks = filled (lent .marks) (marksImage (variableCount b) (done .trail));
+      slices = filledSlices (lent .slices) (image (variableCount b) (done .trail));
       values = atFound (done .ending) (lent .values) (filled (lent .values) (trailBytes (variableCount b) (done .trail)));
       drawing = atFound (done .ending) (lent .drawing) (filled (lent .drawing) (decoded b (trailBytes (variableCount b) (done .trail))));
     }

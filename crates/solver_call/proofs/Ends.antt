@@ -22,9 +22,8 @@ use Rattle.encoder.specs.Variables.{variableCount}
 use Rattle.encoder.specs.Clauses.{clauses, clauseList}
 use Rattle.encoder.specs.Encoding.{encoderAnswer, encoderLeaves}
 use Rattle.search.specs.Run.{Done, doneOutcome}
-use Rattle.search_call.specs.declared.Answer.{Answer}
-use Rattle.search_call.specs.declared.Answer.the-variants.{Found, None, Halted, Lengths as WrongLengths, List as WrongList, Entry as WrongEntry, Untrue}
-use Rattle.search_call.specs.Answers.{answerOutcome}
+use Rattle.search_call.specs.declared.End.{End}
+use Rattle.search_call.specs.Answers.{endOutcome}
 use Rattle.solver.specs.SolverCall.{Lent, solved, roomRows, solverAnswer, written, solverLeaves}
 use Rattle.solver_call.specs.declared.Lengths.{Lengths}
 use Rattle.solver_call.specs.declared.Needs.{Needs}
@@ -33,20 +32,17 @@ use Rattle.solver_call.specs.declared.Room.the-variants.{Enough, Short}
 use Rattle.solver_call.specs.Room.{needsOf, roomTells, shortRows}
 use Rattle.solver_call.specs.GridSearch.{Fits, Ends}
 use Rattle.solver_call.specs.declared.Solved.{Solved}
-use Rattle.solver_call.specs.Answer.{solvedOutcome, passedUp, endedAs, lentOf}
-
--- a search that is not turned down
-ended-outcome : (a : Answer) (d : Done) → answerOutcome a ≡ doneOutcome d → solvedOutcome (endedAs a) ≡ doneOutcome d
-ended-outcome (Found c) d e = e
-ended-outcome (None c) d e = e
-ended-outcome (Halted c) d e = e
-ended-outcome WrongLengths d e = let z = ap (λ (t : Outcome). t .number) e in absurd (omega arith)
-ended-outcome (WrongList i) d e = let z = ap (λ (t : Outcome). t .number) e in absurd (omega arith)
-ended-outcome (WrongEntry i) d e = let z = ap (λ (t : Outcome). t .number) e in absurd (omega arith)
-ended-outcome Untrue d e = let z = ap (λ (t : Outcome). t .number) e in absurd (omega arith)
+use Rattle.solver_call.specs.Answer.{solvedOutcome, passedUp, lentOf}
 
 abbrev lengthsOf : Lent → Lengths
-lengthsOf lent = record { list = length (lent .list); trail = length (lent .trail); marks = length (lent .marks); values = length (lent .values); drawing = length (lent .drawing) }
+lengthsOf lent =
+    record {
+      list = length (lent .list);
+      trail = length (lent .slices .trail);
+      marks = length (lent .slices .marks);
+      values = length (lent .values);
+      drawing = length (lent .drawing);
+    }
 
 module _ (s : List ℕ) (budget : ℕ) (lent : Lent) where
   abbrev done : Done
@@ -94,7 +90,7 @@ module _ (s : List ℕ) (budget : ℕ) (lent : Lent) where
               let rows = row 6 (tooShort (length (lent .list)) (length (clauseList (boardOf s)))) ∷ [] in
               refusals-append (recordRows s) rows t ∙ clear-answered (recordRows s) _ (accepted-clear s (is-accepted s q e)) ∙ clear-answered rows t (clear .0, tt)
 
-      pub fits : Fits s needed ls (lent .trail) (lent .marks) (lent .values) (lent .drawing)
+      pub fits : Fits s needed ls (lent .slices .trail) (lent .slices .marks) (lent .values) (lent .drawing)
       fits =
           let (c1, (c2, (c3, (c4, (c5, c))))) = clear in
           let cs = clauseList (boardOf s) in
@@ -109,8 +105,11 @@ module _ (s : List ℕ) (budget : ℕ) (lent : Lent) where
             drawing = enough _ c5;
           })
 
-      pub ends-solved : {x : Solved} {a : Answer} {us : List ℤ} {ns ws es : List ℕ} → x ≡ endedAs a → Ends s budget (lent .trail) (lent .marks) (lent .values) (lent .drawing) a us ns ws es → CallEnds (solvedOutcome x) (lentOf ls us ns ws es)
-      ends-solved {a = a} {us} {ns} {ws} {es} y h =
+      pub ends-solved : {e : End} {us : List ℤ} {ns ws es : List ℕ}
+          → Ends s budget (lent .slices .trail) (lent .slices .marks) (lent .values) (lent .drawing) e us ns ws es
+          → CallEnds (endOutcome e) (lentOf ls us ns ws es)
+      ends-solved {us = us} {ns} {ws} {es} h =
           let outcome = by-room w (doneOutcome done) ∙ goes in
-          let left : lentOf ls us ns ws es ≡ written (boardOf s) done lent = (λ i. lentOf (encoded i) (h .trail i) (h .marks i) (h .values i) (h .drawing i)) in
-          (ap solvedOutcome y ∙ ended-outcome a done (h .outcome) ∙ outcome, left ∙ ap (λ t. unlessRefused t lent (written (boardOf s) done lent)) outcome)
+          let left : lentOf ls us ns ws es ≡ written (boardOf s) done lent =
+          (λ i. record { list = encoded i; slices = h .slices i; values = h .values i; drawing = h .drawing i }) in
+          (h .outcome ∙ outcome, left ∙ ap (λ t. unlessRefused t lent (written (boardOf s) done lent)) outcome)

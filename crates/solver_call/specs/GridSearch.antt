@@ -10,12 +10,12 @@ use Rattle.rules.specs.Board.{boardOf}
 use Rattle.encoder.specs.Variables.{variableCount}
 use Rattle.encoder.specs.Clauses.{clauseList}
 use Rattle.encoder.specs.Decoding.{decoded}
-use Rattle.search.specs.Trail.{trailImage, marksImage, trailOf}
+use Rattle.search.specs.Trail.{slices, filledSlices, image, trailOf}
 use Rattle.search.specs.Run.{doneOutcome}
 use Rattle.search_theory.proofs.Lists.{Proper}
 use Rattle.search_theory.proofs.Legal.{Legal}
-use Rattle.search_call.specs.declared.Answer.{Answer}
-use Rattle.search_call.specs.Answers.{answerOutcome}
+use Rattle.search_call.specs.declared.End.{End}
+use Rattle.search_call.specs.Answers.{endOutcome}
 use Rattle.solver.specs.SolverCall.{solved, trailBytes, atFound}
 use Rattle.solver_call.specs.declared.Needs.{Needs}
 use Rattle.solver_call.specs.Room.{needsOf}
@@ -27,7 +27,7 @@ pub record Literals (v : ℕ) (ts : List ℤ) : Type 0 where
 
 -- where these are, with any marks, the literals of a trail, the bytes are that trail's
 abbrev pub Gives : ℕ → List ℤ → List ℕ → Type 0
-Gives v ts vs = (ms : List ℕ) → Legal v (trailOf ts ms v) → vs ≡ trailBytes v (trailOf ts ms v)
+Gives v ts vs = (ms : List ℕ) → Legal v (trailOf (slices ts ms) v) → vs ≡ trailBytes v (trailOf (slices ts ms) v)
 
 -- an accepted record, a list that begins with its grid's clauses, and buffers that have room
 pub record Fits (s : List ℕ) (needed : Needs) (ls ts : List ℤ) (ms vs ds : List ℕ) : Type 0 where
@@ -41,9 +41,9 @@ pub record Fits (s : List ℕ) (needed : Needs) (ls ts : List ℤ) (ms vs ds : L
   pub drawing : needed .cells ≤ length ds
 
 -- from trail, marks, values and drawing, what is answered and left in them
-pub record Ends (s : List ℕ) (budget : ℕ) (ts : List ℤ) (ms vs ds : List ℕ) (a : Answer) (us : List ℤ) (ns ws es : List ℕ) : Type 0 where
-  pub outcome : answerOutcome a ≡ doneOutcome (solved (boardOf s) budget)
-  pub trail : us ≡ filled ts (trailImage (variableCount (boardOf s)) (solved (boardOf s) budget .trail))
-  pub marks : ns ≡ filled ms (marksImage (variableCount (boardOf s)) (solved (boardOf s) budget .trail))
+pub record Ends (s : List ℕ) (budget : ℕ) (ts : List ℤ) (ms vs ds : List ℕ) (e : End) (us : List ℤ) (ns ws es : List ℕ) : Type 0 where
+  pub outcome : endOutcome e ≡ doneOutcome (solved (boardOf s) budget)
+  pub slices : slices us ns ≡ filledSlices (slices ts ms) (image (variableCount (boardOf s)) (solved (boardOf s) budget .trail))
   pub values : ws ≡ atFound (solved (boardOf s) budget .ending) vs (filled vs (trailBytes (variableCount (boardOf s)) (solved (boardOf s) budget .trail)))
-  pub drawing : es ≡ atFound (solved (boardOf s) budget .ending) ds (filled ds (decoded (boardOf s) (trailBytes (variableCount (boardOf s)) (solved (boardOf s) budget .trail))))
+  pub drawing : es
+      ≡ atFound (solved (boardOf s) budget .ending) ds (filled ds (decoded (boardOf s) (trailBytes (variableCount (boardOf s)) (solved (boardOf s) budget .trail))))

@@ -4,8 +4,9 @@ ghost use Rattle.solver_call.specs.GridSearch.{Literals, Gives, Fits, En
 use super::Needs;
 use cnf::code_at;
 use decoder::decode;
-use search_call::Answer;
-use search_call::search;
+use search_call::End;
+use search_call::Ending;
+use search_call::searched;
 
 // Writes a full trail's bytes: 1 at the variable of each literal, 0 if it is negated.
 fn give_values(trail: &[i32], values: &mut [u8])
@@ -31,25 +32,25 @@ pub fn find_drawing(
     drawing: &mut [u8],
     needed: Needs,
     budget: u64,
-) -> Answer
+) -> End
     requires { ⌜ Fits (now «record») needed (now list) (now trail) (now marks) (now values) (now drawing) ⌝ }
     ensures { λ r. ⌜ Ends (now («record» .entry)) budget (now (trail .entry)) (now (marks .entry)) (now (values .entry)) (now (drawing .entry)) r (now (trail .exit)) (now (marks .exit)) (now (values .exit)) (now (drawing .exit)) ⌝ }
 {
     let elements = needed.elements;
     let v = needed.variables;
     let n = needed.cells;
-    let answer = search(
-        v,
+    let end = searched(
         &list[..elements],
         &mut trail[..v],
         &mut marks[..v],
         0,
         budget,
     );
-    let Answer::Found(_) = answer else {
-        return answer;
+    let ending = end.ending;
+    let Ending::Found = ending else {
+        return end;
     };
     give_values(&trail[..v], &mut values[..v]);
     decode(record, &values[..v], &mut drawing[..n]);
-    answer
+    end
 }

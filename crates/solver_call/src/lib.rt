@@ -1,7 +1,7 @@
 // The solver: a record's bytes in; a drawing, "none" or "halted" out.
 ghost use mathlib.Core.Path.{_≡_};
 ghost use Rattle.solver.specs.SolverCall.{solverAnswer, solverLeaves};
-ghost use Rattle.solver_call.specs.Answer.{solvedOutcome, passedUp, endedAs, lentOf};
+ghost use Rattle.solver_call.specs.Answer.{solvedOutcome, passedUp, lentOf};
 use encoder_call::encode;
 use grid_search::find_drawing;
 use rooms::first_short;
@@ -9,8 +9,7 @@ use rooms::needs_of;
 use rules::Parsed;
 use rules::RecordRefusal;
 use rules::record::read;
-use search_call::Answer;
-use search_call::Count;
+use search_call::End;
 
 pub mod outcome; // the outcomes in document 01's numbers
 mod rooms; // what a grid needs of the lent buffers
@@ -44,27 +43,10 @@ pub enum SolveRefusal {
     TooShort(usize),
 }
 
-// The answers of the search, each with its steps and its used count.
+// What the solver answers: how the search ended, or a refusal.
 pub enum Solved {
-    Found(Count),
-    None(Count),
-    Halted(Count),
+    Ended(End),
     Refused(SolveRefusal),
-}
-
-// How a search on a grid's clauses ended. It is never turned down.
-fn ended(answer: Answer) -> Solved
-    ensures { λ r. ⌜ r ≡ endedAs answer ⌝ }
-{
-    match answer {
-        Answer::Found(c) => Solved::Found(c),
-        Answer::None(c) => Solved::None(c),
-        Answer::Halted(c) => Solved::Halted(c),
-        Answer::Lengths => Solved::Halted(Count { steps: 0, used: 0 }),
-        Answer::List(_) => Solved::Halted(Count { steps: 0, used: 0 }),
-        Answer::Entry(_) => Solved::Halted(Count { steps: 0, used: 0 }),
-        Answer::Untrue => Solved::Halted(Count { steps: 0, used: 0 }),
-    }
 }
 
 // A refusal of the record reader, passed up unchanged.
@@ -72,7 +54,7 @@ fn passed_up(p: Parsed) -> Solved
     ensures { λ r. ⌜ r ≡ passedUp p ⌝ }
 {
     let Parsed::Refused(r) = p else {
-        return Solved::Halted(Count { steps: 0, used: 0 });
+        return Solved::Refused(SolveRefusal::TooShort(0));
     };
     Solved::Refused(SolveRefusal::Record(r))
 }
@@ -107,6 +89,6 @@ pub fn solve(
         return Solved::Refused(SolveRefusal::TooShort(n));
     }
     encode(record, list);
-    let answer = find_drawing(record, list, trail, marks, values, drawing, needed, budget);
-    ended(answer)
+    let end = find_drawing(record, list, trail, marks, values, drawing, needed, budget);
+    Solved::Ended(end)
 }

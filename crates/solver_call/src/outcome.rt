@@ -4,7 +4,6 @@ ghost use Rattle.solver_call.specs.Answer.{solveRefusalOutcome, solvedOu
 use super::SolveRefusal;
 use super::Solved;
 use answers::Outcome;
-use answers::answered;
 use answers::refused;
 
 impl SolveRefusal {
@@ -25,9 +24,7 @@ impl Solved {
         ensures { λ r. ⌜ r ≡ solvedOutcome self ⌝ }
     {
         match self {
-            Solved::Found(c) => answered(1, c.steps, c.used as u64),
-            Solved::None(c) => answered(2, c.steps, c.used as u64),
-            Solved::Halted(c) => answered(3, c.steps, c.used as u64),
+            Solved::Ended(e) => e.outcome(),
             Solved::Refused(u) => u.outcome(),
         }
     }

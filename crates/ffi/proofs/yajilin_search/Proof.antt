@@ -2,6 +2,7 @@
 use mathlib.Core.Path.{_∙_, ap}
 use Rattle.answers.specs.declared.Outcome.{Outcome}
 use Rattle.answers.specs.Outcome.{words}
+use Rattle.search.specs.Call.{Handed}
 use borrow.Author.Needs.{needs}
 use Rattle.ffi.proofs.yajilin_search.Statement.{statement}
 use Rattle.ffi.proofs.yajilin_search.Tie as tie
@@ -22,7 +23,10 @@ same-length-2 : tie.Need-same-length-2
 same-length-2 c = search needs
 
 returns : tie.Need-returns
-returns c = let e = c .before .before .outcome .ensures ∙ c .before .before .before .before .before .before .search .ensures .0 in (c .write .ensures .0 ∙ ap (λ (t : Outcome). t .number) e, (c .before .before .before .before .before .before .search .ensures .1 .0, (c .before .before .before .before .before .before .search .ensures .1 .1, c .write .ensures .1 ∙ ap words e)))
+returns c =
+    let e = c .before .before .before .before .before .before .search .ensures in
+    let told = c .before .before .outcome .ensures ∙ ap (λ (h : Handed). h .outcome) e in
+    (c .write .ensures .0 ∙ ap (λ (t : Outcome). t .number) told, (ap (λ (h : Handed). h .slices) e, c .write .ensures .1 ∙ ap words told))
 
 pub yajilin-search-spec : {M : Type 1} → statement M
 yajilin-search-spec =

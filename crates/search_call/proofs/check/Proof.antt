@@ -8,21 +8,29 @@ use Rattle.answers.specs.declared.Outcome.{Outcome}
 use Rattle.answers.specs.Outcome.{Row, cause}
 use Rattle.answers.proofs.First.{found-at, found-none}
 use Rattle.answers.proofs.Rows.{Left, left-all, left-next, left-turn, left-done}
-use Rattle.search.specs.Run.{searchRows}
-use Rattle.search_call.proofs.Calls.{Sized, sized}
+use Rattle.search.specs.Trail.{slices}
+use Rattle.search.specs.Call.{searchOn, searchRows}
+use Rattle.search_theory.proofs.Accepted.{Sized, sized}
 use Rattle.search_call.proofs.check.Statement.{statement}
 use Rattle.search_call.proofs.check.Tie as tie
 
 abbrev rows : tie.Start → List Row
-rows c = searchRows (c .args .variables) (c .args .list .now) (c .args .trail .now) (c .args .marks .now) (c .args .used)
+rows c = searchRows (searchOn (c .args .variables) (c .args .list .now) (c .args .trail .now) (c .args .marks .now) (c .args .used))
 
-lengths : (c : tie.Else1) → Sized (c .before .before .before .args .variables) (c .before .before .before .args .trail .now) (c .before .before .before .args .marks .now) (c .before .before .before .args .used)
-lengths c = sized (c .before .before .before .args .trail .now) (c .before .before .before .args .marks .now) (sym (c .before .wrong-lengths .ensures) ∙ c .if1 .left)
+-- the state at the start, after the lengths and after the list
+abbrev start1 : tie.Else1 → tie.Start
+start1 c = c .before .before .before
 
-past-lengths : (c : tie.Else1) (t : Outcome) → Left (rows (c .before .before .before)) t (drop 1 (rows (c .before .before .before)))
-past-lengths c t = left-next (left-all (rows (c .before .before .before)) t) (sym (ap cause (c .if1 .left)) ∙ ap cause (c .before .wrong-lengths .ensures))
+abbrev start2 : tie.After-enum-told → tie.Start
+start2 c = start1 (c .before .before .before)
 
-past-list : (c : tie.After-enum-told) (t : Outcome) → Left (rows (c .before .before .before .before .before .before)) t (drop 2 (rows (c .before .before .before .before .before .before)))
+lengths : (c : tie.Else1) → Sized (start1 c .args .variables) (slices (start1 c .args .trail .now) (start1 c .args .marks .now)) (start1 c .args .used)
+lengths c = sized _ (sym (c .before .wrong-lengths .ensures) ∙ c .if1 .left)
+
+past-lengths : (c : tie.Else1) (t : Outcome) → Left (rows (start1 c)) t (drop 1 (rows (start1 c)))
+past-lengths c t = left-next (left-all (rows (start1 c)) t) (sym (ap cause (c .if1 .left)) ∙ ap cause (c .before .wrong-lengths .ensures))
+
+past-list : (c : tie.After-enum-told) (t : Outcome) → Left (rows (start2 c)) t (drop 2 (rows (start2 c)))
 past-list c t = left-next (past-lengths (c .before .before .before) t) (found-none (c .enum-told .given .1) (c .before .before .wrong-list .ensures))
 
 wrong-lengths-requires : tie.Need-wrong-lengths-requires
@@ -44,7 +52,12 @@ enum-told : tie.Need-enum-told
 enum-told c = search needs
 
 first-wrong-entry-requires : tie.Need-first-wrong-entry-requires
-first-wrong-entry-requires c κs = let z = lengths (c .before .before .before) in let i = z .inside in let n = z .literals in let m = z .bytes in (z .few, (omega arith, omega arith))
+first-wrong-entry-requires c κs =
+    let z = lengths (c .before .before .before) in
+    let i = z .inside in
+    let n = z .long .trail in
+    let m = z .long .marks in
+    (z .few, (omega arith, omega arith))
 
 enum-known-p-2 : tie.Need-enum-known-p-2
 enum-known-p-2 c = search needs

@@ -14,10 +14,16 @@ abbrev μ-loop : tie.MeasureT-loop
 μ-loop list trail₀ marks₀ first budget used₀ n₀ trail marks used n = budget - n
 
 returns : tie.Need-returns Inv-loop μ-loop
-returns c = go-found (c .before .before .before .before .before .before .before .before .before .loop .inv) (c .before .before .before .before .before .before .before .before .loop-test .taken) (c .before .before .before .before .before .step .ensures) (c .enum-told .given .1)
+returns c =
+    let at-step = c .before .before .before .before .before in
+    let at-loop = at-step .before .before .before .before in
+    go-found (at-loop .loop .inv) (at-step .before .before .before .loop-test .taken) (at-step .step .ensures) (c .enum-told .given .1)
 
 returns-2 : tie.Need-returns-2 Inv-loop μ-loop
-returns-2 c = go-none (c .before .before .before .before .before .before .before .before .before .loop .inv) (c .before .before .before .before .before .before .before .before .loop-test .taken) (c .before .before .before .before .before .step .ensures) (c .enum-told2 .given .1)
+returns-2 c =
+    let at-step = c .before .before .before .before .before in
+    let at-loop = at-step .before .before .before .before in
+    go-none (at-loop .loop .inv) (at-step .before .before .before .loop-test .taken) (at-step .step .ensures) (c .enum-told2 .given .1)
 
 returns-3 : tie.Need-returns-3 Inv-loop μ-loop
 returns-3 c = go-over (c .before .loop .inv) (c .loop-test .left)
@@ -26,7 +32,7 @@ loop-holds : tie.Need-loop-holds Inv-loop μ-loop
 loop-holds c = go-start (c .before .pre .0) (c .before .pre .1)
 
 step-requires : tie.Need-step-requires Inv-loop μ-loop
-step-requires c κs = (go-standing (c .before .before .before .loop .inv) .running, go-standing (c .before .before .before .loop .inv) .listed)
+step-requires c κs = let s = go-standing (c .before .before .before .loop .inv) in (s .running, s .listed)
 
 add-steps : tie.Need-add-steps Inv-loop μ-loop
 add-steps c = search needs
@@ -38,13 +44,19 @@ loop-less : tie.Need-loop-less Inv-loop μ-loop
 loop-less c = omega arith
 
 loop-again : tie.Need-loop-again Inv-loop μ-loop
-loop-again c = go-moved (c .before .before .before .before .before .before .before .before .before .before .loop .inv) (c .before .before .before .before .before .before .before .before .before .loop-test .taken) (c .before .before .before .before .before .before .step .ensures) (c .before .s .given .1)
+loop-again c =
+    let at-step = c .before .before .before .before .before .before in
+    let at-loop = at-step .before .before .before .before in
+    go-moved (at-loop .loop .inv) (at-step .before .before .before .loop-test .taken) (at-step .step .ensures) (c .before .s .given .1)
 
 enum-told : tie.Need-enum-told Inv-loop μ-loop
 enum-told c = search needs
 
 same-length : tie.Need-same-length Inv-loop μ-loop
-same-length c = returns c .running .literals ∙ sym (c .before .before .before .before .before .before .before .before .before .before .before .pre .0 .literals)
+same-length c =
+    let at-step = c .before .before .before .before .before in
+    let start = at-step .before .before .before .before .before .before in
+    returns c .running .literals ∙ sym (start .pre .0 .literals)
 
 same-length-2 : tie.Need-same-length-2 Inv-loop μ-loop
 same-length-2 c = returns c .running .bytes
@@ -53,7 +65,10 @@ enum-told-2 : tie.Need-enum-told-2 Inv-loop μ-loop
 enum-told-2 c = search needs
 
 same-length-3 : tie.Need-same-length-3 Inv-loop μ-loop
-same-length-3 c = returns-2 c .running .literals ∙ sym (c .before .before .before .before .before .before .before .before .before .before .before .pre .0 .literals)
+same-length-3 c =
+    let at-step = c .before .before .before .before .before in
+    let start = at-step .before .before .before .before .before .before in
+    returns-2 c .running .literals ∙ sym (start .pre .0 .literals)
 
 same-length-4 : tie.Need-same-length-4 Inv-loop μ-loop
 same-length-4 c = returns-2 c .running .bytes

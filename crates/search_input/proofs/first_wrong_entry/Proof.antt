@@ -1,6 +1,7 @@
 -- `search_input::first_wrong_entry` meets its contract. Assumes nothing.
 use native.Mathlib.Omega.{arith}
-use Rattle.search.specs.Run.{wrongEntryAt}
+use Rattle.search.specs.Trail.{slices}
+use Rattle.search.specs.Call.{wrongEntryAt}
 use Rattle.search_input.specs.Entries.{Until}
 use Rattle.search_input.proofs.Bounds.{until-found, until-none}
 use Rattle.search_input.proofs.Entries.{faulty-inside, wrong-entries}
@@ -9,7 +10,7 @@ use Rattle.search_input.proofs.first_wrong_entry.Statement.{statement}
 use Rattle.search_input.proofs.first_wrong_entry.Tie as tie
 
 -- the place at which both functions stop
-both : (c : tie.After-first-again) → Until (wrongEntryAt (c .before .before .before .args .v) (c .before .before .before .args .trail .now) (c .before .before .before .args .marks .now)) (c .before .before .before .args .used) (c .first-again .result)
+both : (c : tie.After-first-again) → Until (wrongEntryAt (c .before .before .before .args .v) (slices (c .before .before .before .args .trail .now) (c .before .before .before .args .marks .now))) (c .before .before .before .args .used) (c .first-again .result)
 both c = wrong-entries (c .before .before .before .args .v) (c .before .before .before .args .trail .now) (c .before .before .before .args .marks .now) (c .before .first-faulty .ensures) (c .first-again .ensures)
 
 first-faulty-requires : tie.Need-first-faulty-requires

@@ -8,88 +8,28 @@ use Rattle.search_call.proofs.Answer.outcome.Tie as tie
 enum-known-self : tie.Need-enum-known-self
 enum-known-self c = search needs
 
-answered-requires : tie.Need-answered-requires
-answered-requires c κs = search needs
+outcome-requires : tie.Need-outcome-requires
+outcome-requires c κs = search needs
 
 enum-known-self-2 : tie.Need-enum-known-self-2
 enum-known-self-2 c = search needs
 
-answered-requires-2 : tie.Need-answered-requires-2
-answered-requires-2 c κs = search needs
-
-enum-known-self-3 : tie.Need-enum-known-self-3
-enum-known-self-3 c = search needs
-
-answered-requires-3 : tie.Need-answered-requires-3
-answered-requires-3 c κs = search needs
-
-enum-told : tie.Need-enum-told
-enum-told c = search needs
-
-refused-requires : tie.Need-refused-requires
-refused-requires c κs = search needs
-
-enum-known-self-4 : tie.Need-enum-known-self-4
-enum-known-self-4 c = search needs
-
-refused-requires-2 : tie.Need-refused-requires-2
-refused-requires-2 c κs = search needs
-
-enum-known-self-5 : tie.Need-enum-known-self-5
-enum-known-self-5 c = search needs
-
-refused-requires-3 : tie.Need-refused-requires-3
-refused-requires-3 c κs = search needs
-
-enum-told-2 : tie.Need-enum-told-2
-enum-told-2 c = search needs
-
-refused-requires-4 : tie.Need-refused-requires-4
-refused-requires-4 c κs = search needs
+outcome-requires-2 : tie.Need-outcome-requires-2
+outcome-requires-2 c κs = search needs
 
 returns : tie.Need-returns
-returns c = c .answered .ensures ∙ sym (ap answerOutcome (c .before .before .self .given .1))
+returns c = c .outcome .ensures ∙ sym (ap answerOutcome (c .before .before .self .given .1))
 
 returns-2 : tie.Need-returns-2
-returns-2 c = c .answered2 .ensures ∙ sym (ap answerOutcome (c .before .before .self2 .given .1))
-
-returns-3 : tie.Need-returns-3
-returns-3 c = c .answered3 .ensures ∙ sym (ap answerOutcome (c .before .before .self3 .given .1))
-
-returns-4 : tie.Need-returns-4
-returns-4 c = c .refused .ensures ∙ sym (ap answerOutcome (c .before .enum-told .given .1))
-
-returns-5 : tie.Need-returns-5
-returns-5 c = c .refused2 .ensures ∙ sym (ap answerOutcome (c .before .before .self4 .given .1))
-
-returns-6 : tie.Need-returns-6
-returns-6 c = c .refused3 .ensures ∙ sym (ap answerOutcome (c .before .before .self5 .given .1))
-
-returns-7 : tie.Need-returns-7
-returns-7 c = c .refused4 .ensures ∙ sym (ap answerOutcome (c .before .enum-told2 .given .1))
+returns-2 c = search needs
 
 pub outcome-spec : {M : Type 1} → statement M
 outcome-spec =
     tie.close
     (tie.spec
     enum-known-self
-    answered-requires
+    outcome-requires
     enum-known-self-2
-    answered-requires-2
-    enum-known-self-3
-    answered-requires-3
-    enum-told
-    refused-requires
-    enum-known-self-4
-    refused-requires-2
-    enum-known-self-5
-    refused-requires-3
-    enum-told-2
-    refused-requires-4
+    outcome-requires-2
     returns
-    returns-2
-    returns-3
-    returns-4
-    returns-5
-    returns-6
-    returns-7)
+    returns-2)

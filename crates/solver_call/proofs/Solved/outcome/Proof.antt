@@ -8,52 +8,28 @@ use Rattle.solver_call.proofs.Solved.outcome.Tie as tie
 enum-known-self : tie.Need-enum-known-self
 enum-known-self c = search needs
 
-answered-requires : tie.Need-answered-requires
-answered-requires c κs = search needs
+outcome-requires : tie.Need-outcome-requires
+outcome-requires c κs = search needs
 
 enum-known-self-2 : tie.Need-enum-known-self-2
 enum-known-self-2 c = search needs
 
-answered-requires-2 : tie.Need-answered-requires-2
-answered-requires-2 c κs = search needs
-
-enum-known-self-3 : tie.Need-enum-known-self-3
-enum-known-self-3 c = search needs
-
-answered-requires-3 : tie.Need-answered-requires-3
-answered-requires-3 c κs = search needs
-
-enum-known-self-4 : tie.Need-enum-known-self-4
-enum-known-self-4 c = search needs
-
-outcome-requires : tie.Need-outcome-requires
-outcome-requires c κs = search needs
+outcome-requires-2 : tie.Need-outcome-requires-2
+outcome-requires-2 c κs = search needs
 
 returns : tie.Need-returns
-returns c = c .answered .ensures ∙ sym (ap solvedOutcome (c .before .before .self .given .1))
+returns c = c .outcome .ensures ∙ sym (ap solvedOutcome (c .before .before .self .given .1))
 
 returns-2 : tie.Need-returns-2
-returns-2 c = c .answered2 .ensures ∙ sym (ap solvedOutcome (c .before .before .self2 .given .1))
-
-returns-3 : tie.Need-returns-3
-returns-3 c = c .answered3 .ensures ∙ sym (ap solvedOutcome (c .before .before .self3 .given .1))
-
-returns-4 : tie.Need-returns-4
-returns-4 c = search needs
+returns-2 c = search needs
 
 pub outcome-spec : {M : Type 1} → statement M
 outcome-spec =
     tie.close
     (tie.spec
     enum-known-self
-    answered-requires
-    enum-known-self-2
-    answered-requires-2
-    enum-known-self-3
-    answered-requires-3
-    enum-known-self-4
     outcome-requires
+    enum-known-self-2
+    outcome-requires-2
     returns
-    returns-2
-    returns-3
-    returns-4)
+    returns-2)

@@ -1,47 +1,50 @@
--- `solver_call::finding::find_drawing` meets its contract. Assumes nothing.
-use native.Mathlib.Omega.{arith}
+-- `solver_call::grid_search::find_drawing` meets its contract. Assumes nothing.
 use lib.Seq.{length-take-le}
 use denote.Enum.Declared.{tagOf}
-use types.Run.{OneOf}
+use types.Run.{OneOf, miss}
 use mathlib.Core.Path.{_≡_, sym, subst}
-use mathlib.Core.Logic.{⊎-elim}
 use mathlib.Core.List.{[], _∷_}
-use Rattle.search_call.specs.declared.Count.{Count}
-use Rattle.search_call.specs.declared.Answer.{Answer}
-use Rattle.search_call.specs.declared.Answer.the-variants.{Found}
-use Rattle.search_call.proofs.Answer.{the-type}
-use Rattle.solver_call.proofs.GridSearch.{Searched, after-search, unfound, literals, found}
+use Rattle.search_call.specs.declared.Ending.{Ending}
+use Rattle.search_call.specs.declared.Ending.the-variants.{Found}
+use Rattle.search_call.proofs.Ending.{the-type}
+use Rattle.solver_call.proofs.GridSearch.{may-search, unfound, literals, found}
 use borrow.Author.Needs.{needs}
 use Rattle.solver_call.proofs.grid_search.find_drawing.Statement.{statement}
 use Rattle.solver_call.proofs.grid_search.find_drawing.Tie as tie
 
 -- the arm of the other answers
-abbrev Other : Answer → Type 0
-Other a = OneOf (1 ∷ 2 ∷ 3 ∷ 4 ∷ 5 ∷ 6 ∷ []) (tagOf the-type a)
+abbrev Other : Ending → Type 0
+Other x = OneOf (1 ∷ 2 ∷ []) (tagOf the-type x)
 
-other : (a : Answer) → Other a → (k : Count) → a ≡ Found k → ⊥
-other a h k e = ⊎-elim (λ z. omega arith) (⊎-elim (λ z. omega arith) (⊎-elim (λ z. omega arith) (⊎-elim (λ z. omega arith) (⊎-elim (λ z. omega arith) (λ z. omega arith))))) (subst Other e h)
+other : (x : Ending) → Other x → x ≡ Found → ⊥
+other x h e = miss (1 ∷ 2 ∷ []) 0 tt (subst Other e h)
 
-searched : (c : tie.After-slice-known4) → Searched (c .before .before .before .before .before .before .before .before .before .before .before .args .«record» .now) (c .before .before .before .before .before .before .before .before .before .before .before .args .budget) (c .before .before .before .search .result) (c .before .before .before .search .last .1 .1 .0) (c .before .before .before .search .last .1 .1 .1 .0)
-searched c = after-search (c .before .before .before .before .before .before .before .before .before .before .before .pre) (c .before .before .before .before .before .before .before .before .before .before .before .args .budget) (c .before .before .before .search .result) (c .before .before .before .search .ensures)
+-- the state at the start, and after the search
+abbrev start1 : tie.After-searched → tie.Start
+start1 c = c .before .before .before .before .before .before .before .before
 
-slice-aggregate-search : tie.Need-slice-aggregate-search
-slice-aggregate-search c = sym (length-take-le _ _ (c .before .before .before .before .before .pre .list))
+abbrev first : tie.After-enum-told → tie.After-searched
+first c = c .before .before .before .before .before
 
-slice-relend-prefix-search : tie.Need-slice-relend-prefix-search
-slice-relend-prefix-search c = search needs
+slice-aggregate-searched : tie.Need-slice-aggregate-searched
+slice-aggregate-searched c = sym (length-take-le _ _ (c .before .before .before .before .before .pre .list))
 
-slice-aggregate-search-2 : tie.Need-slice-aggregate-search-2
-slice-aggregate-search-2 c = sym (length-take-le _ _ (slice-relend-prefix-search (c .before)))
+slice-relend-prefix-searched : tie.Need-slice-relend-prefix-searched
+slice-relend-prefix-searched c = search needs
 
-slice-relend-prefix-search-2 : tie.Need-slice-relend-prefix-search-2
-slice-relend-prefix-search-2 c = search needs
+slice-aggregate-searched-2 : tie.Need-slice-aggregate-searched-2
+slice-aggregate-searched-2 c = sym (length-take-le _ _ (slice-relend-prefix-searched (c .before)))
 
-slice-aggregate-search-3 : tie.Need-slice-aggregate-search-3
-slice-aggregate-search-3 c = sym (length-take-le _ _ (slice-relend-prefix-search-2 (c .before)))
+slice-relend-prefix-searched-2 : tie.Need-slice-relend-prefix-searched-2
+slice-relend-prefix-searched-2 c = search needs
 
-search-requires : tie.Need-search-requires
-search-requires c κs = search needs
+slice-aggregate-searched-3 : tie.Need-slice-aggregate-searched-3
+slice-aggregate-searched-3 c = sym (length-take-le _ _ (slice-relend-prefix-searched-2 (c .before)))
+
+searched-requires : tie.Need-searched-requires
+searched-requires c κs =
+    let start = c .before .before .before .before .before .before .before in
+    may-search (start .pre) (start .args .budget)
 
 enum-told : tie.Need-enum-told
 enum-told c = search needs
@@ -53,7 +56,11 @@ same-length-2 : tie.Need-same-length-2
 same-length-2 c = search needs
 
 returns : tie.Need-returns
-returns c = unfound (c .before .before .before .before .before .before .before .before .before .before .before .before .pre) (c .before .before .before .before .before .before .before .before .before .before .before .before .args .budget) (searched (c .before)) (c .before .before .before .trail .given .0) (c .before .before .marks .given .0) (other _ (c .match .keys2))
+returns c =
+    let after = c .before .before .before .before in
+    let start = start1 after in
+    unfound (start .pre) (start .args .budget) (after .searched .result) (after .searched .ensures)
+    (c .before .before .before .trail .given .0) (c .before .before .marks .given .0) (other _ (c .match .keys2))
 
 slice-reshare-prefix-give-values : tie.Need-slice-reshare-prefix-give-values
 slice-reshare-prefix-give-values c = search needs
@@ -68,7 +75,12 @@ slice-aggregate-give-values-2 : tie.Need-slice-aggregate-give-values-2
 slice-aggregate-give-values-2 c = sym (length-take-le _ _ (slice-relend-prefix-give-values (c .before)))
 
 give-values-requires : tie.Need-give-values-requires
-give-values-requires c κs = literals (c .before .before .before .before .before .before .before .before .before .before .before .before .before .before .before .pre) (c .before .before .before .before .before .before .before .before .before .before .before .before .before .before .before .args .budget) (searched (c .before .before .before .before)) (c .before .before .before .before .before .before .trail .given .0) (c .before .before .before .before .before .marks .given .0) (c .before .before .enum-told .given .1)
+give-values-requires c κs =
+    let told = c .before .before in
+    let after = first told in
+    let start = start1 after in
+    literals (start .pre) (start .args .budget) (after .searched .result) (after .searched .ensures)
+    (told .before .before .before .before .trail .given .0) (told .before .before .before .marks .given .0) (told .enum-told .given .1)
 
 slice-reshare-prefix-decode : tie.Need-slice-reshare-prefix-decode
 slice-reshare-prefix-decode c = search needs
@@ -98,18 +110,26 @@ same-length-6 : tie.Need-same-length-6
 same-length-6 c = search needs
 
 returns-2 : tie.Need-returns-2
-returns-2 c = found (c .before .before .before .before .before .before .before .before .before .before .before .before .before .before .before .before .before .before .before .before .before .before .before .pre) (c .before .before .before .before .before .before .before .before .before .before .before .before .before .before .before .before .before .before .before .before .before .before .before .args .budget) (searched (c .before .before .before .before .before .before .before .before .before .before .before .before)) (c .before .before .before .before .before .before .before .before .before .before .before .before .before .before .trail .given .0) (c .before .before .before .before .before .before .before .before .before .before .before .before .before .marks .given .0) (c .before .before .before .before .before .before .before .before .before .before .enum-told .given .1) (c .before .before .before .before .before .before .before .give-values .ensures) (c .before .before .decode .ensures .1) (c .before .before .before .before .before .before .values .given .0) (c .before .drawing .given .0)
+returns-2 c =
+    let decoded = c .before .before in
+    let values = decoded .before .before .before .before in
+    let told = values .before .before .before .before in
+    let after = first told in
+    let start = start1 after in
+    found (start .pre) (start .args .budget) (after .searched .result) (after .searched .ensures)
+    (told .before .before .before .before .trail .given .0) (told .before .before .before .marks .given .0) (told .enum-told .given .1)
+    (values .before .give-values .ensures) (decoded .decode .ensures .1) (values .values .given .0) (c .before .drawing .given .0)
 
 pub find-drawing-spec : {M : Type 1} → statement M
 find-drawing-spec =
     tie.close
     (tie.spec
-    slice-aggregate-search
-    slice-relend-prefix-search
-    slice-aggregate-search-2
-    slice-relend-prefix-search-2
-    slice-aggregate-search-3
-    search-requires
+    slice-aggregate-searched
+    slice-relend-prefix-searched
+    slice-aggregate-searched-2
+    slice-relend-prefix-searched-2
+    slice-aggregate-searched-3
+    searched-requires
     enum-told
     same-length
     same-length-2

@@ -32,7 +32,7 @@ pub record RequestE3 : Type 0 where
       → (x : ℕ) (d : Direction) (n : ℕ) → x < size (sides s) → getD (puzzle (sides s) s .cells) x Open ≡ Clued d n
       → (j t : ℕ) → j ≤ length (line (puzzle (sides s) s) d x) → t ≤ n
       → valuation (boardOf s) a (T x j t) ≡ true ↔ blacksNearest (blackAt ds) (line (puzzle (sides s) s) d x) j ≡ t
-  -- "after j cells, for each j from 0 to the line's length, its count is the number of black cells among the j nearest the edge."
+  -- "it is proved that after j cells, for each j from 0 to the line's length, its count is the number of black cells among the j nearest the edge."
   -- (It begins with 0, a black cell makes it one more, and after the whole line it is the line's number of black cells, which the judge asks for.)
   pub begins : (black : ℕ → Bool) (line : List ℕ) → blacksNearest black line 0 ≡ 0
   pub goes-on : (black : ℕ → Bool) (line : List ℕ) (x j : ℕ) → j < length line → blacksNearest black line (suc j) ≡ tally (black (getD line j x)) (blacksNearest black line j)

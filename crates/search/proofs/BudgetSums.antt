@@ -1,4 +1,4 @@
--- A run hangs on its trail alone: halted anywhere and gone on with, it comes to what it would have come to. Assumes nothing.
+-- A run depends on its trail alone: halted anywhere and continued, it comes to what it would have come to. Assumes nothing.
 use Prim.Native.Nat.{ℕ, zero, suc, _+_}
 use native.Mathlib.Nat.{zero-add, suc-add}
 use lib.IntN.{ℤ}
@@ -6,8 +6,7 @@ use mathlib.Core.Path.{_≡_, refl, _∙_, ap}
 use mathlib.Core.List.{List}
 use Rattle.search.specs.Trail.{Trail}
 use Rattle.search.specs.Step.{Next, Moved, AnsweredFound, AnsweredNone, undoes, step}
-use Rattle.search.specs.Run.{Ending, Found, None, Halted, Done, ends, oneMore, after, run}
-use Rattle.search.specs.NextCall.{following}
+use Rattle.search.specs.Run.{Ending, Found, None, Halted, Done, ends, oneMore, after, run, following}
 
 -- what a search comes to, n steps that were made before counted in
 abbrev pub counted : ℕ → Done → Done

@@ -3,15 +3,10 @@ use Prim.Native.Nat.{ℕ}
 use mathlib.Core.Path.{_≡_}
 use mathlib.Core.Logic.{_↔_}
 use mathlib.Core.Option.{none, some}
-use mathlib.Core.List.{List, _∷_, _++_, map}
-use lib.ListN.{drop}
+use mathlib.Core.List.{List, _∷_, map}
 use Rattle.answers.specs.declared.Outcome.{Outcome}
 use Rattle.answers.specs.Lists.{All}
 use Rattle.answers.specs.Outcome.{Row, row, refusal}
-use Rattle.rules.specs.Record.{recordRows}
-use Rattle.rules.specs.Board.{boardOf}
-use Rattle.rules.specs.Judge.{wrongDrawing, judgeRows}
-use Rattle.encoder.specs.Decoding.{decoded, wrongValues, wrongValue}
 
 -- the first row whose cause is there has this number, and this value beside it
 pub data FirstCause : List Row → ℕ → ℕ → Type 0 where
@@ -20,7 +15,7 @@ pub data FirstCause : List Row → ℕ → ℕ → Type 0 where
 
 -- how a call goes by its rows: their numbers in order, the rows, what the call tells (a number that is not 0 says that it is turned down), and the statement
 -- that every lent buffer is as it was
-pub record Call (order : List ℕ) (rows : List Row) (outcome : Outcome) (Untouched : Type 0) : Type 0 where
+pub record ByRows (order : List ℕ) (rows : List Row) (outcome : Outcome) (Untouched : Type 0) : Type 0 where
   pub in-order : map (λ (r : Row). r .number) rows ≡ order
   -- turned down with the number and the value of the first row whose cause is there, and with no others;
   pub turned-down : (n v : ℕ) → FirstCause rows n v ↔ (n ≡ 0 → ⊥) × (outcome ≡ refusal n v)
@@ -28,12 +23,3 @@ pub record Call (order : List ℕ) (rows : List Row) (outcome : Outcome) (Untouc
   pub kept : (outcome .number ≡ 0 → ⊥) → Untouched
   -- answered exactly if no row has its cause
   pub answered : All (λ (r : Row). r .beside ≡ none) rows ↔ outcome .number ≡ 0
-
--- the decoder's rows, without the 7 of the judge: what it draws has N bytes
-abbrev pub decoderTable : List ℕ → List ℕ → List ℕ → List Row
-decoderTable s values lent =
-    recordRows s ++ (
-    row 8 (wrongValues (boardOf s) values) ∷
-    row 7 (wrongDrawing (boardOf s) lent) ∷
-    row 9 (wrongValue values) ∷
-    drop 1 (judgeRows (boardOf s) (decoded (boardOf s) values)))

@@ -1,4 +1,4 @@
--- Document 02's request E3 holds. What it says stands in specs/Lines.antt; what is cited here is proved in rules and encoder_theory. Assumes nothing.
+-- Document 02's request E3 holds. What it says stands in specs/RequestE3.antt; what is cited here is proved in rules and encoder_theory. Assumes nothing.
 use lib.ListN.{List·getD-eq-default}
 use mathlib.Core.Path.{refl}
 use native.Mathlib.Omega.{arith}
@@ -7,7 +7,7 @@ use Rattle.rules.proofs.Boards.{line-ends}
 use Rattle.rules.proofs.Lines.{line-next}
 use Rattle.answers.proofs.Lists.{many-next, many-all}
 use Rattle.encoder_theory.proofs.Theorems as theorems
-use Rattle.demands.specs.Lines.{RequestE3}
+use Rattle.demands.specs.RequestE3.{RequestE3}
 
 pub request-e3 : RequestE3
 request-e3 =
