@@ -14,7 +14,8 @@ use Rattle.answers.specs.Outcome.{firstRefusal}
 use Rattle.answers.specs.Lent.{Wrote, filled}
 use Rattle.answers.proofs.Lent.{wrote-recast}
 use Rattle.answers.proofs.Rows.{Clear, answered-clear, clear-answered}
-use Rattle.rules.specs.Record.{sides, size, mostCells, RecordFits}
+use Rattle.rules.specs.declared.Grid.{Grid}
+use Rattle.rules.specs.Record.{sides, size, mostCells, Sides, RecordFits}
 use Rattle.rules.specs.Board.{boardOf}
 use Rattle.rules.proofs.Records.{accepted-fits, refusal-number}
 use Rattle.encoder.specs.Variables.{variableCount}
@@ -119,16 +120,18 @@ module _ {s : List ℕ} {r : Solved} {drawing : List ℕ} (w : Solves s r drawin
         ap (λ n. cond (eqb n 0) (written (boardOf s) (searched (boardOf s)) lent) lent .drawing) (sym (ap (λ (t : Outcome). t .number) (w .outcome)) ∙ answered q k) ∙
         ap (λ x. atFound x (lent .drawing) (filled (lent .drawing) (cells s))) (sym (ending q k))
 
-    pub found-held : RecordFits (sides s) s
-    found-held = recordFits q k
+    -- over the grid that was read
+    module _ {g : Grid} (is : g ≡ sides s) where
+      pub found-sides : Sides g
+      found-sides = rw is (recordFits q k .sides)
 
-    pub found-inside : size (sides s) ≤ length drawing
-    found-inside = omega (arith, cells-long s, simp length-append at (ap length drawn))
+      pub found-inside : size g ≤ length drawing
+      found-inside = rw is (omega (arith, cells-long s, simp length-append at (ap length drawn)))
 
-    pub ends-found : {buf out : List ℕ} {n : ℕ} → Wrote buf 0 (drawingText (sides s .columns) (take (size (sides s)) drawing)) out n
-        → Wrote buf 0 (printedSolution s) out n
-    ends-found p =
-        ends q k (ap (drawingText (sides s .columns)) (ap (take (size (sides s))) drawn ∙ take-at (cells s) _ (size (sides s)) (cells-long s))) p
+      pub ends-found : {buf out : List ℕ} {n : ℕ} → Wrote buf 0 (drawingText (g .columns) (take (size g) drawing)) out n → Wrote buf 0 (printedSolution s) out n
+      ends-found p =
+          let is-drawn : take (size (sides s)) drawing ≡ cells s = ap (take (size (sides s))) drawn ∙ take-at (cells s) _ (size (sides s)) (cells-long s) in
+          ends q k (ap (λ (g : Grid). drawingText (g .columns) (take (size g) drawing)) is ∙ ap (drawingText (sides s .columns)) is-drawn) p
 
 -- what the program prints fits 4,096 bytes
 pub solution-fits : (s : List ℕ) → length (printedSolution s) ≤ 4096

@@ -15,8 +15,9 @@ use rules::Grid;
 use rules::MOST_CELLS;
 use rules::Parsed;
 use rules::record::read;
+use search_call::Ending;
 use solver_call::Solved;
-use solver_call::solve;
+use solver_call::solve_grid;
 use text::put_word;
 
 // The drawing of a grid, a row a line.
@@ -42,7 +43,8 @@ fn solution_text(record: &[u8], text: &mut [u8]) -> usize
     let mut marks = [0u8; MOST_VARIABLES];
     let mut values = [0u8; MOST_VARIABLES];
     let mut drawing = [0u8; MOST_CELLS];
-    let answer = solve(
+    let answer = solve_grid(
+        g,
         record,
         &mut list,
         &mut trail,
@@ -51,11 +53,14 @@ fn solution_text(record: &[u8], text: &mut [u8]) -> usize
         &mut drawing,
         BUDGET,
     );
-    match answer {
-        Solved::Found(_) => put_cells(text, g, &drawing),
-        Solved::None(_) => put_word(text, 0, b"none\n"),
-        Solved::Halted(_) => put_word(text, 0, b"halted\n"),
-        Solved::Refused(_) => put_refused(text, answer.outcome().number as usize),
+    let Solved::Ended(end) = answer else {
+        return put_refused(text, answer.outcome().number as usize);
+    };
+    let ending = end.ending;
+    match ending {
+        Ending::Found => put_cells(text, g, &drawing),
+        Ending::None => put_word(text, 0, b"none\n"),
+        Ending::Halted => put_word(text, 0, b"halted\n"),
     }
 }
 

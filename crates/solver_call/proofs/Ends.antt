@@ -15,7 +15,7 @@ use Rattle.rules.specs.declared.Grid.{Grid}
 use Rattle.rules.specs.declared.Parsed.{Parsed}
 use Rattle.rules.specs.declared.Parsed.the-variants.{Accepted, Refused as NotRead}
 use Rattle.rules.specs.declared.RecordRefusal.{RecordRefusal}
-use Rattle.rules.specs.Record.{recordRows, recordAnswer, parsedOutcome}
+use Rattle.rules.specs.Record.{recordRows, recordAnswer, recordRefusalOutcome, parsedOutcome}
 use Rattle.rules.specs.Board.{gridBoard, boardOf}
 use Rattle.rules.proofs.Records.{accepted-clear, refusal-number, passes-up, is-accepted, read-sides}
 use Rattle.encoder.specs.Variables.{variableCount}
@@ -31,8 +31,7 @@ use Rattle.solver_call.specs.declared.Room.{Room}
 use Rattle.solver_call.specs.declared.Room.the-variants.{Enough, Short}
 use Rattle.solver_call.specs.Room.{needsOf, roomTells, shortRows}
 use Rattle.solver_call.specs.GridSearch.{Fits, Ends}
-use Rattle.solver_call.specs.declared.Solved.{Solved}
-use Rattle.solver_call.specs.Answer.{solvedOutcome, passedUp, lentOf}
+use Rattle.solver_call.specs.Answer.{lentOf}
 
 abbrev lengthsOf : Lent → Lengths
 lengthsOf lent =
@@ -55,8 +54,8 @@ module _ (s : List ℕ) (budget : ℕ) (lent : Lent) where
   turned n e = (e, sym (untouched (solverAnswer s budget lent) lent (written (boardOf s) done lent) (λ z. n (ap (λ (t : Outcome). t .number) e ∙ z))))
 
   -- the record is refused
-  pub ends-refused : {x : Solved} {p : Parsed} {r : RecordRefusal} → x ≡ passedUp p → p ≡ NotRead r → parsedOutcome p ≡ recordAnswer s → CallEnds (solvedOutcome x) lent
-  ends-refused {r = r} w q e = rw (w ∙ ap passedUp q) (turned (refusal-number r) (passes-up s (roomRows (boardOf s) lent) (doneOutcome done) q e))
+  pub ends-refused : {p : Parsed} {r : RecordRefusal} → p ≡ NotRead r → parsedOutcome p ≡ recordAnswer s → CallEnds (recordRefusalOutcome r) lent
+  ends-refused {r = r} q e = turned (refusal-number r) (passes-up s (roomRows (boardOf s) lent) (doneOutcome done) q e)
 
   -- it is read, and room is sought
   module _ {p : Parsed} {g : Grid} (q : p ≡ Accepted g) (e : parsedOutcome p ≡ recordAnswer s) {needed : Needs} (needs : needed ≡ needsOf (gridBoard g s))
@@ -90,12 +89,12 @@ module _ (s : List ℕ) (budget : ℕ) (lent : Lent) where
               let rows = row 6 (tooShort (length (lent .list)) (length (clauseList (boardOf s)))) ∷ [] in
               refusals-append (recordRows s) rows t ∙ clear-answered (recordRows s) _ (accepted-clear s (is-accepted s q e)) ∙ clear-answered rows t (clear .0, tt)
 
-      pub fits : Fits s needed ls (lent .slices .trail) (lent .slices .marks) (lent .values) (lent .drawing)
+      pub fits : Fits g s needed ls (lent .slices .trail) (lent .slices .marks) (lent .values) (lent .drawing)
       fits =
           let (c1, (c2, (c3, (c4, (c5, c))))) = clear in
           let cs = clauseList (boardOf s) in
           rw needed-is (record {
-            accepted = is-accepted s q e;
+            read = sym (ap parsedOutcome q) ∙ e;
             needs = refl;
             clauses = ap (take (length cs)) encoded ∙ take-at cs _ (length cs) refl;
             list = omega (arith, ap length encoded, length-append cs (drop (length cs) (lent .list)));

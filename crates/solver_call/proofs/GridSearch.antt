@@ -6,8 +6,14 @@ use lib.Seq.{length-take-le, take-at}
 use mathlib.Core.Path.{_≡_, refl, sym, _∙_, ap, subst}
 use mathlib.Core.List.{List, _++_}
 use Rattle.answers.specs.declared.Outcome.{Outcome}
+use Rattle.answers.specs.Outcome.{firstRefusal}
 use Rattle.answers.specs.Lent.{filled, unlessRefused}
-use Rattle.rules.specs.Board.{boardOf}
+use Rattle.rules.specs.declared.Grid.{Grid}
+use Rattle.rules.specs.Record.{IsAccepted, RecordFits}
+use Rattle.rules.specs.Board.{gridBoard, boardOf}
+use Rattle.rules.specs.Judge.{saysYes}
+use Rattle.rules.proofs.Records.{is-accepted, read-sides, read-fits, goes-on}
+use Rattle.decoder.specs.Answer.{gridRows}
 use Rattle.encoder.specs.Variables.{variableCount}
 use Rattle.encoder.specs.Decoding.{decoded, decoderLeaves}
 use Rattle.search.specs.Trail.{slices, filledSlices, image, trailOf}
@@ -49,7 +55,13 @@ module _ {A : Type 0} {n : ℕ} (buf us : List A) (long : length us ≡ length (
   part-filled : {xs : List A} → us ≡ xs → us ++ drop n buf ≡ filled buf xs
   part-filled e = (λ i. e i ++ drop ((sym part-long ∙ ap length e) i) buf)
 
-module _ {s : List ℕ} {needed : Needs} {ls ts : List ℤ} {ms vs ds : List ℕ} (fits : Fits s needed ls ts ms vs ds) (budget : ℕ) where
+module _ {g : Grid} {s : List ℕ} {needed : Needs} {ls ts : List ℤ} {ms vs ds : List ℕ} (fits : Fits g s needed ls ts ms vs ds) (budget : ℕ) where
+  accepted : IsAccepted s
+  accepted = is-accepted s refl (fits .read)
+
+  pub may-decode : RecordFits g s
+  may-decode = read-fits s refl (fits .read)
+
   abbrev v : ℕ
   v = variableCount (boardOf s)
 
@@ -85,7 +97,7 @@ module _ {s : List ℕ} {needed : Needs} {ls ts : List ℤ} {ms vs ds : List ℕ
   on : BegunOn s gets
   on =
       record {
-        grid = fits .accepted;
+        grid = accepted;
         variables = ms-long;
         list = fits .clauses;
         empty = refl;
@@ -94,6 +106,14 @@ module _ {s : List ℕ} {needed : Needs} {ls ts : List ℤ} {ms vs ds : List ℕ
 
   pub may-search : IsTaken Searching (searchOn (length (take m ms)) (take (needed .elements) ls) (take m ts) (take m ms) 0)
   may-search = begun.begun-taken s gets on
+
+  -- what the decoder leaves, over the grid that was read
+  abbrev gridLeaves : Grid → List ℕ → List ℕ → List ℕ
+  gridLeaves g values lent = unlessRefused (firstRefusal (gridRows g s values lent) saysYes) lent (decoded (gridBoard g s) values)
+
+  grid-leaves : {values lent : List ℕ} → gridLeaves g values lent ≡ decoderLeaves s values lent
+  grid-leaves {values} {lent} =
+      λ i. unlessRefused (goes-on s refl (fits .read) (λ g. gridRows g s values lent) saysYes i) lent (decoded (gridBoard (read-sides s refl (fits .read) i) s) values)
 
   -- after the search
   module _ (e : End) {us : List ℤ} {ns : List ℕ}
@@ -124,24 +144,24 @@ module _ {s : List ℕ} {needed : Needs} {ls ts : List ℤ} {ms vs ds : List ℕ
       -- the slices hold the trail, which is full
       reads : trailOf (slices us ns) v ≡ done .trail
       reads =
-          (λ i. trailOf (hands i .slices) (sym (begun.solved-full s (fits .accepted) budget ends-found) i)) ∙ read-image v (done .trail)
+          (λ i. trailOf (hands i .slices) (sym (begun.solved-full s accepted budget ends-found) i)) ∙ read-image v (done .trail)
 
       recordFits : Legal v (trailOf (slices us ns) v)
-      recordFits = subst (Legal v) (sym reads) (begun.solved-legal s (fits .accepted) budget)
+      recordFits = subst (Legal v) (sym reads) (begun.solved-legal s accepted budget)
 
       pub literals : Literals (length (take m vs)) (take m (us ++ drop m ts))
       literals =
           rw (vs-long, part-read ts us us-long (fits .trail))
           (record { long = us-long ∙ ts-long; each = λ i l. legal-at v (slices us ns) v recordFits i l .proper })
 
-      pub found : {ws es : List ℕ} → Gives (length (take m vs)) (take m (us ++ drop m ts)) ws → es ≡ decoderLeaves s (take m (ws ++ drop m vs)) (take n ds)
+      pub found : {ws es : List ℕ} → Gives (length (take m vs)) (take m (us ++ drop m ts)) ws → es ≡ gridLeaves g (take m (ws ++ drop m vs)) (take n ds)
           → length ws ≡ length (take m vs) → length es ≡ length (take n ds)
           → Ends s budget ts ms vs ds e (us ++ drop m ts) (ns ++ drop m ms) (ws ++ drop m vs) (es ++ drop n ds)
-      found {ws} {es} g d ws-long es-long =
-          let given : Gives v us ws = rw (vs-long, part-read ts us us-long (fits .trail)) at g in
+      found {ws} {es} w d ws-long es-long =
+          let given : Gives v us ws = rw (vs-long, part-read ts us us-long (fits .trail)) at w in
           let bytes = given ns recordFits ∙ ap (trailBytes v) reads in
-          let yes = begun.decoder-says s (fits .accepted) budget ends-found (take n ds) ds-long in
-          let drawn = d ∙ ap (λ b. decoderLeaves s b (take n ds)) (part-read vs ws ws-long (fits .values) ∙ bytes)
+          let yes = begun.decoder-says s accepted budget ends-found (take n ds) ds-long in
+          let drawn = d ∙ grid-leaves ∙ ap (λ b. decoderLeaves s b (take n ds)) (part-read vs ws ws-long (fits .values) ∙ bytes)
           ∙ ap (λ t. unlessRefused t (take n ds) (decoded (boardOf s) (trailBytes v (done .trail)))) yes in
           record {
             outcome = outcome;

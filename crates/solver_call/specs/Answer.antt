@@ -4,8 +4,6 @@ use lib.IntN.{ℤ}
 use mathlib.Core.List.{List}
 use Rattle.answers.specs.declared.Outcome.{Outcome}
 use Rattle.answers.specs.Outcome.{refusal}
-use Rattle.rules.specs.declared.Parsed.{Parsed}
-use Rattle.rules.specs.declared.Parsed.the-variants.{Accepted, Refused as NotRead}
 use Rattle.rules.specs.Record.{recordRefusalOutcome}
 use Rattle.search.specs.Trail.{slices}
 use Rattle.search_call.specs.Answers.{endOutcome}
@@ -23,11 +21,6 @@ solveRefusalOutcome (TooShort n) = refusal 6 n
 abbrev pub solvedOutcome : Solved → Outcome
 solvedOutcome (Ended e) = endOutcome e
 solvedOutcome (Refused u) = solveRefusalOutcome u
-
--- a refusal of the record reader is passed up unchanged (an accepted record has none to pass up)
-abbrev pub passedUp : Parsed → Solved
-passedUp (Accepted g) = Refused (TooShort 0)
-passedUp (NotRead r) = Refused (Record r)
 
 -- the lent buffers
 abbrev pub lentOf : List ℤ → List ℤ → List ℕ → List ℕ → List ℕ → Lent

@@ -5,7 +5,9 @@ use lib.ListN.{length, getD, take}
 use mathlib.Core.Path.{_≡_}
 use mathlib.Core.List.{List}
 use Rattle.answers.specs.Lent.{filled}
-use Rattle.rules.specs.Record.{IsAccepted}
+use Rattle.rules.specs.declared.Grid.{Grid}
+use Rattle.rules.specs.declared.Parsed.the-variants.{Accepted}
+use Rattle.rules.specs.Record.{parsedOutcome, recordAnswer}
 use Rattle.rules.specs.Board.{boardOf}
 use Rattle.encoder.specs.Variables.{variableCount}
 use Rattle.encoder.specs.Clauses.{clauseList}
@@ -29,9 +31,13 @@ pub record Literals (v : ℕ) (ts : List ℤ) : Type 0 where
 abbrev pub Gives : ℕ → List ℤ → List ℕ → Type 0
 Gives v ts vs = (ms : List ℕ) → Legal v (trailOf (slices ts ms) v) → vs ≡ trailBytes v (trailOf (slices ts ms) v)
 
--- an accepted record, a list that begins with its grid's clauses, and buffers that have room
-pub record Fits (s : List ℕ) (needed : Needs) (ls ts : List ℤ) (ms vs ds : List ℕ) : Type 0 where
-  pub accepted : IsAccepted s
+-- the grid that the reader makes of an accepted record
+abbrev pub IsRead : Grid → List ℕ → Type 0
+IsRead g s = parsedOutcome (Accepted g) ≡ recordAnswer s
+
+-- a grid and its record, a list that begins with the grid's clauses, and buffers that have room
+pub record Fits (g : Grid) (s : List ℕ) (needed : Needs) (ls ts : List ℤ) (ms vs ds : List ℕ) : Type 0 where
+  pub read : IsRead g s
   pub needs : needed ≡ needsOf (boardOf s)
   pub clauses : take (needed .elements) ls ≡ clauseList (boardOf s)
   pub list : needed .elements ≤ length ls

@@ -3,7 +3,8 @@ ghost use lib.ListN.{length};
 ghost use Rattle.solver_call.specs.GridSearch.{Literals, Gives, Fits, Ends};
 use super::Needs;
 use cnf::code_at;
-use decoder::decode;
+use decoder::decode_grid;
+use rules::Grid;
 use search_call::End;
 use search_call::Ending;
 use search_call::searched;
@@ -24,6 +25,7 @@ fn give_values(trail: &[i32], values: &mut [u8])
 
 // Searches a grid's clauses, begun empty; at "found" writes the trail's bytes and draws them. Of each buffer the part that is needed is lent on.
 pub fn find_drawing(
+    g: Grid,
     record: &[u8],
     list: &[i32],
     trail: &mut [i32],
@@ -33,7 +35,7 @@ pub fn find_drawing(
     needed: Needs,
     budget: u64,
 ) -> End
-    requires { ⌜ Fits (now «record») needed (now list) (now trail) (now marks) (now values) (now drawing) ⌝ }
+    requires { ⌜ Fits g (now «record») needed (now list) (now trail) (now marks) (now values) (now drawing) ⌝ }
     ensures { λ r. ⌜ Ends (now («record» .entry)) budget (now (trail .entry)) (now (marks .entry)) (now (values .entry)) (now (drawing .entry)) r (now (trail .exit)) (now (marks .exit)) (now (values .exit)) (now (drawing .exit)) ⌝ }
 {
     let elements = needed.elements;
@@ -51,6 +53,6 @@ pub fn find_drawing(
         return end;
     };
     give_values(&trail[..v], &mut values[..v]);
-    decode(record, &values[..v], &mut drawing[..n]);
+    decode_grid(g, record, &values[..v], &mut drawing[..n]);
     end
 }

@@ -1,11 +1,13 @@
 // The solver: a record's bytes in; a drawing, "none" or "halted" out.
 ghost use mathlib.Core.Path.{_≡_};
 ghost use Rattle.solver.specs.SolverCall.{solverAnswer, solverLeaves};
-ghost use Rattle.solver_call.specs.Answer.{solvedOutcome, passedUp, lentOf};
-use encoder_call::encode;
+ghost use Rattle.solver_call.specs.GridSearch.{IsRead};
+ghost use Rattle.solver_call.specs.Answer.{solvedOutcome, lentOf};
+use encoder_call::encode_grid;
+use encoder_size::count;
 use grid_search::find_drawing;
 use rooms::first_short;
-use rooms::needs_of;
+use rules::Grid;
 use rules::Parsed;
 use rules::RecordRefusal;
 use rules::record::read;
@@ -49,14 +51,52 @@ pub enum Solved {
     Refused(SolveRefusal),
 }
 
-// A refusal of the record reader, passed up unchanged.
-fn passed_up(p: Parsed) -> Solved
-    ensures { λ r. ⌜ r ≡ passedUp p ⌝ }
+// Solves the grid that was read from a record: 6 for the lent buffers, then the search.
+pub fn solve_grid(
+    g: Grid,
+    record: &[u8],
+    list: &mut [i32],
+    trail: &mut [i32],
+    marks: &mut [u8],
+    values: &mut [u8],
+    drawing: &mut [u8],
+    budget: u64,
+) -> Solved
+    requires { ⌜ IsRead g (now «record») ⌝ }
+    ensures { λ r. ⌜ solvedOutcome r ≡ solverAnswer (now («record» .entry)) budget (lentOf (now (list .entry)) (now (trail .entry)) (now (marks .entry)) (now (values .entry)) (now (drawing .entry))) ⌝ }
+    ensures { λ r. ⌜ lentOf (now (list .exit)) (now (trail .exit)) (now (marks .exit)) (now (values .exit)) (now (drawing .exit)) ≡ solverLeaves (now («record» .entry)) budget (lentOf (now (list .entry)) (now (trail .entry)) (now (marks .entry)) (now (values .entry)) (now (drawing .entry))) ⌝ }
 {
-    let Parsed::Refused(r) = p else {
-        return Solved::Refused(SolveRefusal::TooShort(0));
+    let counts = count(g, record);
+    let cells = g.size();
+    let needed = Needs {
+        elements: counts.elements,
+        variables: counts.variables,
+        cells,
     };
-    Solved::Refused(SolveRefusal::Record(r))
+    let lent = Lengths {
+        list: list.len(),
+        trail: trail.len(),
+        marks: marks.len(),
+        values: values.len(),
+        drawing: drawing.len(),
+    };
+    let room = first_short(lent, needed);
+    if let Room::Short(n) = room {
+        return Solved::Refused(SolveRefusal::TooShort(n));
+    }
+    encode_grid(g, record, counts, list);
+    let end = find_drawing(
+        g,
+        record,
+        list,
+        trail,
+        marks,
+        values,
+        drawing,
+        needed,
+        budget,
+    );
+    Solved::Ended(end)
 }
 
 // Solves a record's grid, or names the first cause against it.
@@ -74,21 +114,7 @@ pub fn solve(
 {
     let p = read(record);
     let Parsed::Accepted(g) = p else {
-        return passed_up(p);
+        return Solved::Refused(SolveRefusal::Record(p.refusal()));
     };
-    let needed = needs_of(g, record);
-    let lent = Lengths {
-        list: list.len(),
-        trail: trail.len(),
-        marks: marks.len(),
-        values: values.len(),
-        drawing: drawing.len(),
-    };
-    let room = first_short(lent, needed);
-    if let Room::Short(n) = room {
-        return Solved::Refused(SolveRefusal::TooShort(n));
-    }
-    encode(record, list);
-    let end = find_drawing(record, list, trail, marks, values, drawing, needed, budget);
-    Solved::Ended(end)
+    solve_grid(g, record, list, trail, marks, values, drawing, budget)
 }

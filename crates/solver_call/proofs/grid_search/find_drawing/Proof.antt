@@ -7,7 +7,7 @@ use mathlib.Core.List.{[], _∷_}
 use Rattle.search_call.specs.declared.Ending.{Ending}
 use Rattle.search_call.specs.declared.Ending.the-variants.{Found}
 use Rattle.search_call.proofs.Ending.{the-type}
-use Rattle.solver_call.proofs.GridSearch.{may-search, unfound, literals, found}
+use Rattle.solver_call.proofs.GridSearch.{may-search, may-decode, unfound, literals, found}
 use borrow.Author.Needs.{needs}
 use Rattle.solver_call.proofs.grid_search.find_drawing.Statement.{statement}
 use Rattle.solver_call.proofs.grid_search.find_drawing.Tie as tie
@@ -82,20 +82,22 @@ give-values-requires c κs =
     literals (start .pre) (start .args .budget) (after .searched .result) (after .searched .ensures)
     (told .before .before .before .before .trail .given .0) (told .before .before .before .marks .given .0) (told .enum-told .given .1)
 
-slice-reshare-prefix-decode : tie.Need-slice-reshare-prefix-decode
-slice-reshare-prefix-decode c = search needs
+slice-reshare-prefix-decode-grid : tie.Need-slice-reshare-prefix-decode-grid
+slice-reshare-prefix-decode-grid c = search needs
 
-slice-aggregate-decode : tie.Need-slice-aggregate-decode
-slice-aggregate-decode c = sym (length-take-le _ _ (slice-reshare-prefix-decode (c .before)))
+slice-aggregate-decode-grid : tie.Need-slice-aggregate-decode-grid
+slice-aggregate-decode-grid c = sym (length-take-le _ _ (slice-reshare-prefix-decode-grid (c .before)))
 
-slice-relend-prefix-decode : tie.Need-slice-relend-prefix-decode
-slice-relend-prefix-decode c = search needs
+slice-relend-prefix-decode-grid : tie.Need-slice-relend-prefix-decode-grid
+slice-relend-prefix-decode-grid c = search needs
 
-slice-aggregate-decode-2 : tie.Need-slice-aggregate-decode-2
-slice-aggregate-decode-2 c = sym (length-take-le _ _ (slice-relend-prefix-decode (c .before)))
+slice-aggregate-decode-grid-2 : tie.Need-slice-aggregate-decode-grid-2
+slice-aggregate-decode-grid-2 c = sym (length-take-le _ _ (slice-relend-prefix-decode-grid (c .before)))
 
-decode-requires : tie.Need-decode-requires
-decode-requires c κs = search needs
+decode-grid-requires : tie.Need-decode-grid-requires
+decode-grid-requires c κs =
+    let told = first (c .before .before .before .before .before .before .before .before .before .before) in
+    may-decode (start1 told .pre) (start1 told .args .budget)
 
 same-length-3 : tie.Need-same-length-3
 same-length-3 c = search needs
@@ -118,7 +120,7 @@ returns-2 c =
     let start = start1 after in
     found (start .pre) (start .args .budget) (after .searched .result) (after .searched .ensures)
     (told .before .before .before .before .trail .given .0) (told .before .before .before .marks .given .0) (told .enum-told .given .1)
-    (values .before .give-values .ensures) (decoded .decode .ensures .1) (values .values .given .0) (c .before .drawing .given .0)
+    (values .before .give-values .ensures) (decoded .decode-grid .ensures .1) (values .values .given .0) (c .before .drawing .given .0)
 
 pub find-drawing-spec : {M : Type 1} → statement M
 find-drawing-spec =
@@ -139,11 +141,11 @@ find-drawing-spec =
     slice-relend-prefix-give-values
     slice-aggregate-give-values-2
     give-values-requires
-    slice-reshare-prefix-decode
-    slice-aggregate-decode
-    slice-relend-prefix-decode
-    slice-aggregate-decode-2
-    decode-requires
+    slice-reshare-prefix-decode-grid
+    slice-aggregate-decode-grid
+    slice-relend-prefix-decode-grid
+    slice-aggregate-decode-grid-2
+    decode-grid-requires
     same-length-3
     same-length-4
     same-length-5
