@@ -1,5 +1,6 @@
 /*
- * Yajilin: judge, encoder, decoder, search and DIMACS text.
+ * Yajilin: judge, encoder, decoder, search and DIMACS text. docs/REFERENCE.md has the formats, clauses, steps and
+ * refusals in full, with examples.
  *
  * Link with target/staticlib/libffi.a, which `rt staticlib ffi` writes (x86-64, System V calls). Of the C library it
  * needs memcpy and memset. It allocates nothing, keeps nothing between calls and does no input or output, so calls may
@@ -21,7 +22,7 @@
  * - A buffer that a call writes overlaps no other buffer of that call.
  * - While a call runs, nothing else writes its buffers or reads those that it writes.
  *
- * Nothing is asked of the contents of a buffer: whatever stands there, the call is answered or refused.
+ * The contents of a buffer may be anything: the call is answered or refused.
  *
  * A grid record, little-endian: bytes 0-1 its length, 2-3 the kind 1, byte 4 rows, byte 5 columns (1 to 24 each), then a
  * byte for each of the N = rows * columns cells, row by row: 0x00 open, or a clue, 0x10 to 0x4F, whose upper four bits are
@@ -109,16 +110,16 @@ uint64_t yajilin_decode(const uint8_t *record, size_t record_bytes,
                         uint64_t answer[4]);
 
 /*
- * Searches an assignment that satisfies the list, from the trail handed in, by at most budget steps. The first `used`
- * entries of trail are literals that hold; the mark of each is 1 for a choice whose other value is untried, else 0. What
- * stands after them isn't looked at. To begin empty, used is 0.
+ * Searches for an assignment that satisfies the list, from the trail handed in, by at most budget steps. The first `used`
+ * entries of trail are literals that are true; the mark of each is 1 for a decision whose other value has not been tried,
+ * else 0. What comes after them isn't looked at. To begin empty, used is 0.
  *
  * Answered: answer[0] is an enum yajilin_search_answer, answer[1] the steps that this call made, answer[2] the used count.
  * trail and marks have the trail that was reached, with 0 after the used entries. After YAJILIN_FOUND all V entries are
  * used and their literals satisfy the list; after YAJILIN_NONE nothing that was open satisfies it; after YAJILIN_HALTED
- * the call may be made again, with trail, marks and answer[2], to go on. Budgets add up: calls that go on so come to the
- * answer, trail, marks and used count of one call with all their budgets together, and make its steps together. Where a
- * call comes to YAJILIN_FOUND or YAJILIN_NONE, one with a larger budget does the same.
+ * the call may be made again, with trail, marks and answer[2], to go on. Budgets add up: such calls end with the answer,
+ * trail, marks and used count of one call with all their budgets together, and their steps are its steps. Where a call
+ * answers YAJILIN_FOUND or YAJILIN_NONE, one with a larger budget answers and leaves the same.
  * Refused: 17 (trail_length and marks_bytes must both be V), 16, 18.
  */
 uint64_t yajilin_search(uint64_t variables,
@@ -129,19 +130,19 @@ uint64_t yajilin_search(uint64_t variables,
                         uint64_t answer[4]);
 
 /*
- * Goes on to the following solution: takes a full trail that satisfies the list, drops that assignment as a failed clause
- * would, which is a step, and searches on.
+ * Goes on to the following solution: takes a full trail that satisfies the list, drops that assignment as a falsified
+ * clause would, which is a step, and searches on.
  *
  * Answered: as yajilin_search, for the assignments other than the one handed in. To list all that satisfy a list, search
  * it begun empty and after each YAJILIN_FOUND call yajilin_next with what was left, until YAJILIN_NONE: each is found
  * once, false before true at the lowest variable where two differ. A grid has one solution if the first YAJILIN_FOUND is
  * followed by YAJILIN_NONE.
  *
- * Mind, after YAJILIN_NONE: where no mark was 1, the used entries are as they were. Such a trail still satisfies the list,
- * and yajilin_search on it says YAJILIN_FOUND; there is nothing to go on with.
+ * Note on YAJILIN_NONE: there is no further solution, so call neither function again. Where no mark was 1, the used entries
+ * are as they were; such a trail still satisfies the list, and yajilin_search on it would answer YAJILIN_FOUND.
  *
- * Mind, after YAJILIN_HALTED: the trail may be full again, so only answer[1] tells whether the assignment was dropped. At
- * 0 steps it was not, and yajilin_next is called again; after 1 or more yajilin_search goes on. Budgets add up here too.
+ * Note on YAJILIN_HALTED: the trail may be full again, so only answer[1] tells whether the assignment was dropped. At 0
+ * steps it was not: call yajilin_next again. After 1 or more steps call yajilin_search. Budgets add up here too.
  *
  * Refused: 17, 16, 18 as yajilin_search; 20, with budget 0 too.
  */
@@ -156,7 +157,7 @@ uint64_t yajilin_next(uint64_t variables,
  * Writes the DIMACS text of V and a clause list into text: `p cnf V C`, then a clause a line. No NUL is added.
  *
  * Answered: answer[0] bytes written. Bytes past these are untouched.
- * Refused: 17 (V too large), 16, 6. With text_bytes 0 a good list is always refused as 6, with the bytes needed.
+ * Refused: 17 (V too large), 16, 6. With text_bytes 0 a list that is fit for V is always refused as 6, with the bytes needed.
  */
 uint64_t yajilin_write(uint64_t variables,
                        const int32_t *list, size_t list_length,

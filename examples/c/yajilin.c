@@ -14,7 +14,7 @@
 
 enum { FAILED = 1, USAGE = 2, HALTED = 3 };
 
-/* A record's length field has 16 bits. One byte more is read, so that a longer file is turned down as such. */
+/* A record's length field has 16 bits. One byte more is read, so that a longer file is refused. */
 enum { MOST_BYTES = 65536 };
 
 static uint8_t record[MOST_BYTES];
@@ -27,7 +27,7 @@ struct clauses {
     uint64_t variables;
 };
 
-/* Words for the refusals that this program can meet. */
+/* Words for the refusals that a record can get. */
 static const char *cause(uint64_t number)
 {
     switch (number) {
