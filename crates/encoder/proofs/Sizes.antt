@@ -44,8 +44,8 @@ module _ (p : Puzzle) (rows : p .grid .rows ≤ 45) (columns : p .grid .columns 
       let f = clues-few 0 (p .cells) in
       record { cells = omega arith; clues = omega (arith, filled); short = clues-short 0 (p .cells) (omega (arith, filled)) numbers }
 
--- the number in a cell byte is four bits
-cell-small : (v : ℕ) → numberOf (cellOf v) ≤ 44
+-- the number in a cell byte is four bits (the bound is that of numbers to 44)
+pub cell-small : (v : ℕ) → numberOf (cellOf v) ≤ 44
 cell-small v = by (eqb v 0) (leb 0x10 v && leb v 0x4F)
   where
     by : (s t : Bool) → numberOf (isCell (mathlib.Core.Bool.cond s (Is Open) (mathlib.Core.Bool.cond t (Is (Clued (directionOf (v / 16)) (v % 16))) NotAllowed))) ≤ 44

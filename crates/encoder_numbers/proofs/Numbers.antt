@@ -1,22 +1,20 @@
 -- Ranks, links and counts, one cell more at a turn, and their bounds. Assumes nothing.
-use Prim.Native.Nat.{ℕ, zero, suc, _+_, _*_, _≤_, _<_, _/_, _%_, _^_}
+use Prim.Native.Nat.{ℕ, zero, suc, _+_, _*_, _≤_, _<_, _^_}
 use native.Mathlib.Omega.{arith}
 use native.Mathlib.Nat.{mul-le-mul}
 use native.Mathlib.Numerals.{add-one}
-use lib.Dec.{eqb, leb}
 use lib.ListN.{length, getD, take, length-append, length-map}
 use lib.Seq.{take-all}
 use mathlib.Core.Path.{_≡_, refl, sym, _∙_, ap}
-use mathlib.Core.Bool.{Bool, true, false, _&&_, cond}
+use mathlib.Core.Bool.{Bool, true, false, cond}
 use mathlib.Core.Option.{Option, none, some, Option·some-injective, Option·some-ne-none}
 use mathlib.Core.List.{List, [], _∷_, _++_, append-nil}
 use Rattle.rules.specs.declared.Direction.{Direction}
 use Rattle.rules.specs.declared.Direction.the-variants.{North as north, East as east, South as south, West as west}
 use Rattle.rules.specs.declared.Cell.{Cell}
 use Rattle.rules.specs.declared.Cell.the-variants.{Open, Clue as Clued}
-use Rattle.rules.specs.declared.CellByte.the-variants.{Is, NotAllowed}
 use Rattle.rules.specs.declared.Grid.{Grid}
-use Rattle.rules.specs.Record.{Puzzle, directionOf, isCell, cellOf, cellByte, size, puzzle, mostCells, RecordFits}
+use Rattle.rules.specs.Record.{Puzzle, cellByte, size, puzzle, mostCells, RecordFits}
 use Rattle.rules.specs.Board.{Clue, Board, openCell, line, clueOf, cluesFrom, gridBoard}
 use Rattle.rules.proofs.Records.{cell-at, held-filled}
 use Rattle.encoder.specs.Lists.{upTo, each}
@@ -26,6 +24,7 @@ use Rattle.encoder.proofs.Places.{below, rank, linksBelow, earlier, clue-long, 
 use Rattle.encoder.proofs.Clues.{clues-next}
 use Rattle.encoder.proofs.Lines.{line-short}
 use Rattle.encoder.proofs.Bounds.{neighbours-most}
+use Rattle.encoder.proofs.Sizes.{numberOf, cell-small}
 use Rattle.encoder.proofs.ClauseLists.{rank-open, rank-shut, ways-open, ways-shut}
 use Rattle.judge_cells.proofs.Checks.{is-opened}
 use Rattle.encoder_numbers.specs.declared.Sizes.{Sizes}
@@ -115,15 +114,6 @@ clue-counts p x {c} {d} {n} {l} e h q =
 pub no-counts : (p : Puzzle) (x : ℕ) {c : Cell} → c ≡ Open → c ≡ getD (p .cells) x Open → 0 ≡ countsOf p x
 no-counts p x e h = ap (λ c. length (each (clueOf p x c) clueCounts)) (sym e ∙ h)
 
--- the number in a cell byte is four bits (the bound is that of numbers to 44)
-number-few : (v : ℕ) {d : Direction} {n : ℕ} → cellOf v ≡ Clued d n → n ≤ 44
-number-few v {d} {n} e = by (eqb v 0) (leb 0x10 v && leb v 0x4F) e
-  where
-    by : (s t : Bool) → isCell (cond s (Is Open) (cond t (Is (Clued (directionOf (v / 16)) (v % 16))) NotAllowed)) ≡ Clued d n → n ≤ 44
-    by true t e = let z : _≡_ {A = ℕ} 0 1 = cc in absurd (omega arith)
-    by false true e = let q : v % 16 ≡ n = cc in omega arith
-    by false false e = let z : _≡_ {A = ℕ} 0 1 = cc in absurd (omega arith)
-
 -- no line is longer than there are cells
 pub line-few : {g : Grid} {s : List ℕ} {x : ℕ} → RecordFits g s → x < size g → (d : Direction) → length (line (puzzle g s) d x) ≤ mostCells
 line-few {g} {s} {x} h l d =
@@ -140,7 +130,7 @@ counts-few {g} {s} {x} h l = by (getD (puzzle g s .cells) x Open) refl
     by Open e = let z = no-counts (puzzle g s) x refl (sym e) in omega arith
     by (Clued d n) e =
         let z = clue-counts (puzzle g s) x refl (sym e) refl in
-        let m = number-few (cellByte s x) (cell-at g s x ∙ e) in
+        let m : n ≤ 44 = omega (arith, cell-small (cellByte s x), ap numberOf (cell-at g s x ∙ e)) in
         let k : (length (line (puzzle g s) d x) + 1) * (n + 1) ≤ suc mostCells * 45 = mul-le-mul {n₂ = suc mostCells} {m₂ = 45} (omega (arith, line-few h l d)) (omega arith) in
         omega arith
 
