@@ -1,7 +1,8 @@
 -- `count_solutions::main` meets its contract. Assumes nothing.
-use Prim.Native.Nat.{_≤_}
+use Prim.Native.Nat.{ℕ, _≤_}
 use native.Mathlib.Omega.{arith}
 use lib.ListN.{length, take}
+use mathlib.Core.List.{List}
 use Rattle.count_solutions.specs.Printed.{printedCount}
 use Rattle.program_text.proofs.Limits.{text-inside, text-long}
 use Rattle.count_solutions.proofs.Ends.{count-fits}
@@ -9,16 +10,13 @@ use borrow.Author.Needs.{needs}
 use Rattle.count_solutions.proofs.main.Statement.{statement}
 use Rattle.count_solutions.proofs.main.Tie as tie
 
+-- the bytes that were read
+abbrev input : tie.After-count-text → List ℕ
+input c = let r = c .before .before .before .before .before in take (r .read-full .result) (r .read-full .last .1 .0)
+
 -- what is printed fits the text
-fits : (c : tie.After-count-text)
-    → length (printedCount (take (c .before .before .before .before .before .read-full .result) (c .before .before .before .before .before .read-full .last .1 .0))) ≤ length (c .before .before .before .buffer .result)
-fits c =
-    omega (
-      arith,
-      count-fits (take (c .before .before .before .before .before .read-full .result)
-          (c .before .before .before .before .before .read-full .last .1 .0)),
-      c .before .before .before .buffer .ensures,
-    )
+fits : (c : tie.After-count-text) → length (printedCount (input c)) ≤ length (c .before .before .before .buffer .result)
+fits c = omega (arith, count-fits (input c), c .before .before .before .buffer .ensures)
 
 large-buffer-requires : tie.Need-large-buffer-requires
 large-buffer-requires c κs = search needs

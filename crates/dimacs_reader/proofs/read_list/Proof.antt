@@ -1,10 +1,11 @@
 -- `dimacs_reader::read_list` meets its contract: the loop keeps `Listing`. Assumes nothing.
-use Prim.Native.Nat.{_-_}
+use Prim.Native.Nat.{ℕ, _-_}
 use native.Mathlib.Omega.{arith}
 use lib.ListN.{length}
 use mathlib.Core.Path.{refl}
+use mathlib.Core.List.{List}
 use Rattle.answers.proofs.Lent.{wrote-length}
-use Rattle.dimacs.specs.Reader.{clause}
+use Rattle.dimacs.specs.Reader.{Header, State, clause}
 use Rattle.dimacs_cursor.specs.Cursors.{headerWith, ElementRead, Elemental}
 use Rattle.dimacs_reader.proofs.Listings.{Listing, list-start, element-read, list-over, list-refused, list-more, list-begun, list-few, list-end}
 use Rattle.dimacs_reader.proofs.read_list.Statement.{statement}
@@ -15,6 +16,16 @@ Inv-loop text from variables clauses out₀ at₀ n₀ k₀ begun₀ out at n k 
 
 abbrev μ-loop : tie.MeasureT-loop
 μ-loop text from variables clauses out₀ at₀ n₀ k₀ begun₀ out at n k begun = length text - at
+
+-- the text, its header and the reader's state, at the head of the loop
+abbrev bytes : tie.At-loop Inv-loop μ-loop → List ℕ
+bytes l = l .before .before .args .text .now
+
+abbrev header : tie.At-loop Inv-loop μ-loop → Header
+header l = headerWith (l .before .before .args .variables) (l .before .before .args .clauses)
+
+abbrev state : tie.At-loop Inv-loop μ-loop → State
+state l = clause (header l) (l .loop .k) (l .loop .begun)
 
 loop-holds : tie.Need-loop-holds Inv-loop μ-loop
 loop-holds c =
@@ -34,21 +45,15 @@ enum-known-negative c = c .match .keys1
 
 -- what was found at the place, and the element that was read
 found : (c : tie.After-element Inv-loop μ-loop)
-    → Elemental (c .before .before .before .before .before .args .text .now) (headerWith (c .before .before .before .before .before .args .variables) (c .before .before .before .before .before .args .clauses)) (c .before .before .before .loop .k) (clause (headerWith (c .before .before .before .before .before .args .variables) (c .before .before .before .before .before .args .clauses)) (c .before .before .before .loop .k) (c .before .before .before .loop .begun)) (c .before .before .before .loop .at) (c .element .result)
-found c =
-    let at-loop = c .before .before .before in
-    let at-start = at-loop .before .before in
-    c .element .ensures (headerWith (at-start .args .variables) (at-start .args .clauses)) (at-loop .loop .k) (at-loop .loop .begun) refl
-    (c .before .if1 .left)
+    → let l = c .before .before .before in Elemental (bytes l) (header l) (l .loop .k) (state l) (l .loop .at) (c .element .result)
+found c = let l = c .before .before .before in c .element .ensures (header l) (l .loop .k) (l .loop .begun) refl (c .before .if1 .left)
 
 read : (c : tie.After-negative Inv-loop μ-loop)
-    → ElementRead (c .before .before .before .before .before .before .before .args .text .now) (headerWith (c .before .before .before .before .before .before .before .args .variables) (c .before .before .before .before .before .before .before .args .clauses)) (c .before .before .before .before .before .loop .k) (clause (headerWith (c .before .before .before .before .before .before .before .args .variables) (c .before .before .before .before .before .before .before .args .clauses)) (c .before .before .before .before .before .loop .k) (c .before .before .before .before .before .loop .begun)) (c .before .before .before .before .before .loop .at) (c .negative .given .0 .0) (c .negative .given .0 .1 .0) (c .negative .given .0 .1 .1 .0 .at)
+    → let l = c .before .before .before .before .before in let e = c .negative .given .0 in
+    ElementRead (bytes l) (header l) (l .loop .k) (state l) (l .loop .at) (e .0) (e .1 .0) (e .1 .1 .0 .at)
 read c =
-    let at-loop = c .before .before .before .before .before in
-    let at-start = at-loop .before .before in
-    element-read (at-start .args .text .now) (headerWith (at-start .args .variables) (at-start .args .clauses)) (at-loop .loop .k)
-    (clause (headerWith (at-start .args .variables) (at-start .args .clauses)) (at-loop .loop .k) (at-loop .loop .begun)) (at-loop .loop .at)
-    (found (c .before .before)) (c .negative .given .1)
+    let l = c .before .before .before .before .before in
+    element-read (bytes l) (header l) (l .loop .k) (state l) (l .loop .at) (found (c .before .before)) (c .negative .given .1)
 
 put-literal-requires : tie.Need-put-literal-requires Inv-loop μ-loop
 put-literal-requires c κs =
@@ -65,14 +70,14 @@ closed-after-requires c κs =
 loop-less : tie.Need-loop-less Inv-loop μ-loop
 loop-less c =
     let at-negative = c .before .before .before .before .before in
-    omega (arith, read (at-negative) .low)
+    omega (arith, read at-negative .low)
 
 loop-again : tie.Need-loop-again Inv-loop μ-loop
 loop-again c =
     let at-negative = c .before .before .before .before .before in
     let at-else1 = at-negative .before .before .before in
     let at-loop = at-else1 .before .before in
-    list-more (at-loop .loop .inv) (read (at-negative)) (at-else1 .if1 .left) (c .before .before .put-literal .ensures) (c .closed-after .ensures)
+    list-more (at-loop .loop .inv) (read at-negative) (at-else1 .if1 .left) (c .before .before .put-literal .ensures) (c .closed-after .ensures)
 
 enum-known-p : tie.Need-enum-known-p Inv-loop μ-loop
 enum-known-p c = c .match .keys2
@@ -87,7 +92,7 @@ returns-2 : tie.Need-returns-2 Inv-loop μ-loop
 returns-2 c =
     let at-element = c .before .before .before in
     let at-loop = at-element .before .before .before in
-    list-refused (at-loop .loop .inv) (found (at-element)) (c .before .p .given .1)
+    list-refused (at-loop .loop .inv) (found at-element) (c .before .p .given .1)
 
 same-length-3 : tie.Need-same-length-3 Inv-loop μ-loop
 same-length-3 c = wrote-length (c .before .before .loop .inv .wrote)

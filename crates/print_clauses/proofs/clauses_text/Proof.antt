@@ -45,7 +45,7 @@ returns c =
     let at-outcome = c .before .before .before in
     let at-enum-told = at-outcome .before .before in
     let at-encode = at-enum-told .before .before .before in
-    wrote-recast (refused-line (outcome-as (sym (at-outcome .outcome .ensures)) (call (at-encode))) _
+    wrote-recast (refused-line (outcome-as (sym (at-outcome .outcome .ensures)) (call at-encode)) _
     (refused-number (at-enum-told .enum-told .given .1) (at-outcome .outcome .ensures))) (c .before .before .put-refused .ensures)
 
 put-refused-requires-2 : tie.Need-put-refused-requires-2
@@ -59,26 +59,26 @@ returns-2 c =
     let at-then1 = c .before .before .before .before in
     let at-e = at-then1 .before .before in
     let at-encode = at-e .before .before .before in
-    wrote-recast (large-line (answered (at-encode) (at-e .e .given .1)) refl _ (omega (arith, at-then1 .if1 .taken)))
+    wrote-recast (large-line (answered at-encode (at-e .e .given .1)) refl _ (omega (arith, at-then1 .if1 .taken)))
     (c .before .before .put-refused2 .ensures)
 
 array-share-prefix-list : tie.Need-array-share-prefix-list
 array-share-prefix-list c =
     let at-e = c .before .before .before in
     let at-encode = at-e .before .before .before in
-    listed-inside (answered (at-encode) (at-e .e .given .1)) refl
+    listed-inside (answered at-encode (at-e .e .given .1)) refl
 
 slice-aggregate-put-text : tie.Need-slice-aggregate-put-text
 slice-aggregate-put-text c =
     let at-e = c .before .before .before .before in
     let at-encode = at-e .before .before .before in
-    listed-long (answered (at-encode) (at-e .e .given .1)) refl
+    listed-long (answered at-encode (at-e .e .given .1)) refl
 
 put-text-requires : tie.Need-put-text-requires
 put-text-requires c κs =
     let at-e = c .before .before .before .before in
     let at-encode = at-e .before .before .before in
-    listed-fits (answered (at-encode) (at-e .e .given .1)) (omega (arith, c .before .before .if1 .left))
+    listed-fits (answered at-encode (at-e .e .given .1)) (omega (arith, c .before .before .if1 .left))
 
 same-length-3 : tie.Need-same-length-3
 same-length-3 c = search needs
@@ -88,7 +88,7 @@ returns-3 c =
     let at-else1 = c .before .before .before .before .before in
     let at-e = at-else1 .before .before in
     let at-encode = at-e .before .before .before in
-    ends-listed (answered (at-encode) (at-e .e .given .1)) (omega (arith, at-else1 .if1 .left)) (c .before .before .put-text .ensures)
+    ends-listed (answered at-encode (at-e .e .given .1)) (omega (arith, at-else1 .if1 .left)) (c .before .before .put-text .ensures)
 
 pub clauses-text-spec : {M : Type 1} → statement M
 clauses-text-spec =

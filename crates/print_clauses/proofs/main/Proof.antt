@@ -1,7 +1,8 @@
 -- `print_clauses::main` meets its contract. Assumes nothing.
-use Prim.Native.Nat.{_≤_}
+use Prim.Native.Nat.{ℕ, _≤_}
 use native.Mathlib.Omega.{arith}
 use lib.ListN.{length, take}
+use mathlib.Core.List.{List}
 use Rattle.program_text.specs.Programs.{printedClauses}
 use Rattle.program_text.proofs.Limits.{text-inside, text-long}
 use Rattle.print_clauses.proofs.Fits.{clauses-fit}
@@ -9,13 +10,13 @@ use borrow.Author.Needs.{needs}
 use Rattle.print_clauses.proofs.main.Statement.{statement}
 use Rattle.print_clauses.proofs.main.Tie as tie
 
+-- the bytes that were read
+abbrev input : tie.After-clauses-text → List ℕ
+input c = let r = c .before .before .before .before .before in take (r .read-full .result) (r .read-full .last .1 .0)
+
 -- what is printed fits the text
-fits : (c : tie.After-clauses-text)
-    → length (printedClauses (take (c .before .before .before .before .before .read-full .result) (c .before .before .before .before .before .read-full .last .1 .0))) ≤ length (c .before .before .before .large-buffer2 .result)
-fits c =
-    let at-large-buffer2 = c .before .before .before in
-    let at-read-full = at-large-buffer2 .before .before in
-    omega (arith, clauses-fit (take (at-read-full .read-full .result) (at-read-full .read-full .last .1 .0)), at-large-buffer2 .large-buffer2 .ensures)
+fits : (c : tie.After-clauses-text) → length (printedClauses (input c)) ≤ length (c .before .before .before .large-buffer2 .result)
+fits c = omega (arith, clauses-fit (input c), c .before .before .before .large-buffer2 .ensures)
 
 large-buffer-requires : tie.Need-large-buffer-requires
 large-buffer-requires c κs = search needs

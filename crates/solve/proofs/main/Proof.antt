@@ -1,7 +1,8 @@
 -- `solve::main` meets its contract. Assumes nothing.
-use Prim.Native.Nat.{_≤_}
+use Prim.Native.Nat.{ℕ, _≤_}
 use native.Mathlib.Omega.{arith}
 use lib.ListN.{length, take}
+use mathlib.Core.List.{List}
 use Rattle.program_text.specs.Programs.{printedSolution}
 use Rattle.program_text.proofs.Limits.{text-inside, text-long}
 use Rattle.solve.proofs.Ends.{solution-fits}
@@ -9,16 +10,13 @@ use borrow.Author.Needs.{needs}
 use Rattle.solve.proofs.main.Statement.{statement}
 use Rattle.solve.proofs.main.Tie as tie
 
+-- the bytes that were read
+abbrev input : tie.After-solution-text → List ℕ
+input c = let r = c .before .before .before .before .before in take (r .read-full .result) (r .read-full .last .1 .0)
+
 -- what is printed fits the text
-fits : (c : tie.After-solution-text)
-    → length (printedSolution (take (c .before .before .before .before .before .read-full .result) (c .before .before .before .before .before .read-full .last .1 .0))) ≤ length (c .before .before .before .buffer .result)
-fits c =
-    omega (
-      arith,
-      solution-fits (take (c .before .before .before .before .before .read-full .result)
-          (c .before .before .before .before .before .read-full .last .1 .0)),
-      c .before .before .before .buffer .ensures,
-    )
+fits : (c : tie.After-solution-text) → length (printedSolution (input c)) ≤ length (c .before .before .before .buffer .result)
+fits c = omega (arith, solution-fits (input c), c .before .before .before .buffer .ensures)
 
 large-buffer-requires : tie.Need-large-buffer-requires
 large-buffer-requires c κs = search needs

@@ -17,19 +17,20 @@ found-v : (c : tie.After-field) → Fields (c .before .before .args .text .now) 
 found-v c = c .field .ensures ofVariables after-v refl refl (λ x b. refl)
 
 read-v : (c : tie.After-variables)
-    → FieldRead (c .before .before .before .before .args .text .now) ofVariables (c .before .before .before .before .args .self .at) (after-v (c .variables .given .0 .0)) (c .variables .given .0 .0) (c .variables .given .0 .1 .0 .at)
+    → let s = c .before .before .before .before in let e = c .variables .given .0 in
+    FieldRead (s .args .text .now) ofVariables (s .args .self .at) (after-v (e .0)) (e .0) (e .1 .0 .at)
 read-v c =
-    let at-start = c .before .before .before .before in
-    field-read (at-start .args .text .now) (at-start .args .self .at) ofVariables after-v (found-v (c .before .before)) (c .variables .given .1)
+    let s = c .before .before .before .before in
+    field-read (s .args .text .now) (s .args .self .at) ofVariables after-v (found-v (c .before .before)) (c .variables .given .1)
 
 -- C, and the state after it
 abbrev after-c : ℕ → ℕ → State
 after-c v x = clause (headerWith v x) 0 false
 
 found-c : (c : tie.After-field2)
-    → Fields (c .before .before .before .before .before .before .args .text .now) (ofClauses (c .before .before .variables .given .0 .0)) (c .before .before .variables .given .0 .1 .0 .at) (after-c (c .before .before .variables .given .0 .0)) (c .field2 .result)
-found-c c =
-    c .field2 .ensures (ofClauses (c .before .before .variables .given .0 .0)) (after-c (c .before .before .variables .given .0 .0)) refl refl (λ x b. refl)
+    → let w = c .before .before in let e = w .variables .given .0 in
+    Fields (w .before .before .before .before .args .text .now) (ofClauses (e .0)) (e .1 .0 .at) (after-c (e .0)) (c .field2 .result)
+found-c c = let e = c .before .before .variables .given .0 in c .field2 .ensures (ofClauses (e .0)) (after-c (e .0)) refl refl (λ x b. refl)
 
 field-requires : tie.Need-field-requires
 field-requires c κs = tt
@@ -55,10 +56,10 @@ returns c =
     let at-variables = at-field2 .before .before in
     let at-start = at-variables .before .before .before .before in
     record {
-      run = run-then (read-v (at-variables) .run) (field-read (at-start .args .text .now) (at-variables .variables .given .0 .1 .0 .at)
-          (ofClauses (at-variables .variables .given .0 .0)) (after-c (at-variables .variables .given .0 .0)) (found-c (at-field2))
+      run = run-then (read-v at-variables .run) (field-read (at-start .args .text .now) (at-variables .variables .given .0 .1 .0 .at)
+          (ofClauses (at-variables .variables .given .0 .0)) (after-c (at-variables .variables .given .0 .0)) (found-c at-field2)
           (c .before .clauses .given .1) .run);
-      small = read-v (at-variables) .small;
+      small = read-v at-variables .small;
     }
 
 returns-2 : tie.Need-returns-2
@@ -66,14 +67,14 @@ returns-2 c =
     let at-field2 = c .before .before .before in
     let at-variables = at-field2 .before .before in
     let at-start = at-variables .before .before .before .before in
-    run-dead (read-v (at-variables) .run) (field-refused (at-start .args .text .now) (at-variables .variables .given .0 .1 .0 .at)
-    (ofClauses (at-variables .variables .given .0 .0)) (after-c (at-variables .variables .given .0 .0)) (found-c (at-field2)) (c .before .at .given .1))
+    run-dead (read-v at-variables .run) (field-refused (at-start .args .text .now) (at-variables .variables .given .0 .1 .0 .at)
+    (ofClauses (at-variables .variables .given .0 .0)) (after-c (at-variables .variables .given .0 .0)) (found-c at-field2) (c .before .at .given .1))
 
 returns-3 : tie.Need-returns-3
 returns-3 c =
     let at-field = c .before .before .before in
     let at-start = at-field .before .before in
-    field-refused (at-start .args .text .now) (at-start .args .self .at) ofVariables after-v (found-v (at-field)) (c .before .at2 .given .1)
+    field-refused (at-start .args .text .now) (at-start .args .self .at) ofVariables after-v (found-v at-field) (c .before .at2 .given .1)
 
 pub counts-spec : {M : Type 1} → statement M
 counts-spec =

@@ -25,7 +25,7 @@ returns-2 c =
     digit-not-first (at-else1 .if1 .left) (c .before .before .byte-at .ensures) (sym (c .before .starts .ensures) ∙ not-true _ (c .if2 .taken))
 
 is-first : (c : tie.Else2)
-    → isFirst (c .before .before .byte-at .result) (c .before .before .before .before .before .args .bound) (c .before .before .before .before .before .args .zero) ≡ true
+    → let b = c .before .before in let s = b .before .before .before in isFirst (b .byte-at .result) (s .args .bound) (s .args .zero) ≡ true
 is-first c = sym (c .before .starts .ensures) ∙ not-false _ (c .if2 .left)
 
 add-more-digits : tie.Need-add-more-digits
