@@ -1,5 +1,6 @@
 -- Laws that the crates above share.
 pub mod Bools
+pub mod Elements
 pub mod First
 pub mod Lent
 pub mod Lists

@@ -10,6 +10,11 @@ abbrev pub found : Bool → ℕ → Option ℕ → Option ℕ
 found true a rest = some a
 found false a rest = rest
 
+-- the first of two
+abbrev pub orElse : Option ℕ → Option ℕ → Option ℕ
+orElse none o = o
+orElse (some i) o = some i
+
 -- among the n numbers from a on
 unfoldable pub firstFrom : (ℕ → Bool) → ℕ → ℕ → Option ℕ
 firstFrom p a zero = none

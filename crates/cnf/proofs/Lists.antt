@@ -16,7 +16,8 @@ use Rattle.answers.specs.declared.Place.the-variants.{At, Nowhere}
 use Rattle.answers.specs.First.{placed}
 use Rattle.answers.specs.Lists.{tally}
 use Rattle.answers.proofs.Bools.{clash}
-use Rattle.cnf.specs.Literals.{closes, codeOf, beyond, unclosed, orElse}
+use Rattle.answers.specs.First.{orElse}
+use Rattle.cnf.specs.Literals.{closes, codeOf, beyond, unclosed}
 use Rattle.cnf.specs.Clauses.{splitStep, split, clauseCount}
 
 -- the variable of a code

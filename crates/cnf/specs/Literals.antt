@@ -4,9 +4,9 @@ use lib.Dec.{ltb}
 use lib.IntN.{ℤ, pos, negsuc, natAbs}
 use lib.ListN.{length, getD}
 use mathlib.Core.Bool.{Bool, true, false, not}
-use mathlib.Core.Option.{Option, none, some}
+use mathlib.Core.Option.{Option, none}
 use mathlib.Core.List.{List}
-use Rattle.answers.specs.First.{found, firstWhere}
+use Rattle.answers.specs.First.{found, orElse, firstWhere}
 
 -- 0 closes a clause
 abbrev pub closes : ℤ → Bool
@@ -37,10 +37,6 @@ beyondAt v ls i = beyond v (getD ls i (pos 0))
 -- a list that is not empty and does not end in 0
 abbrev pub unclosed : List ℤ → Bool
 unclosed ls = not (closes (getD ls (length ls - 1) (pos 0)))
-
-abbrev pub orElse : Option ℕ → Option ℕ → Option ℕ
-orElse none o = o
-orElse (some i) o = some i
 
 -- 16: literal beyond V, or list non-empty and not ending in 0; first such index, else list length
 abbrev pub wrongList : ℕ → List ℤ → Option ℕ

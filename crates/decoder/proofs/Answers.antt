@@ -14,8 +14,8 @@ use Rattle.answers.proofs.OneToOne.{number-not}
 use Rattle.answers.proofs.Rows.{Clear, answered-clear, clear-answered, no-cause, still-refused, refusals-append}
 use Rattle.rules.specs.Board.{Board}
 use Rattle.rules.specs.Judge.{ruleRows, judgeRows, saysYes}
-use Rattle.encoder.specs.Lists.{upTo}
-use Rattle.encoder.proofs.Lists.{made-long}
+use Rattle.answers.specs.Lists.{upTo}
+use Rattle.answers.proofs.Elements.{made-long}
 use Rattle.decoder.specs.declared.DecodeRefusal.{DecodeRefusal}
 use Rattle.decoder.specs.Answer.{decodeRefusalOutcome, valueRows}
 use Rattle.decoder.proofs.Outcomes.{decode-numbers}

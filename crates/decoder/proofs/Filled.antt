@@ -6,8 +6,8 @@ use mathlib.Core.Path.{_≡_, sym, _∙_, ap}
 use mathlib.Core.List.{List, [], _∷_, _++_, map, map-append}
 use Rattle.answers.specs.Lent.{filled, Wrote}
 use Rattle.answers.proofs.Lent.{wrote-one, wrote-nothing, wrote-after, wrote-recast, wrote-length, wrote-filled}
-use Rattle.encoder.specs.Lists.{upTo}
-use Rattle.encoder.proofs.Lists.{from-last, made-long}
+use Rattle.answers.specs.Lists.{upTo}
+use Rattle.answers.proofs.Elements.{from-last, made-long}
 
 -- f of each number below x stands in the buffer
 pub record Filling (f : ℕ → ℕ) (n : ℕ) (buf₀ buf : List ℕ) (x : ℕ) : Type 0 where

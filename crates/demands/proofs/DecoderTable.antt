@@ -14,9 +14,9 @@ use Rattle.answers.proofs.Settled.{untouched}
 use Rattle.rules.specs.Record.{recordRows}
 use Rattle.rules.specs.Board.{Board, boardOf}
 use Rattle.rules.specs.Judge.{wrongDrawing, judgeRows, saysYes}
-use Rattle.encoder.specs.Lists.{upTo}
+use Rattle.answers.specs.Lists.{upTo}
 use Rattle.encoder.specs.Decoding.{decoded, wrongValues, wrongValue, decoderAnswer, decoderLeaves}
-use Rattle.encoder.proofs.Lists.{length-from}
+use Rattle.answers.proofs.Elements.{length-from}
 use Rattle.demands.specs.DecoderTable.{decoderTable}
 
 -- what the decoder draws has N bytes

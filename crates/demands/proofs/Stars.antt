@@ -22,7 +22,7 @@ use Rattle.dimacs.specs.Text.{lines}
 use Rattle.encoder.specs.Variables.{same, variables, variableCount, place}
 use Rattle.encoder.specs.Clauses.{clauses, clauseList}
 use Rattle.encoder.proofs.Cases as grids
-use Rattle.encoder.proofs.Lists.{all-append}
+use Rattle.answers.proofs.Elements.{all-append}
 use Rattle.search.specs.Trail.{trailOf, variableValue}
 use Rattle.search.specs.Step.{everyLiteral, firstClause, forcedAt, failedClause, forcedPlace, lowestUnassigned, undo, step}
 use Rattle.search.specs.Run.{None, endingNumber, run, following}

@@ -30,7 +30,7 @@ use Rattle.dimacs.specs.Reader.{refusedAt}
 use Rattle.dimacs.specs.Calls.{writerRows, writerAnswer, writerLeaves, readerRows, readerAnswer, readerLeaves}
 use Rattle.dimacs_theory.specs.Place.{Refused}
 use Rattle.dimacs_theory.specs.Reading.{Writes, Reads, written as textWritten, elementsRead}
-use Rattle.encoder.specs.Lists.{each, joined}
+use Rattle.answers.specs.Lists.{each, joined}
 use Rattle.encoder.specs.Variables.{variableCount}
 use Rattle.encoder.specs.Clauses.{touching, clueLines, links, start, distance, written, clauseList}
 use Rattle.encoder.specs.Encoding.{encoderRows, encoderAnswer, encoderLeaves}

@@ -11,7 +11,8 @@ use mathlib.Core.List.{List, [], _∷_}
 use Rattle.answers.specs.First.{found, firstWhere}
 use Rattle.answers.specs.Lists.{tally}
 use Rattle.answers.proofs.First.{first-none, none-first, not-found}
-use Rattle.cnf.specs.Literals.{closes, beyondAt, unclosed, orElse, wrongList}
+use Rattle.answers.specs.First.{orElse}
+use Rattle.cnf.specs.Literals.{closes, beyondAt, unclosed, wrongList}
 use Rattle.cnf.specs.Clauses.{clauseCount}
 
 -- a list from inside a clause, or from between two, to its end: no literal is beyond v, and the last clause is closed

@@ -17,13 +17,14 @@ use Rattle.rules.specs.declared.Direction.{Direction}
 use Rattle.rules.specs.Record.{size}
 use Rattle.rules.specs.Board.{Clue, Board}
 use Rattle.rules.proofs.Boards.{Laws}
-use Rattle.cnf.specs.Literals.{closes, mostVariables, beyondAt, unclosed, orElse, wrongList}
+use Rattle.answers.specs.First.{orElse}
+use Rattle.cnf.specs.Literals.{closes, mostVariables, beyondAt, unclosed, wrongList}
 use Rattle.cnf.specs.Clauses.{clauseCount}
-use Rattle.encoder.specs.Lists.{upTo, each}
+use Rattle.answers.specs.Lists.{upTo, each}
 use Rattle.encoder.specs.Variables.{Variable, directions, opens, openCount, ifOpen, ifThere, neighbours, out, outgoing, linkVariables, clueCounts, counts, variables, variableCount, same, placeStep, place, number}
 use Rattle.encoder.specs.Clauses.{Literal, plus, minus, Clause, clauses, signed, written, clauseList}
 use Rattle.encoder.specs.Small.{Small}
-use Rattle.encoder.proofs.Lists.{all-append, all-at, all-each, all-map, length-from, length-each-most, keep-most, map-most}
+use Rattle.answers.proofs.Elements.{all-append, all-at, all-each, all-map, length-from, length-each-most, keep-most, map-most}
 use Rattle.encoder.proofs.Occurs.{variableOf, Inside, clauses-within}
 use Rattle.encoder.proofs.Places.{clue-long, total}
 

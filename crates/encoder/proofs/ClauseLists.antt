@@ -13,10 +13,10 @@ use mathlib.Core.List.{List, [], _∷_, _++_, map, map-map, append-nil, List·Me
 use Rattle.answers.specs.Lists.{_∈_}
 use Rattle.rules.specs.Board.{Clue, Board}
 use Rattle.rules.proofs.Boards.{Laws}
-use Rattle.encoder.specs.Lists.{from, upTo, each, joined, keepStep, keep}
+use Rattle.answers.specs.Lists.{from, upTo, each, joined, keepStep, keep}
 use Rattle.encoder.specs.Variables.{Variable, Q, T, openCount, outgoing, number}
 use Rattle.encoder.specs.Clauses.{Clause, notBoth, pairs, lower, families, clauses, written, clauseList}
-use Rattle.encoder.proofs.Lists.{of-from, of-upTo, of-keep, each-append, keep-append, from-last, from-append}
+use Rattle.answers.proofs.Elements.{of-from, of-upTo, of-keep, each-append, keep-append, from-last, from-append}
 use Rattle.encoder.proofs.Places.{At, below, rank, linksBelow, place-q, place-t}
 
 -- 1. Loops

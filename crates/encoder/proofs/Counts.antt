@@ -11,10 +11,10 @@ use mathlib.Core.List.{List, [], _∷_, _++_, map, List·Memᴰ·head, List·Mem
 use Rattle.answers.specs.Lists.{_∈_}
 use Rattle.rules.specs.declared.Direction.the-variants.{East as east}
 use Rattle.rules.specs.Board.{Board}
-use Rattle.encoder.specs.Lists.{from, upTo, each, joined}
+use Rattle.answers.specs.Lists.{from, upTo, each, joined}
 use Rattle.encoder.specs.Variables.{Variable, Z, S, T, directions, opens, openCount, Neighbour, neighbours, out, outgoing, distancesAt, countsAt}
 use Rattle.encoder.specs.Clauses.{plus, minus, Clause, notBoth, pairs, orAny, eastSouth, touch, touchingAt, oneMore, countStep, cellClauses, lineClauses, noneBlack, clueParts, back, incoming, bothWhite, oneWay, linksAt, lower, blackBefore, eastward, startAt, someStart, noDistance, notAhead, nearer, fromOne, nearerEach, distanceAt, signed, written}
-use Rattle.encoder.proofs.Lists.{of-upTo, each-append, length-from}
+use Rattle.answers.proofs.Elements.{of-upTo, each-append, length-from}
 use Rattle.encoder.proofs.ClauseLists.{each-next}
 
 -- n clauses, e elements with their zeros

@@ -9,9 +9,9 @@ use Rattle.answers.specs.Lists.{_∈_, Apart}
 use Rattle.rules.specs.declared.Direction.{Direction}
 use Rattle.rules.specs.Board.{Clue, Board}
 use Rattle.rules.proofs.Boards.{Laws}
-use Rattle.encoder.specs.Lists.{upTo, each}
+use Rattle.answers.specs.Lists.{upTo, each}
 use Rattle.encoder.specs.Variables.{Variable, Z, S, E, Q, T, directions, opens, openCount, Neighbour, neighbours, out, outgoing, blacks, starts, linkVariables, distances, countsAt, clueCounts, counts, variables}
-use Rattle.encoder.proofs.Lists.{of-each, apart-append, apart-map, apart-each, apart-from}
+use Rattle.answers.proofs.Elements.{of-each, apart-append, apart-map, apart-each, apart-from}
 use Rattle.encoder.proofs.Neighbours.{apart-opens, links-apart}
 
 abbrev letter : Variable → ℕ

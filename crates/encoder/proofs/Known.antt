@@ -10,9 +10,9 @@ use mathlib.Core.List.{List, _++_, List·Memᴰ·head, List·Memᴰ·tail, List�
 use Rattle.answers.specs.Lists.{_∈_}
 use Rattle.rules.specs.Board.{Clue, Board}
 use Rattle.rules.proofs.Boards.{Laws}
-use Rattle.encoder.specs.Lists.{upTo}
+use Rattle.answers.specs.Lists.{upTo}
 use Rattle.encoder.specs.Variables.{Variable, Z, S, E, Q, T, directions, opens, openCount, Neighbour, neighbours, out, outgoing, blacks, starts, linkVariables, distancesAt, distances, countsAt, clueCounts, counts, letters, variables}
-use Rattle.encoder.proofs.Lists.{in-each, of-each, in-joined, in-upTo, of-upTo}
+use Rattle.answers.proofs.Elements.{in-each, of-each, in-joined, in-upTo, of-upTo}
 use Rattle.encoder.proofs.Neighbours.{of-opens, in-opens, in-directions, Beside, of-neighbours, in-neighbours}
 
 abbrev pub Known : Board → Variable → Type 0

@@ -10,11 +10,11 @@ use mathlib.Core.List.{List, [], _∷_, _++_, map}
 use Rattle.answers.specs.Lists.{All, _∈_}
 use Rattle.rules.specs.declared.Direction.the-variants.{East as east}
 use Rattle.rules.specs.Board.{Clue, Board}
-use Rattle.encoder.specs.Lists.{from, upTo, each, joined}
+use Rattle.answers.specs.Lists.{from, upTo, each, joined}
 use Rattle.encoder.specs.Variables.{Variable, Z, S, Q, T, directions, opens, openCount, neighbours, out, outgoing, distancesAt, countsAt}
 use Rattle.encoder.specs.Clauses.{plus, minus, Clause, notBoth, pairs, orAny, eastSouth, touch, touchingAt, oneMore, countStep, cellParts, cellClauses, lineClauses, noneBlack, clueParts, clueClauses, back, incoming, bothWhite, oneWay, linkParts, linksAt, lower, blackBefore, eastward, startParts, startAt, someStart, noDistance, notAhead, nearer, fromOne, nearerEach, distanceParts, distanceAt, families, clauses, signed, written, clauseList}
 use Rattle.encoder.specs.Small.{Small}
-use Rattle.encoder.proofs.Lists.{all-append, all-at, all-each, all-map, length-from, length-each-most, keep-most, map-most}
+use Rattle.answers.proofs.Elements.{all-append, all-at, all-each, all-map, length-from, length-each-most, keep-most, map-most}
 use Rattle.encoder.proofs.Bounds.{neighbours-most, open-few}
 
 -- at most n clauses, none with more than 2026 literals

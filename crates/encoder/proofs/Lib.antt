@@ -1,5 +1,4 @@
 -- Laws that the proofs of this crate and of those above share. Cases.antt: the starred grids.
-pub mod Lists
 pub mod Neighbours
 pub mod Distinct
 pub mod Known

@@ -10,9 +10,9 @@ use Rattle.rules.specs.declared.Direction.{Direction}
 use Rattle.rules.specs.declared.Direction.the-variants.{North as north, East as east, South as south, West as west}
 use Rattle.rules.specs.Board.{Board}
 use Rattle.rules.proofs.Boards.{Laws}
-use Rattle.encoder.specs.Lists.{upTo}
+use Rattle.answers.specs.Lists.{upTo}
 use Rattle.encoder.specs.Variables.{Variable, directions, opens, Neighbour, ifOpen, ifThere, neighbours, turn}
-use Rattle.encoder.proofs.Lists.{all-at, in-each, of-each, in-upTo, in-keep, of-keep, apart-each, apart-from, apart-keep, map-each}
+use Rattle.answers.proofs.Elements.{all-at, in-each, of-each, in-upTo, in-keep, of-keep, apart-each, apart-from, apart-keep, map-each}
 
 pub of-opens : (b : Board) {x : ℕ} → x ∈ opens b → b .isOpen x ≡ true
 of-opens b m = of-keep (b .isOpen) (upTo (b .size)) m .1

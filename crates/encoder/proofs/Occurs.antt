@@ -13,10 +13,10 @@ use Rattle.rules.specs.declared.Direction.the-variants.{East as east}
 use Rattle.rules.specs.Directions.{opposite}
 use Rattle.rules.specs.Board.{Clue, Board}
 use Rattle.rules.proofs.Boards.{Laws}
-use Rattle.encoder.specs.Lists.{from, upTo}
+use Rattle.answers.specs.Lists.{from, upTo}
 use Rattle.encoder.specs.Variables.{Variable, Z, S, Q, T, directions, opens, openCount, Neighbour, neighbours, out, outgoing, distancesAt, countsAt, variables}
 use Rattle.encoder.specs.Clauses.{Literal, plus, minus, Clause, notBoth, pairs, eastSouth, touch, touchingAt, oneMore, countStep, cellParts, cellClauses, lineClauses, noneBlack, clueParts, clueClauses, back, incoming, bothWhite, oneWay, linkParts, linksAt, lower, blackBefore, startParts, startAt, noDistance, notAhead, nearer, fromOne, nearerEach, distanceParts, distanceAt, families, clauses}
-use Rattle.encoder.proofs.Lists.{all-append, all-at, all-each, all-map, all-joined, of-from, of-upTo, of-keep}
+use Rattle.answers.proofs.Elements.{all-append, all-at, all-each, all-map, all-joined, of-from, of-upTo, of-keep}
 use Rattle.encoder.proofs.Neighbours.{of-opens, Beside, of-neighbours}
 use Rattle.encoder.proofs.Known.{in-variables, in-e, in-t}
 

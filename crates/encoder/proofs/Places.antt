@@ -11,9 +11,9 @@ use Rattle.rules.specs.declared.Direction.{Direction}
 use Rattle.rules.specs.declared.Direction.the-variants.{North as north, East as east, South as south, West as west}
 use Rattle.rules.specs.Board.{Clue, Board}
 use Rattle.rules.proofs.Boards.{Laws}
-use Rattle.encoder.specs.Lists.{from, upTo, each, joined, keepStep, keep}
+use Rattle.answers.specs.Lists.{from, upTo, each, joined, keepStep, keep}
 use Rattle.encoder.specs.Variables.{Variable, Z, S, E, Q, T, directions, opens, openCount, ifThere, neighbours, out, outgoing, blacks, starts, linkVariables, distancesAt, distances, countsAt, clueCounts, counts, letters, variables, variableCount, same, placeStep, place}
-use Rattle.encoder.proofs.Lists.{each-append, keep-append, length-from, length-each}
+use Rattle.answers.proofs.Elements.{each-append, keep-append, length-from, length-each}
 use Rattle.encoder.proofs.Distinct.{variables-apart}
 
 -- 1. us stand before x in the list

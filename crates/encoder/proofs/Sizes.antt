@@ -19,7 +19,7 @@ use Rattle.rules.specs.Board.{Clue, cluesFrom, board, boardOf}
 use Rattle.rules.proofs.Boards.{Filled}
 use Rattle.rules.proofs.Records.{held-filled, accepted-clear, accepted-fits}
 use Rattle.encoder.specs.Small.{Small}
-use Rattle.encoder.proofs.Lists.{all-map}
+use Rattle.answers.proofs.Elements.{all-map}
 use Rattle.encoder.proofs.Lines.{line-short}
 
 -- the number of a clue

@@ -9,7 +9,7 @@ use Rattle.rules.specs.declared.Direction.{Direction}
 use Rattle.rules.specs.declared.Direction.the-variants.{East as east, South as south}
 use Rattle.rules.specs.Directions.{opposite}
 use Rattle.rules.specs.Board.{Clue, Board}
-use Rattle.encoder.specs.Lists.{from, upTo, each, joined, keep}
+use Rattle.answers.specs.Lists.{from, upTo, each, joined, keep}
 use Rattle.encoder.specs.Variables.{Variable, Z, S, E, Q, T, directions, opens, openCount, Neighbour, neighbours, out, starts, outgoing, distancesAt, countsAt, number}
 
 -- minus for "not"

@@ -17,7 +17,7 @@ use Rattle.rules.specs.Board.{Board, boardOf}
 use Rattle.rules.specs.Drawing.{linkSum}
 use Rattle.rules.specs.Judge.{there, wrongDrawing, judgeRows, saysYes}
 use Rattle.cnf.specs.Clauses.{Assignment, Satisfies}
-use Rattle.encoder.specs.Lists.{upTo}
+use Rattle.answers.specs.Lists.{upTo}
 use Rattle.encoder.specs.Variables.{Variable, Z, E, variables, variableCount, place}
 use Rattle.encoder.specs.Clauses.{clauseList}
 

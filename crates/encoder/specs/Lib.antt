@@ -1,5 +1,4 @@
 -- The variables and clauses of a grid, the encoder's and the decoder's answers. Read Variables, Clauses, Encoding and Decoding: document 01's sections in its order.
-pub mod Lists
 pub mod Variables
 pub mod Clauses
 pub mod Encoding

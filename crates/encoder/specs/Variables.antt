@@ -9,7 +9,7 @@ use mathlib.Core.List.{List, [], _∷_, map}
 use Rattle.rules.specs.declared.Direction.{Direction}
 use Rattle.rules.specs.declared.Direction.the-variants.{North as north, East as east, South as south, West as west}
 use Rattle.rules.specs.Board.{Clue, Board}
-use Rattle.encoder.specs.Lists.{upTo, each, joined, keep}
+use Rattle.answers.specs.Lists.{upTo, each, joined, keep}
 
 -- Z x: x is black. S x: x is the start. E x d: from x the loop goes that way. Q x k: the start is k links ahead of x.
 -- T c j t: of the j cells nearest the edge of the line of the clue in cell c, t are black.

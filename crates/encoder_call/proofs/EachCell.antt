@@ -9,7 +9,7 @@ use Rattle.rules.specs.declared.Grid.{Grid}
 use Rattle.rules.specs.Board.{Board, gridBoard}
 use Rattle.rules.proofs.Boards.{Laws}
 use Rattle.cnf.specs.Literals.{mostVariables}
-use Rattle.encoder.specs.Lists.{upTo, each, joined}
+use Rattle.answers.specs.Lists.{upTo, each, joined}
 use Rattle.encoder.specs.Variables.{S, opens, openCount, number}
 use Rattle.encoder.specs.Clauses.{Clause, someStart, start, startAt, signed}
 use Rattle.encoder.proofs.Places.{below, rank, place-s}

@@ -23,7 +23,7 @@ use Rattle.encoder.specs.Variables.{variableCount}
 use Rattle.encoder.specs.Clauses.{clauseList}
 use Rattle.encoder.specs.Encoding.{encoderAnswer, encoderLeaves}
 use Rattle.encoder.specs.Small.{Small}
-use Rattle.encoder.proofs.Lists.{all-in, all-at}
+use Rattle.answers.proofs.Elements.{all-in, all-at}
 use Rattle.encoder.proofs.Bounds.{Right, few-variables, list-within}
 use Rattle.encoder.proofs.Lengths.{short-list}
 use Rattle.encoder.proofs.Sizes.{accepted-small}

@@ -4,7 +4,7 @@ ghost use Rattle.answers.specs.Lent.{Wrote};
 ghost use Rattle.rules.specs.Record.{size};
 ghost use Rattle.rules.specs.Board.{gridBoard};
 ghost use Rattle.cnf.specs.Literals.{mostVariables};
-ghost use Rattle.encoder.specs.Lists.{each, joined};
+ghost use Rattle.answers.specs.Lists.{each, joined};
 ghost use Rattle.encoder.specs.Variables.{opens};
 ghost use Rattle.encoder.specs.Clauses.{start, clauseList};
 ghost use Rattle.encoder.proofs.ClauseLists.{listOf, atCell};

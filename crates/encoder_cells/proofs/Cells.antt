@@ -11,10 +11,10 @@ use Rattle.rules.specs.declared.Direction.{Direction}
 use Rattle.rules.specs.declared.Direction.the-variants.{North as north, East as east, South as south, West as west}
 use Rattle.rules.specs.Board.{Board}
 use Rattle.rules.proofs.Boards.{Laws}
-use Rattle.encoder.specs.Lists.{upTo, each, joined}
+use Rattle.answers.specs.Lists.{upTo, each, joined}
 use Rattle.encoder.specs.Variables.{Variable, Z, S, Q, directions, openCount, Neighbour, ifOpen, ifThere, neighbours, out, distancesAt, number}
 use Rattle.encoder.specs.Clauses.{plus, notBoth, pairs, orAny, eastSouth, touch, touchingAt, back, bothWhite, oneWay, linkParts, linksAt, lower, blackBefore, eastward, startParts, startAt, noDistance, notAhead, nearer, fromOne, nearerEach, distanceParts, distanceAt, signed, written}
-use Rattle.encoder.proofs.Lists.{each-append}
+use Rattle.answers.proofs.Elements.{each-append}
 use Rattle.encoder.proofs.Neighbours.{Beside}
 use Rattle.encoder.proofs.Places.{below, rank, place-z}
 use Rattle.encoder.proofs.ClauseLists.{each-next, each-shift, atCell, each-cell, at-open, at-shut, rank-open, rank-shut, lower-is, listOf, list-append, list-joined, list-each, list-map, number-q}

@@ -2,7 +2,7 @@
 use Prim.Native.Nat.{ℕ, zero, suc, _+_, _-_}
 use lib.IntN.{ℤ, pos}
 use mathlib.Core.List.{List, [], _∷_, _++_}
-use Rattle.encoder.specs.Lists.{joined}
+use Rattle.answers.specs.Lists.{joined}
 use Rattle.encoder_shapes.specs.Shapes.{no, notBoth, implies, orNot, orAtLeastOne, eachNotBoth, eachImplies, eachBothImply}
 use Rattle.encoder_numbers.specs.declared.NeighbourNumbers.{NeighbourNumbers}
 use Rattle.encoder_numbers.specs.declared.CellNumbers.{CellNumbers}

@@ -2,7 +2,7 @@
 ghost use Prim.Native.Nat.{_+_, _-_, _≤_, _<_};
 ghost use Rattle.answers.specs.Lent.{Wrote};
 ghost use Rattle.cnf.specs.Literals.{mostVariables};
-ghost use Rattle.encoder.specs.Lists.{joined};
+ghost use Rattle.answers.specs.Lists.{joined};
 ghost use Rattle.encoder_shapes.specs.Writable.{Writable, Parts};
 ghost use Rattle.encoder_cells.specs.Cell.{literalIf, notBothIf, anyParts, pairParts, touchingParts, whiteEnds, whiteParts, oneWayParts, linkParts, eastwardParts, startParts, nearer, nearerParts, distanceParts};
 use cnf::put;

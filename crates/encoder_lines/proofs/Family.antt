@@ -14,10 +14,10 @@ use Rattle.rules.specs.declared.Grid.{Grid}
 use Rattle.rules.specs.Record.{size, puzzle, mostCells, RecordFits}
 use Rattle.rules.specs.Board.{Clue, line, clueOf, cluesFrom, gridBoard}
 use Rattle.rules.proofs.Records.{held-filled}
-use Rattle.encoder.specs.Lists.{upTo, each, joined}
+use Rattle.answers.specs.Lists.{upTo, each, joined}
 use Rattle.encoder.specs.Variables.{T, number}
 use Rattle.encoder.specs.Clauses.{clueClauses, clueLines}
-use Rattle.encoder.proofs.Lists.{each-append}
+use Rattle.answers.proofs.Elements.{each-append}
 use Rattle.encoder.proofs.Places.{place-t}
 use Rattle.encoder.proofs.Clues.{clues-next, at-clue}
 use Rattle.encoder.proofs.ClauseLists.{each-next, listOf, list-each}

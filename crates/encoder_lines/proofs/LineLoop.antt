@@ -16,8 +16,8 @@ use Rattle.rules.specs.Board.{neighbour, line}
 use Rattle.rules.specs.Walk.{go}
 use Rattle.rules.proofs.Lines.{line-inside, line-go}
 use Rattle.cnf.specs.Literals.{mostVariables}
-use Rattle.encoder.specs.Lists.{joined}
-use Rattle.encoder.proofs.Lists.{all-right}
+use Rattle.answers.specs.Lists.{joined}
+use Rattle.answers.proofs.Elements.{all-right}
 use Rattle.encoder_shapes.specs.Writable.{Right, Writable, Parts}
 use Rattle.encoder_shapes.specs.Shapes.{notBoth, impliesEither}
 use Rattle.encoder_shapes.proofs.Written.{in-parts, begun, part-needs, writable-left, writable-right, no-small, writable-recast}

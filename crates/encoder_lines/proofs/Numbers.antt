@@ -10,7 +10,7 @@ use mathlib.Core.Bool.{Bool, true, false, cond}
 use mathlib.Core.List.{List, [], _∷_, _++_, map}
 use Rattle.rules.specs.Board.{Clue, Board}
 use Rattle.rules.proofs.Boards.{Laws}
-use Rattle.encoder.specs.Lists.{from, upTo, each, joined}
+use Rattle.answers.specs.Lists.{from, upTo, each, joined}
 use Rattle.encoder.specs.Variables.{Z, T, countsAt, number}
 use Rattle.encoder.specs.Clauses.{notBoth, pairs, countStep, cellParts, cellClauses, lineClauses, noneBlack, clueParts, clueClauses, written}
 use Rattle.encoder.proofs.Places.{At}

@@ -4,7 +4,7 @@ use lib.IntN.{ℤ}
 use mathlib.Core.Path.{_≡_, refl}
 use mathlib.Core.List.{List}
 use Rattle.answers.specs.Lent.{Wrote}
-use Rattle.encoder.specs.Lists.{joined}
+use Rattle.answers.specs.Lists.{joined}
 use Rattle.encoder_shapes.specs.Writable.{Writable, Parts}
 use Rattle.encoder_lines.specs.Line.{countStepClue, countStepOpen, countStepRow}
 

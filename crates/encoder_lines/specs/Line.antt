@@ -10,7 +10,7 @@ use Rattle.rules.specs.declared.Grid.{Grid}
 use Rattle.rules.specs.declared.board.End.{End}
 use Rattle.rules.specs.Record.{Puzzle, puzzle}
 use Rattle.rules.specs.Board.{openAt, line, clueOf, gridBoard}
-use Rattle.encoder.specs.Lists.{upTo, each, joined}
+use Rattle.answers.specs.Lists.{upTo, each, joined}
 use Rattle.encoder.specs.Clauses.{Clause, clueClauses}
 use Rattle.encoder_numbers.specs.Numbered.{blackOf}
 use Rattle.encoder_shapes.specs.Shapes.{unit, notBoth, implies, impliesEither, bothImply, eachUnitNot, atMostOne}

@@ -3,7 +3,7 @@ ghost use Prim.Native.Nat.{_+_, _<_, _^_};
 ghost use Rattle.answers.specs.Lent.{Wrote};
 ghost use Rattle.rules.specs.Record.{size, puzzle};
 ghost use Rattle.rules.specs.Board.{gridBoard};
-ghost use Rattle.encoder.specs.Lists.{joined};
+ghost use Rattle.answers.specs.Lists.{joined};
 ghost use Rattle.encoder.specs.Clauses.{clueLines};
 ghost use Rattle.encoder.proofs.ClauseLists.{listOf};
 ghost use Rattle.encoder_shapes.specs.Writable.{Writable, Parts};

@@ -9,8 +9,8 @@ use Rattle.answers.specs.Lent.{filled, Wrote}
 use Rattle.answers.proofs.Lent.{wrote-nothing, wrote-after, wrote-recast, wrote-length, wrote-filled}
 use Rattle.rules.specs.declared.Grid.{Grid}
 use Rattle.rules.specs.Record.{size, RecordFits}
-use Rattle.encoder.specs.Lists.{from, upTo, each}
-use Rattle.encoder.proofs.Lists.{length-from, length-each}
+use Rattle.answers.specs.Lists.{from, upTo, each}
+use Rattle.answers.proofs.Elements.{length-from, length-each}
 use Rattle.encoder.proofs.ClauseLists.{each-next}
 use Rattle.encoder_numbers.specs.declared.Sizes.{Sizes}
 use Rattle.encoder_numbers.specs.Tables.{sizesBelow, sizesOf, rowOf, tableOf, Tables}

@@ -17,9 +17,9 @@ use Rattle.rules.specs.declared.Grid.{Grid}
 use Rattle.rules.specs.Record.{Puzzle, cellByte, size, puzzle, mostCells, RecordFits}
 use Rattle.rules.specs.Board.{Clue, Board, openCell, line, clueOf, cluesFrom, gridBoard}
 use Rattle.rules.proofs.Records.{cell-at, held-filled}
-use Rattle.encoder.specs.Lists.{upTo, each}
+use Rattle.answers.specs.Lists.{upTo, each}
 use Rattle.encoder.specs.Variables.{directions, openCount, ifOpen, ifThere, neighbours, out, outgoing, linkVariables, clueCounts, counts, variableCount}
-use Rattle.encoder.proofs.Lists.{each-append, length-from, length-each-most, keep-most, map-most}
+use Rattle.answers.proofs.Elements.{each-append, length-from, length-each-most, keep-most, map-most}
 use Rattle.encoder.proofs.Places.{below, rank, linksBelow, earlier, clue-long, total}
 use Rattle.encoder.proofs.Clues.{clues-next}
 use Rattle.encoder.proofs.Lines.{line-short}

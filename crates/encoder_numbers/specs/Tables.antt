@@ -9,7 +9,7 @@ use Rattle.rules.specs.declared.Direction.{Direction}
 use Rattle.rules.specs.declared.Grid.{Grid}
 use Rattle.rules.specs.Record.{Puzzle, size, puzzle, mostCells, RecordFits}
 use Rattle.rules.specs.Board.{Board, cluesFrom, gridBoard}
-use Rattle.encoder.specs.Lists.{upTo, each}
+use Rattle.answers.specs.Lists.{upTo, each}
 use Rattle.encoder.specs.Variables.{openCount, linkVariables, clueCounts}
 use Rattle.encoder.proofs.Places.{rank, linksBelow}
 use Rattle.encoder_numbers.specs.declared.Sizes.{Sizes}

@@ -8,8 +8,8 @@ use mathlib.Core.List.{List, [], _∷_, _++_, append-assoc, append-nil}
 use Rattle.answers.specs.Lent.{Wrote}
 use Rattle.answers.proofs.Lent.{wrote-nothing, wrote-after, wrote-recast, wrote-length}
 use Rattle.cnf.specs.Literals.{mostVariables}
-use Rattle.encoder.specs.Lists.{from, upTo, each, joined}
-use Rattle.encoder.proofs.Lists.{all-left, all-right, each-append, from-append}
+use Rattle.answers.specs.Lists.{from, upTo, each, joined}
+use Rattle.answers.proofs.Elements.{all-left, all-right, each-append, from-append}
 use Rattle.encoder.proofs.ClauseLists.{each-next}
 use Rattle.encoder_shapes.specs.Writable.{Right, Writable, Parts}
 use Rattle.encoder_shapes.specs.Shapes.{no}

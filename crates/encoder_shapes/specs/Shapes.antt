@@ -2,7 +2,7 @@
 use Prim.Native.Nat.{ℕ, _+_, _-_}
 use lib.IntN.{ℤ, pos, negℤ}
 use mathlib.Core.List.{List, [], _∷_, _++_}
-use Rattle.encoder.specs.Lists.{upTo, each}
+use Rattle.answers.specs.Lists.{upTo, each}
 
 -- minus for "not"
 abbrev pub no : ℕ → ℤ

@@ -5,7 +5,7 @@ use lib.ListN.{length}
 use mathlib.Core.List.{List}
 use Rattle.answers.specs.Lists.{All}
 use Rattle.cnf.specs.Literals.{mostVariables}
-use Rattle.encoder.specs.Lists.{joined}
+use Rattle.answers.specs.Lists.{joined}
 
 -- a literal's variable is not beyond the most that V can be
 abbrev pub Right : ℤ → Type 0

@@ -7,10 +7,10 @@ use mathlib.Core.List.{List, [], _∷_, _++_}
 use Rattle.rules.specs.declared.Grid.{Grid}
 use Rattle.rules.specs.Record.{size, puzzle, RecordFits}
 use Rattle.rules.specs.Board.{Board, gridBoard}
-use Rattle.encoder.specs.Lists.{upTo, each, keep}
+use Rattle.answers.specs.Lists.{upTo, each, keep}
 use Rattle.encoder.specs.Variables.{openCount, variableCount}
 use Rattle.encoder.specs.Clauses.{Clause, touchingAt, linksAt, startAt, distanceAt, someStart, start, touching, clueLines, links, distance, clauses, written, clauseList}
-use Rattle.encoder.proofs.Lists.{each-append}
+use Rattle.answers.proofs.Elements.{each-append}
 use Rattle.encoder.proofs.ClauseLists.{each-next, atCell, below-each}
 use Rattle.encoder.proofs.Counts.{Sized, sized-none, sized-append, some-start-sized}
 use Rattle.encoder_lines.specs.Line.{clueAt}

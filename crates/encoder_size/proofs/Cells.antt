@@ -16,7 +16,7 @@ use Rattle.rules.specs.declared.Cell.the-variants.{Open, Clue as Clued}
 use Rattle.rules.specs.declared.Grid.{Grid}
 use Rattle.rules.specs.Record.{size, puzzle, mostCells, RecordFits}
 use Rattle.rules.specs.Board.{Board, Clue, openCell, line, clueOf, gridBoard}
-use Rattle.encoder.specs.Lists.{each, joined}
+use Rattle.answers.specs.Lists.{each, joined}
 use Rattle.encoder.specs.Variables.{directions, openCount, neighbours}
 use Rattle.encoder.specs.Clauses.{Clause, eastSouth, fromOne, touchingAt, clueParts, clueClauses, linksAt, lower, startAt, distanceAt}
 use Rattle.encoder.proofs.Places.{rank}

@@ -18,9 +18,9 @@ use Rattle.rules.specs.Board.{Board}
 use Rattle.rules.specs.Drawing.{Drawing, Solution, weight, linkSum, byteLink, linkAt, blackAt, drawingAt, Allowed, SolutionBytes}
 use Rattle.rules.proofs.Boards.{Laws}
 use Rattle.rules_theory.proofs.Bytes.{no-links-0, no-links-10, no-links-20}
-use Rattle.encoder.specs.Lists.{upTo}
+use Rattle.answers.specs.Lists.{upTo}
 use Rattle.encoder.specs.Decoding.{drawnByte}
-use Rattle.encoder.proofs.Lists.{made-long, made-at}
+use Rattle.answers.proofs.Elements.{made-long, made-at}
 use Rattle.encoder_theory.proofs.Read.{of-white}
 
 -- 1. One byte

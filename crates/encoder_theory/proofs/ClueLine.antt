@@ -13,10 +13,10 @@ use Rattle.answers.specs.Lists.{tally, howMany, _∈_}
 use Rattle.answers.proofs.Bools.{off}
 use Rattle.answers.proofs.Lists.{many-all}
 use Rattle.rules.specs.Drawing.{blacksNearest}
-use Rattle.encoder.specs.Lists.{from, upTo, joined}
+use Rattle.answers.specs.Lists.{from, upTo, joined}
 use Rattle.encoder.specs.Variables.{Variable, Z, T, countsAt}
 use Rattle.encoder.specs.Clauses.{plus, minus, pairs, oneMore, countStep, cellParts, cellClauses, lineClauses, noneBlack, clueParts}
-use Rattle.encoder.proofs.Lists.{all-append, all-left, all-right, all-each, each-at, all-map, map-at, all-joined, joined-all, in-from, of-from, in-upTo, of-upTo}
+use Rattle.answers.proofs.Elements.{all-append, all-left, all-right, all-each, each-at, all-map, map-at, all-joined, joined-all, in-from, of-from, in-upTo, of-upTo}
 use Rattle.encoder.proofs.Distinct.{t-count, counts-apart}
 use Rattle.encoder_theory.specs.Valuations.{Sat, Holds}
 use Rattle.encoder_theory.proofs.Views.{unit-plus, unit-minus, next-minus, next-plus, not-both, implies, by-minus, by-plus, both-not, at-most-one, one-at-most}

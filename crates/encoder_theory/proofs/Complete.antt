@@ -17,10 +17,10 @@ use Rattle.rules.specs.Board.{Clue, Board}
 use Rattle.rules.specs.Drawing.{Drawing, white, blacksNearest, Solution}
 use Rattle.rules.proofs.Boards.{Laws}
 use Rattle.rules_theory.proofs.Directions.{opposite-injective}
-use Rattle.encoder.specs.Lists.{upTo}
+use Rattle.answers.specs.Lists.{upTo}
 use Rattle.encoder.specs.Variables.{Variable, Z, S, E, Q, directions, opens, openCount, Neighbour, neighbours, out, outgoing, distancesAt}
 use Rattle.encoder.specs.Clauses.{plus, minus, eastSouth, touch, touchingAt, clueClauses, back, incoming, bothWhite, oneWay, linkParts, linksAt, lower, blackBefore, startParts, startAt, noDistance, notAhead, nearer, fromOne, nearerEach, distanceParts, distanceAt, families, clauses}
-use Rattle.encoder.proofs.Lists.{all-each, all-map, all-at, all-joined, in-upTo, of-from, of-keep}
+use Rattle.answers.proofs.Elements.{all-each, all-map, all-at, all-joined, in-upTo, of-from, of-keep}
 use Rattle.encoder.proofs.Neighbours.{of-opens, in-opens, in-directions, Beside, of-neighbours, in-neighbours, links-apart}
 use Rattle.encoder.proofs.Distinct.{e-way, outgoing-apart}
 use Rattle.encoder_theory.specs.Valuations.{Sat, Holds}

@@ -18,10 +18,10 @@ use Rattle.rules.specs.Board.{Clue, Board}
 use Rattle.rules.specs.Drawing.{white}
 use Rattle.rules.proofs.Boards.{Laws}
 use Rattle.rules_theory.proofs.Directions.{opposite-opposite, opposite-injective}
-use Rattle.encoder.specs.Lists.{upTo}
+use Rattle.answers.specs.Lists.{upTo}
 use Rattle.encoder.specs.Variables.{Variable, Z, S, E, Q, directions, opens, openCount, neighbours, out, outgoing, distancesAt}
 use Rattle.encoder.specs.Clauses.{plus, minus, eastSouth, touch, touchingAt, clueClauses, back, incoming, bothWhite, oneWay, linkParts, linksAt, lower, blackBefore, startParts, startAt, noDistance, notAhead, nearer, fromOne, nearerEach, distanceParts, distanceAt, families, clauses}
-use Rattle.encoder.proofs.Lists.{each-at, map-at, joined-all, in-from, in-upTo, of-upTo, in-keep}
+use Rattle.answers.proofs.Elements.{each-at, map-at, joined-all, in-from, in-upTo, of-upTo, in-keep}
 use Rattle.encoder.proofs.Neighbours.{in-opens, in-directions, of-neighbours, in-neighbours}
 use Rattle.encoder.proofs.Distinct.{e-way}
 use Rattle.encoder_theory.specs.Valuations.{Sat, Holds}

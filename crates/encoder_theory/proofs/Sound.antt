@@ -12,7 +12,7 @@ use Rattle.rules.proofs.Boards.{Laws}
 use Rattle.encoder.specs.Variables.{Variable, Z, T}
 use Rattle.encoder.specs.Clauses.{clauses}
 use Rattle.encoder.specs.Decoding.{drawnLink}
-use Rattle.encoder.proofs.Lists.{all-in}
+use Rattle.answers.proofs.Elements.{all-in}
 use Rattle.encoder_theory.specs.Valuations.{Holds}
 use Rattle.encoder_theory.proofs.Oriented.{oriented-links, all-reached}
 use Rattle.encoder_theory.proofs.Valuations.{Proper}

@@ -14,7 +14,7 @@ use Rattle.answers.proofs.Bools.{clash}
 use Rattle.rules.specs.Board.{Board}
 use Rattle.rules.proofs.Boards.{Laws}
 use Rattle.cnf.specs.Clauses.{split, Assignment, value, Satisfies}
-use Rattle.encoder.specs.Lists.{each}
+use Rattle.answers.specs.Lists.{each}
 use Rattle.encoder.specs.Variables.{Variable, same, placeStep, place, variables, variableCount}
 use Rattle.encoder.specs.Clauses.{Literal, plus, minus, Clause, signed, written, clauses, clauseList}
 use Rattle.encoder.proofs.Known.{Known, of-variables}

@@ -7,7 +7,7 @@ use Rattle.answers.specs.Lists.{_∈_, Apart}
 use Rattle.answers.proofs.Bools.{clash}
 use Rattle.encoder.specs.Variables.{Variable}
 use Rattle.encoder.specs.Clauses.{plus, minus, Clause, notBoth, pairs}
-use Rattle.encoder.proofs.Lists.{all-left, all-right, all-append, all-map, map-at}
+use Rattle.answers.proofs.Elements.{all-left, all-right, all-append, all-map, map-at}
 use Rattle.encoder_theory.specs.Valuations.{Sat, Holds}
 
 module _ (w : Variable → Bool) where

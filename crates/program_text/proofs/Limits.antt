@@ -27,7 +27,7 @@ use Rattle.text.specs.Decimal.{decimal, lineFeed}
 use Rattle.text.proofs.Decimals.{digits-few}
 use Rattle.encoder.specs.Variables.{variableCount}
 use Rattle.encoder.specs.Clauses.{clauseList}
-use Rattle.encoder.proofs.Lists.{all-left, all-right}
+use Rattle.answers.proofs.Elements.{all-left, all-right}
 use Rattle.program_text.specs.Lines.{refusedLine}
 use Rattle.program_text.specs.Programs.{mostElements, mostHeld, needsMore, programRows, programNumber, printed}
 

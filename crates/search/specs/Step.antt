@@ -7,7 +7,8 @@ use mathlib.Core.Bool.{Bool, true, false, _&&_, _||_, cond}
 use mathlib.Core.Option.{Option, none, some}
 use mathlib.Core.List.{List, [], _∷_}
 use Rattle.answers.specs.First.{found, firstWhere}
-use Rattle.cnf.specs.Literals.{closes, codeOf, orElse}
+use Rattle.answers.specs.First.{orElse}
+use Rattle.cnf.specs.Literals.{closes, codeOf}
 use Rattle.search.specs.Trail.{Entry, entry, Trail, Value, True, False, Unassigned, isFalse, isUnassigned, variableValue, Values, literalValue}
 
 -- the literals of the clause at hand, up to the 0 that closes it (in an accepted list there is one), all pass a test

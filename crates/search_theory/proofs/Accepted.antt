@@ -15,7 +15,8 @@ use Rattle.answers.specs.Outcome.{cause}
 use Rattle.answers.proofs.Bools.{or-neither}
 use Rattle.answers.proofs.First.{first-none, none-first, not-found}
 use Rattle.answers.proofs.Rows.{Clear, no-cause}
-use Rattle.cnf.specs.Literals.{mostVariables, tooManyVariables, beyondAt, unclosed, orElse}
+use Rattle.answers.specs.First.{orElse}
+use Rattle.cnf.specs.Literals.{mostVariables, tooManyVariables, beyondAt, unclosed}
 use Rattle.cnf.specs.Clauses.{split}
 use Rattle.search.specs.Trail.{Entry, Trail, Slices, HasLength, imageBy, image, trailOf}
 use Rattle.search.specs.Call.{Search, wrongLengths, wrongEntryAt, Call, Searching, Following, searchRows, rowsOf, begins, IsTaken, onSlices}

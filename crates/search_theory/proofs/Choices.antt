@@ -18,7 +18,8 @@ use Rattle.answers.specs.First.{found}
 use Rattle.answers.specs.Lists.{All, Some}
 use Rattle.answers.proofs.Bools.{clash, or-cases, or-left}
 use Rattle.answers.proofs.First.{first-some, first-none, not-found}
-use Rattle.cnf.specs.Literals.{closes, codeOf, orElse, unclosed}
+use Rattle.answers.specs.First.{orElse}
+use Rattle.cnf.specs.Literals.{closes, codeOf, unclosed}
 use Rattle.cnf.specs.Clauses.{splitStep, split}
 use Rattle.search.specs.Trail.{Value, True, False, Unassigned, isFalse, isUnassigned, literalValue, Values}
 use Rattle.search.specs.Step.{everyLiteral, firstClause, fails, failedAt, failsBut, byValue, forcedAt, failedClause, forcedPlace, lowestUnassigned}

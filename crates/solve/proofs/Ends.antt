@@ -20,7 +20,7 @@ use Rattle.rules.specs.Board.{boardOf}
 use Rattle.rules.proofs.Records.{accepted-fits, refusal-number}
 use Rattle.encoder.specs.Variables.{variableCount}
 use Rattle.encoder.specs.Clauses.{clauseList}
-use Rattle.encoder.proofs.Lists.{made-long}
+use Rattle.answers.proofs.Elements.{made-long}
 use Rattle.search.specs.Trail.{slices}
 use Rattle.search.specs.Run as search
 use Rattle.search.specs.Run.{endingNumber, doneOutcome}

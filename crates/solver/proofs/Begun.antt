@@ -25,7 +25,7 @@ use Rattle.cnf.specs.Clauses.{Satisfies}
 use Rattle.encoder.specs.Variables.{variableCount}
 use Rattle.encoder.specs.Clauses.{clauseList}
 use Rattle.encoder.specs.Decoding.{decoded, decoderAnswer, Satisfying, DecodesTo}
-use Rattle.encoder.proofs.Lists.{all-map, apart-on}
+use Rattle.answers.proofs.Elements.{all-map, apart-on}
 use Rattle.encoder_theory.proofs.Theorems.{decodes-to-solution, comes-from-one, never-refused}
 use Rattle.search.specs.Trail.{Trail, slices, Open, trailOf, valuesOf}
 use Rattle.search.specs.Run.{Ending, Found, None, Halted, Done, run, endingNumber, doneOutcome}

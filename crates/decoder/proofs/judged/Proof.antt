@@ -9,7 +9,7 @@ use Rattle.rules.specs.Record.{size}
 use Rattle.rules.specs.Board.{Board, gridBoard}
 use Rattle.rules.specs.Judge.{ruleRows, judgeRows, saysYes}
 use Rattle.encoder.specs.Decoding.{decoded}
-use Rattle.encoder.proofs.Lists.{made-long}
+use Rattle.answers.proofs.Elements.{made-long}
 use Rattle.decoder.specs.Values.{byteAt}
 use Rattle.decoder.specs.Answer.{decodedOutcome}
 use Rattle.decoder.proofs.Answers.{ends-refused, ends-yes, front, copied, rules-left}

@@ -3,7 +3,7 @@ use mathlib.Core.Path.{_≡_, sym}
 use Rattle.answers.proofs.Lent.{wrote-nothing, wrote-recast}
 use Rattle.rules.specs.Record.{puzzle}
 use Rattle.rules.specs.Board.{gridBoard}
-use Rattle.encoder.specs.Lists.{joined}
+use Rattle.answers.specs.Lists.{joined}
 use Rattle.encoder.proofs.ClauseLists.{listOf}
 use Rattle.encoder_shapes.proofs.Written.{writable-recast}
 use Rattle.encoder_lines.specs.Line.{blacksOf, clueNumbers, clueAt}

@@ -2,7 +2,7 @@
 use native.Mathlib.Omega.{arith}
 use borrow.Author.Needs.{needs}
 use Prim.Native.Nat.{_+_, _-_}
-use Rattle.encoder.specs.Lists.{joined}
+use Rattle.answers.specs.Lists.{joined}
 use Rattle.encoder_shapes.proofs.Written.{Writing, write-start, write-needs, write-on, write-end, write-kept, no-small}
 use Rattle.encoder_lines.specs.Line.{countStepBoth}
 use Rattle.encoder_lines.proofs.count_step_below.Statement.{statement}

@@ -3,7 +3,7 @@ use mathlib.Core.Path.{_≡_, sym, _∙_}
 use borrow.Author.Tests.{not-true, not-false}
 use Rattle.answers.proofs.Lent.{wrote-nothing, wrote-recast}
 use Rattle.rules.specs.Board.{gridBoard}
-use Rattle.encoder.specs.Lists.{joined}
+use Rattle.answers.specs.Lists.{joined}
 use Rattle.encoder.proofs.ClauseLists.{listOf, atCell}
 use Rattle.encoder_shapes.proofs.Written.{writable-recast}
 use Rattle.encoder_numbers.specs.Tables.{OpenCell}

@@ -6,7 +6,7 @@ use mathlib.Core.Path.{_≡_, sym}
 use mathlib.Core.List.{List}
 use Rattle.answers.proofs.Lent.{wrote-recast}
 use Rattle.rules.specs.Board.{gridBoard}
-use Rattle.encoder.specs.Lists.{upTo, each}
+use Rattle.answers.specs.Lists.{upTo, each}
 use Rattle.encoder.specs.Variables.{opens}
 use Rattle.encoder.proofs.ClauseLists.{listOf, atCell}
 use Rattle.encoder_shapes.proofs.Written.{writable-recast, Writing, write-start, write-needs, write-on, write-end, write-kept}

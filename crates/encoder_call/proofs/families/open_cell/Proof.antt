@@ -1,7 +1,7 @@
 -- `encoder_call::families::open_cell` meets its contract. Assumes nothing.
 use mathlib.Core.Path.{_≡_, sym, ap}
 use Rattle.answers.proofs.Lent.{wrote-recast}
-use Rattle.encoder.specs.Lists.{joined}
+use Rattle.answers.specs.Lists.{joined}
 use Rattle.encoder_shapes.specs.Writable.{Parts}
 use Rattle.encoder_shapes.proofs.Written.{writable-recast}
 use Rattle.encoder_call.specs.declared.Family.{Family}

@@ -6,7 +6,7 @@ use mathlib.Core.Path.{_≡_, refl, sym, ap}
 use mathlib.Core.List.{List, [], _∷_}
 use Rattle.answers.proofs.Lent.{wrote-recast}
 use Rattle.rules.specs.Board.{Board, gridBoard}
-use Rattle.encoder.specs.Lists.{each, joined}
+use Rattle.answers.specs.Lists.{each, joined}
 use Rattle.encoder.specs.Variables.{opens}
 use Rattle.encoder.specs.Clauses.{start as startClauses, startAt}
 use Rattle.encoder.proofs.ClauseLists.{listOf}

@@ -1,4 +1,4 @@
--- Laws of All, membership and Apart over the lists that variables and clauses are made of, and their lengths. Assumes nothing.
+-- Laws of All, membership and Apart over lists made of numbers or of other lists, and their lengths. Assumes nothing.
 use Prim.Native.Nat.{ℕ, zero, suc, _+_, _*_, _≤_, _<_}
 use native.Mathlib.Omega.{arith}
 use native.Mathlib.Decide.{ℕ-discrete}
@@ -8,8 +8,7 @@ use mathlib.Core.Path.{_≡_, refl, sym, _∙_, ap, subst}
 use mathlib.Core.Bool.{Bool, true, false}
 use mathlib.Core.Logic.{_⊎_, inl, inr}
 use mathlib.Core.List.{List, [], _∷_, _++_, map, map-append, append-assoc, List·Memᴰ·head, List·Memᴰ·tail, List·Memᴰ·cases-cons, List·Memᴰ·append-cases, List·Memᴰ·not-nil, Memᴰ·append-left, Memᴰ·append-right, Memᴰ·map, Memᴰ·of-map}
-use Rattle.answers.specs.Lists.{All, _∈_, ApartBy, Apart}
-use Rattle.encoder.specs.Lists.{from, upTo, each, joined, keepStep, keep}
+use Rattle.answers.specs.Lists.{All, _∈_, ApartBy, Apart, from, upTo, each, joined, keepStep, keep}
 
 -- 1. What holds of each
 
