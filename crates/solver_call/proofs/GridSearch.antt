@@ -111,8 +111,8 @@ module _ {g : Grid} {s : List ℕ} {needed : Needs} {ls ts : List ℤ} {ms vs ds
   abbrev gridLeaves : Grid → List ℕ → List ℕ → List ℕ
   gridLeaves g values lent = unlessRefused (firstRefusal (gridRows g s values lent) saysYes) lent (decoded (gridBoard g s) values)
 
-  grid-leaves : {values lent : List ℕ} → gridLeaves g values lent ≡ decoderLeaves s values lent
-  grid-leaves {values} {lent} =
+  grid-leaves : (values lent : List ℕ) → gridLeaves g values lent ≡ decoderLeaves s values lent
+  grid-leaves values lent =
       λ i. unlessRefused (goes-on s refl (fits .read) (λ g. gridRows g s values lent) saysYes i) lent (decoded (gridBoard (read-sides s refl (fits .read) i) s) values)
 
   -- after the search
@@ -161,7 +161,7 @@ module _ {g : Grid} {s : List ℕ} {needed : Needs} {ls ts : List ℤ} {ms vs ds
           let given : Gives v us ws = rw (vs-long, part-read ts us us-long (fits .trail)) at w in
           let bytes = given ns recordFits ∙ ap (trailBytes v) reads in
           let yes = begun.decoder-says s accepted budget ends-found (take n ds) ds-long in
-          let drawn = d ∙ grid-leaves ∙ ap (λ b. decoderLeaves s b (take n ds)) (part-read vs ws ws-long (fits .values) ∙ bytes)
+          let drawn = d ∙ grid-leaves (take m (ws ++ drop m vs)) (take n ds) ∙ ap (λ b. decoderLeaves s b (take n ds)) (part-read vs ws ws-long (fits .values) ∙ bytes)
           ∙ ap (λ t. unlessRefused t (take n ds) (decoded (boardOf s) (trailBytes v (done .trail)))) yes in
           record {
             outcome = outcome;

@@ -2,3 +2,4 @@
 pub mod GridSearch
 pub mod TrailBytes
 pub mod Ends
+pub mod Outcomes

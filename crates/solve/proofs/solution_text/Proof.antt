@@ -1,45 +1,49 @@
 -- `solve::solution_text` meets its contract. Assumes nothing.
-use mathlib.Core.Path.{refl, ap}
+use mathlib.Core.Path.{_≡_, refl, sym, _∙_, ap}
+use mathlib.Core.List.{List}
+use Prim.Native.Nat.{ℕ}
+use Rattle.answers.proofs.Lent.{wrote-recast}
+use Rattle.rules.specs.declared.Grid.{Grid}
+use Rattle.rules.specs.Record.{sides, parsedOutcome}
+use Rattle.rules.proofs.Records.{read-sides}
+use Rattle.program_text.proofs.Limits.{read-refused}
 use Rattle.solver.specs.SolverCall.{Lent}
-use Rattle.solve.proofs.Ends.{Solves, ends-refused, ends, found-held, found-inside, ends-found}
+use Rattle.solve.proofs.Ends.{Solves, ends-refused, ends, found-sides, found-inside, ends-found}
 use borrow.Author.Needs.{needs}
 use Rattle.solve.proofs.solution_text.Statement.{statement}
 use Rattle.solve.proofs.solution_text.Tie as tie
 
--- the state at the start, and after the solver's call
-abbrev start1 : tie.After-solve → tie.Start
-start1 c = c .before .before .before .before .before .before .before .before
+-- the record that was read, and the grid
+abbrev s : tie.After-read → List ℕ
+s c = c .before .before .before .args .«record» .now
 
-call : (c : tie.After-solve) → Solves (start1 c .args .«record» .now) (c .solve .result) (c .solve .last .1 .1 .1 .1 .1 .0)
-call c = record { outcome = c .solve .ensures .0; left = ap (λ (l : Lent). l .drawing) (c .solve .ensures .1) }
+abbrev read-at : tie.After-solve-grid → tie.After-known-told
+read-at c = c .before .before .before .before .before .before
 
--- after an answer
-abbrev solved : tie.After-answer → tie.After-solve
+abbrev g : tie.After-known-told → Grid
+g c = c .before .p .given .0 .0
+
+is-sides : (c : tie.After-known-told) → g c ≡ sides (s (c .before .before .before))
+is-sides c = let r = c .before .before .before in read-sides (s r) (c .before .p .given .1) (r .read .ensures)
+
+-- the solver's call, and its answer
+call : (c : tie.After-solve-grid) → Solves (s (read-at c .before .before .before)) (c .solve-grid .result) (c .solve-grid .last .1 .1 .1 .1 .1 .1 .0)
+call c = record { outcome = c .solve-grid .ensures .0; left = ap (λ (l : Lent). l .drawing) (c .solve-grid .ensures .1) }
+
+abbrev solved : tie.After-answer → tie.After-solve-grid
 solved c = c .before .before .before .before .before .before .before
 
-slice-aggregate-solve : tie.Need-slice-aggregate-solve
-slice-aggregate-solve c = refl
+read-requires : tie.Need-read-requires
+read-requires c κs = search needs
 
-slice-aggregate-solve-2 : tie.Need-slice-aggregate-solve-2
-slice-aggregate-solve-2 c = refl
-
-slice-aggregate-solve-3 : tie.Need-slice-aggregate-solve-3
-slice-aggregate-solve-3 c = refl
-
-slice-aggregate-solve-4 : tie.Need-slice-aggregate-solve-4
-slice-aggregate-solve-4 c = refl
-
-slice-aggregate-solve-5 : tie.Need-slice-aggregate-solve-5
-slice-aggregate-solve-5 c = refl
-
-solve-requires : tie.Need-solve-requires
-solve-requires c κs = search needs
-
-enum-known-answer : tie.Need-enum-known-answer
-enum-known-answer c = search needs
+enum-known-p : tie.Need-enum-known-p
+enum-known-p c = search needs
 
 enum-told : tie.Need-enum-told
 enum-told c = search needs
+
+refusal-requires : tie.Need-refusal-requires
+refusal-requires c κs = search needs
 
 outcome-requires : tie.Need-outcome-requires
 outcome-requires c κs = search needs
@@ -52,12 +56,54 @@ same-length c = search needs
 
 returns : tie.Need-returns
 returns c =
-    let told = c .before .before .before .before .before in
-    ends-refused (call (told .before .before .before .before .before .before .before)) (told .enum-told .given .1)
-    (c .before .before .before .outcome .ensures) (c .before .before .put-refused .ensures)
+    let told = c .before .before .before in
+    let refused = told .before in
+    let r = refused .before .before .before .before in
+    wrote-recast (read-refused (s r) _ (refused .refusal .ensures) (r .read .ensures) (told .outcome .ensures)) (c .before .before .put-refused .ensures)
+
+slice-aggregate-solve-grid : tie.Need-slice-aggregate-solve-grid
+slice-aggregate-solve-grid c = refl
+
+slice-aggregate-solve-grid-2 : tie.Need-slice-aggregate-solve-grid-2
+slice-aggregate-solve-grid-2 c = refl
+
+slice-aggregate-solve-grid-3 : tie.Need-slice-aggregate-solve-grid-3
+slice-aggregate-solve-grid-3 c = refl
+
+slice-aggregate-solve-grid-4 : tie.Need-slice-aggregate-solve-grid-4
+slice-aggregate-solve-grid-4 c = refl
+
+slice-aggregate-solve-grid-5 : tie.Need-slice-aggregate-solve-grid-5
+slice-aggregate-solve-grid-5 c = refl
+
+solve-grid-requires : tie.Need-solve-grid-requires
+solve-grid-requires c κs =
+    let accepted = c .before .before .before .before .before in
+    sym (ap parsedOutcome (accepted .before .p .given .1)) ∙ accepted .before .before .before .read .ensures
+
+enum-known-answer : tie.Need-enum-known-answer
+enum-known-answer c = search needs
 
 enum-told-2 : tie.Need-enum-told-2
 enum-told-2 c = search needs
+
+outcome-requires-2 : tie.Need-outcome-requires-2
+outcome-requires-2 c κs = search needs
+
+put-refused-requires-2 : tie.Need-put-refused-requires-2
+put-refused-requires-2 c κs = search needs
+
+same-length-2 : tie.Need-same-length-2
+same-length-2 c = search needs
+
+returns-2 : tie.Need-returns-2
+returns-2 c =
+    let told = c .before .before .before .before .before in
+    let v = told .before .before .before .before .before .before .before in
+    ends-refused (call v) (told .enum-told2 .given .1) (c .before .before .before .outcome2 .ensures) (c .before .before .put-refused2 .ensures)
+
+enum-told-3 : tie.Need-enum-told-3
+enum-told-3 c = search needs
 
 slice-aggregate-put-cells : tie.Need-slice-aggregate-put-cells
 slice-aggregate-put-cells c = search needs
@@ -66,11 +112,12 @@ put-cells-requires : tie.Need-put-cells-requires
 put-cells-requires c κs =
     let told = c .before .before in
     let answered = told .before .before .before in
-    let h = call (solved answered) in
-    (found-held h (answered .answer .given .1) (told .enum-told2 .given .1), found-inside h (answered .answer .given .1) (told .enum-told2 .given .1))
+    let v = solved answered in
+    let is = is-sides (read-at v) in
+    (found-sides (call v) (answered .answer .given .1) (told .enum-told3 .given .1) is, found-inside (call v) (answered .answer .given .1) (told .enum-told3 .given .1) is)
 
-enum-told-3 : tie.Need-enum-told-3
-enum-told-3 c = search needs
+enum-told-4 : tie.Need-enum-told-4
+enum-told-4 c = search needs
 
 slice-aggregate-put-word : tie.Need-slice-aggregate-put-word
 slice-aggregate-put-word c = search needs
@@ -78,23 +125,14 @@ slice-aggregate-put-word c = search needs
 put-word-requires : tie.Need-put-word-requires
 put-word-requires c κs = search needs
 
-enum-told-4 : tie.Need-enum-told-4
-enum-told-4 c = search needs
+enum-told-5 : tie.Need-enum-told-5
+enum-told-5 c = search needs
 
 slice-aggregate-put-word-2 : tie.Need-slice-aggregate-put-word-2
 slice-aggregate-put-word-2 c = search needs
 
 put-word-requires-2 : tie.Need-put-word-requires-2
 put-word-requires-2 c κs = search needs
-
-same-length-2 : tie.Need-same-length-2
-same-length-2 c = search needs
-
-returns-2 : tie.Need-returns-2
-returns-2 c =
-    let told = c .before .before .before .before .before in
-    let answered = told .before .before .before in
-    ends-found (call (solved answered)) (answered .answer .given .1) (told .enum-told2 .given .1) (c .before .before .put-cells .ensures)
 
 same-length-3 : tie.Need-same-length-3
 same-length-3 c = search needs
@@ -103,7 +141,8 @@ returns-3 : tie.Need-returns-3
 returns-3 c =
     let told = c .before .before .before .before .before in
     let answered = told .before .before .before in
-    ends (call (solved answered)) (answered .answer .given .1) (told .enum-told3 .given .1) refl (c .before .before .put-word .ensures)
+    let v = solved answered in
+    ends-found (call v) (answered .answer .given .1) (told .enum-told3 .given .1) (is-sides (read-at v)) (c .before .before .put-cells .ensures)
 
 same-length-4 : tie.Need-same-length-4
 same-length-4 c = search needs
@@ -112,36 +151,53 @@ returns-4 : tie.Need-returns-4
 returns-4 c =
     let told = c .before .before .before .before .before in
     let answered = told .before .before .before in
-    ends (call (solved answered)) (answered .answer .given .1) (told .enum-told4 .given .1) refl (c .before .before .put-word2 .ensures)
+    ends (call (solved answered)) (answered .answer .given .1) (told .enum-told4 .given .1) refl (c .before .before .put-word .ensures)
+
+same-length-5 : tie.Need-same-length-5
+same-length-5 c = search needs
+
+returns-5 : tie.Need-returns-5
+returns-5 c =
+    let told = c .before .before .before .before .before in
+    let answered = told .before .before .before in
+    ends (call (solved answered)) (answered .answer .given .1) (told .enum-told5 .given .1) refl (c .before .before .put-word2 .ensures)
 
 pub solution-text-spec : {M : Type 1} → statement M
 solution-text-spec =
     tie.close
     (tie.spec
-    slice-aggregate-solve
-    slice-aggregate-solve-2
-    slice-aggregate-solve-3
-    slice-aggregate-solve-4
-    slice-aggregate-solve-5
-    solve-requires
-    enum-known-answer
+    read-requires
+    enum-known-p
     enum-told
+    refusal-requires
     outcome-requires
     put-refused-requires
     same-length
     returns
+    slice-aggregate-solve-grid
+    slice-aggregate-solve-grid-2
+    slice-aggregate-solve-grid-3
+    slice-aggregate-solve-grid-4
+    slice-aggregate-solve-grid-5
+    solve-grid-requires
+    enum-known-answer
     enum-told-2
-    slice-aggregate-put-cells
-    put-cells-requires
-    enum-told-3
-    slice-aggregate-put-word
-    put-word-requires
-    enum-told-4
-    slice-aggregate-put-word-2
-    put-word-requires-2
+    outcome-requires-2
+    put-refused-requires-2
     same-length-2
     returns-2
+    enum-told-3
+    slice-aggregate-put-cells
+    put-cells-requires
+    enum-told-4
+    slice-aggregate-put-word
+    put-word-requires
+    enum-told-5
+    slice-aggregate-put-word-2
+    put-word-requires-2
     same-length-3
     returns-3
     same-length-4
-    returns-4)
+    returns-4
+    same-length-5
+    returns-5)

@@ -96,8 +96,9 @@ slice-aggregate-decode-grid-2 c = sym (length-take-le _ _ (slice-relend-prefix-d
 
 decode-grid-requires : tie.Need-decode-grid-requires
 decode-grid-requires c κs =
-    let told = first (c .before .before .before .before .before .before .before .before .before .before) in
-    may-decode (start1 told .pre) (start1 told .args .budget)
+    let told = c .before .before .before .before .before .before .before in
+    let start = start1 (first told) in
+    may-decode (start .pre) (start .args .budget)
 
 same-length-3 : tie.Need-same-length-3
 same-length-3 c = search needs
