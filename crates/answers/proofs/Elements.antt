@@ -7,7 +7,8 @@ use lib.ListN.{length, getD, length-append, length-map}
 use mathlib.Core.Path.{_≡_, refl, sym, _∙_, ap, subst}
 use mathlib.Core.Bool.{Bool, true, false}
 use mathlib.Core.Logic.{_⊎_, inl, inr}
-use mathlib.Core.List.{List, [], _∷_, _++_, map, map-append, append-assoc, List·Memᴰ·head, List·Memᴰ·tail, List·Memᴰ·cases-cons, List·Memᴰ·append-cases, List·Memᴰ·not-nil, Memᴰ·append-left, Memᴰ·append-right, Memᴰ·map, Memᴰ·of-map}
+use mathlib.Core.List.{List, [], _∷_, _++_, map, map-append, append-assoc, List·Memᴰ·head, List·Memᴰ·tail, List·Memᴰ·cases-cons, List·Memᴰ·append-cases}
+use mathlib.Core.List.{List·Memᴰ·not-nil, Memᴰ·append-left, Memᴰ·append-right, Memᴰ·map, Memᴰ·of-map}
 use Rattle.answers.specs.Lists.{All, _∈_, ApartBy, Apart, from, upTo, each, joined, keepStep, keep}
 
 -- 1. What holds of each
@@ -136,7 +137,8 @@ apart-on f (x ∷ xs) inj h = (
 pub apart-map : {A B : Type 0} (f : A → B) → ((x y : A) → f x ≡ f y → x ≡ y) → (xs : List A) → Apart xs → Apart (map f xs)
 apart-map f inj xs = apart-on f xs (λ x y m n. inj x y)
 
-pub apart-each : {A K B : Type 0} (key : A → K) (f : A → List B) (xs : List A) → ApartBy key xs → ((x : A) → x ∈ xs → Apart (f x)) → ((x y : A) (v : B) → v ∈ f x → v ∈ f y → key x ≡ key y) → Apart (each xs f)
+pub apart-each : {A K B : Type 0} (key : A → K) (f : A → List B) (xs : List A) → ApartBy key xs → ((x : A) → x ∈ xs → Apart (f x))
+    → ((x y : A) (v : B) → v ∈ f x → v ∈ f y → key x ≡ key y) → Apart (each xs f)
 apart-each key f [] h a k = tt
 apart-each key f (x ∷ xs) h a k =
     apart-append (f x) (each xs f) (a x (List·Memᴰ·head refl)) (apart-each key f xs (h .1) (λ y m. a y (List·Memᴰ·tail m)) k)
@@ -177,7 +179,9 @@ keep-append t (x ∷ xs) ys = by (t x) (keep-append t xs ys)
 
 pub from-append : (a n m : ℕ) → from a (n + m) ≡ from a n ++ from (a + n) m
 from-append a zero m = (λ t. from (sym (add-zero a) t) (zero-add m t))
-from-append a (suc n) m = let e : suc n + m ≡ suc (n + m) = omega arith in let i : suc a + n ≡ a + suc n = omega arith in rw e (ap (λ l. a ∷ l) (from-append (suc a) n m ∙ ap (λ k. from (suc a) n ++ from k m) i))
+from-append a (suc n) m =
+    let e : suc n + m ≡ suc (n + m) = omega arith in
+    let i : suc a + n ≡ a + suc n = omega arith in rw e (ap (λ l. a ∷ l) (from-append (suc a) n m ∙ ap (λ k. from (suc a) n ++ from k m) i))
 
 -- one more at the end
 pub from-last : (a n : ℕ) → from a (n + 1) ≡ from a n ++ ((a + n) ∷ [])

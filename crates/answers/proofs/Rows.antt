@@ -1,4 +1,4 @@
--- Laws of the table: which row turns a call down, and that a call is answered exactly if no row has its cause. Assumes nothing.
+-- Laws of the table: which row refuses a call, and that a call is answered exactly if no row has its cause. Assumes nothing.
 use Prim.Native.Nat.{ℕ}
 use native.Mathlib.Omega.{arith}
 use lib.Dec.{eqb}
@@ -71,7 +71,7 @@ pub no-cause : (t : Bool) → cause t ≡ none → t ≡ false
 no-cause true e = absurd (Option·some-ne-none 0 e)
 no-cause false e = refl
 
--- a call that the first rows turn down is turned down whatever comes after them
+-- a call that the first rows refuse is refused whatever comes after them
 pub still-refused : (rs qs : List Row) (t u : Outcome) → t .number ≡ 0 → (firstRefusal rs t .number ≡ 0 → ⊥) → firstRefusal rs t ≡ firstRefusal (rs ++ qs) u
 still-refused [] qs t u z n = absurd (n z)
 still-refused (r ∷ rs) qs t u z n = by (r .beside) n (still-refused rs qs t u z)

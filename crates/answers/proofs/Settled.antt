@@ -1,4 +1,4 @@
--- Row 6, and what a call with a lent buffer tells and leaves once the rows are gone through. Assumes nothing.
+-- Row 6, and what a call with a lent buffer tells and leaves once all rows are settled. Assumes nothing.
 use Prim.Native.Nat.{ℕ, _-_, _≤_, _<_, _^_}
 use native.Mathlib.Omega.{arith}
 use borrow.Author.Tests.{ne-eqb, lt-ltb, le-ltb, ltb-false}
@@ -32,7 +32,8 @@ pub untouched : {A : Type 0} (t : Outcome) (before after : A) → (t .number ≡
 untouched t before after n = ap (λ b. cond b after before) (ne-eqb (t .number) 0 n)
 
 -- what it tells, and what it leaves in the buffer
-pub settles : {A : Type 0} (before after : A) {new : A} {t u : Outcome} → u ≡ t → new ≡ unlessRefused u before after → (u ≡ t) × (new ≡ unlessRefused t before after)
+pub settles : {A : Type 0} (before after : A) {new : A} {t u : Outcome} → u ≡ t → new ≡ unlessRefused u before after
+    → (u ≡ t) × (new ≡ unlessRefused t before after)
 settles before after e l = (e, l ∙ ap (λ s. unlessRefused s before after) e)
 
 pub settled : {A : Type 0} (rows : List Row) (t : Outcome) (before after : A) {new : A} {u : Outcome} → RowsGive rows t u → new ≡ unlessRefused u before after

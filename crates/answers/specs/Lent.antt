@@ -22,7 +22,7 @@ tooShort room needed = found (ltb room needed) (capped needed) none
 abbrev pub filled : {A : Type 0} → List A → List A → List A
 filled buf xs = xs ++ drop (length xs) buf
 
--- turned down, a call leaves all as it was
+-- refused, a call leaves all as it was
 abbrev pub unlessRefused : {A : Type 0} → Outcome → A → A → A
 unlessRefused t before after = cond (eqb (t .number) 0) after before
 

@@ -5,7 +5,7 @@ use mathlib.Core.Option.{Option, none, some}
 use mathlib.Core.List.{List, [], _∷_}
 use Rattle.answers.specs.declared.Outcome.{Outcome}
 
--- turned down: the number and the value beside it
+-- refused: the number and the value beside it
 abbrev pub refusal : ℕ → ℕ → Outcome
 refusal number beside = record { number = number; first = beside; second = 0; third = 0 }
 
@@ -34,7 +34,7 @@ abbrev pub unless : ℕ → Option ℕ → Outcome → Outcome
 unless number none t = t
 unless number (some beside) t = refusal number beside
 
--- the first row whose cause is there turns the call down; without one it is answered
+-- the first row whose cause is there refuses the call; without one it is answered
 abbrev pub firstRefusal : List Row → Outcome → Outcome
 firstRefusal [] t = t
 firstRefusal (r ∷ rs) t = unless (r .number) (r .beside) (firstRefusal rs t)

@@ -8,7 +8,7 @@ pub enum Place {
     Nowhere,
 }
 
-// What a call tells. Turned down: document 01's number and the value beside it. Answered: 0 and the call's values.
+// What a call tells. Refused: document 01's number and the value beside it. Answered: 0 and the call's values.
 pub struct Outcome {
     pub number: u64,
     pub first: u64,

@@ -1,4 +1,4 @@
-// What the dealer asks of a card: reads a record on standard input and prints `none`, `one` or `several` for its grid's solutions, `halted`
+// Has a grid exactly one solution? Reads a record on standard input and prints `none`, `one` or `several` for its grid's solutions, `halted`
 // if the budget does not settle it, or one line such as `refused 3`.
 ghost use Rattle.answers.specs.Lent.{Wrote};
 ghost use Rattle.solver_count.specs.Answer.{meant};

@@ -36,7 +36,8 @@ module _ (rows : List Row) (lent drawn : List ℕ) where
   ends-yes q e h = (e, h ∙ ap (λ t. unlessRefused t lent drawn) (sym q ∙ e))
 
 -- refused by the first rows, refused by all
-pub refused-first : (rs qs : List Row) (u : DecodeRefusal) {t : Outcome} → t ≡ decodeRefusalOutcome u → t ≡ firstRefusal rs saysYes → t ≡ firstRefusal (rs ++ qs) saysYes
+pub refused-first : (rs qs : List Row) (u : DecodeRefusal) {t : Outcome} → t ≡ decodeRefusalOutcome u → t ≡ firstRefusal rs saysYes
+    → t ≡ firstRefusal (rs ++ qs) saysYes
 refused-first rs qs u q e = e ∙ still-refused rs qs saysYes saysYes refl (λ z. undrawn-number u (ap (λ (t : Outcome). t .number) (sym q ∙ e) ∙ z))
 
 -- passed by the first rows, left to the others
@@ -44,7 +45,8 @@ pub passed-first : (rs qs : List Row) → Clear rs → firstRefusal qs saysYes �
 passed-first rs qs c = sym (refusals-append rs qs saysYes ∙ clear-answered rs _ c)
 
 -- passed 8, 7 and 9
-pub values-clear : (v n : ℕ) (values : List ℕ) (lent : ℕ) {t : Outcome} → t ≡ saysYes → t ≡ firstRefusal (valueRows v n values lent) saysYes → Clear (valueRows v n values lent)
+pub values-clear : (v n : ℕ) (values : List ℕ) (lent : ℕ) {t : Outcome} → t ≡ saysYes → t ≡ firstRefusal (valueRows v n values lent) saysYes
+    → Clear (valueRows v n values lent)
 values-clear v n values lent q e = answered-clear (valueRows v n values lent) saysYes refl (ap (λ (t : Outcome). t .number) (sym e ∙ q))
 
 pub lengths-right : (v n : ℕ) (values : List ℕ) (lent : ℕ) → Clear (valueRows v n values lent) → (length values ≡ v) × (lent ≡ n)

@@ -34,7 +34,8 @@ module _ (b : Board) (w : Variable → Bool) where
   link-none : (x : ℕ) (d : Direction) → w (E x d) ≡ false → none ≡ b .next d x → 0 ≡ bit (drawnLink b w x d)
   link-none x d h e = (λ i. bit (sym h i || there (λ y. w (E y (opposite d))) (e i)))
 
-  pub link-some : (x y : ℕ) (d : Direction) {t u : Bool} → some y ≡ b .next d x → w (E x d) ≡ t → w (E y (opposite d)) ≡ u → bit (t || u) ≡ bit (drawnLink b w x d)
+  pub link-some : (x y : ℕ) (d : Direction) {t u : Bool} → some y ≡ b .next d x → w (E x d) ≡ t → w (E y (opposite d)) ≡ u
+      → bit (t || u) ≡ bit (drawnLink b w x d)
   link-some x y d e h k = (λ i. bit (sym h i || sym k i)) ∙ ap (λ o. bit (w (E x d) || there (λ y. w (E y (opposite d))) o)) e
 
   pub link-out : (x : ℕ) (d : Direction) → w (E x d) ≡ true → 1 ≡ bit (drawnLink b w x d)
@@ -89,11 +90,15 @@ module _ {g : Grid} {s values table : List ℕ} {sizes : Sizes} (p : Valued g s 
   link-nowhere x d e = by (b .next d x) refl e
     where
       none-out : (o : Option ℕ) → b .next d x ≡ o → none ≡ ifOpenCell b o → w (E x d) ≡ false
-      none-out o q e = off _ (λ h. let (k, (y, l, i)) = proper (E x d) h in Option·some-ne-none y (sym (e ∙ ap (ifOpenCell b) (sym q ∙ l) ∙ ap (λ t. cond t (some y) none) i)))
+      none-out o q e =
+          off _
+          (λ h. let (k, (y, l, i)) = proper (E x d) h in Option·some-ne-none y (sym (e ∙ ap (ifOpenCell b) (sym q ∙ l) ∙ ap (λ t. cond t (some y) none) i)))
 
       by : (o : Option ℕ) → b .next d x ≡ o → none ≡ ifOpenCell b o → 0 ≡ bit (drawnLink b w x d)
       by none q e = link-none b w x d (none-out none q e) (sym q)
-      by (some y) q e = link-some b w x y d (sym q) (none-out (some y) q e) (off _ (λ t. Option·some-ne-none y (sym (e ∙ ap (λ t. cond t (some y) none) (proper (E y (opposite d)) t .0)))))
+      by (some y) q e =
+          link-some b w x y d (sym q) (none-out (some y) q e)
+          (off _ (λ t. Option·some-ne-none y (sym (e ∙ ap (λ t. cond t (some y) none) (proper (E y (opposite d)) t .0)))))
 
 -- the bytes of a clue and of an open cell
 module _ (b : Board) (w : Variable → Bool) (x : ℕ) where

@@ -58,7 +58,8 @@ pub record Demand1 : Type 0 where
       (decoderLeaves s values lent ≡ lent)
   pub search : (c : Search) (budget : ℕ)
       → ByRows (17 ∷ 16 ∷ 18 ∷ []) (rowsOf c Searching) (bySearch c budget .outcome) (bySearch c budget .slices ≡ c .slices)
-  pub writer : (v : ℕ) (ls : List ℤ) (out : List ℕ) → ByRows (17 ∷ 16 ∷ 6 ∷ []) (writerRows v ls (length out)) (writerAnswer v ls out) (writerLeaves v ls out ≡ out)
+  pub writer : (v : ℕ) (ls : List ℤ) (out : List ℕ)
+      → ByRows (17 ∷ 16 ∷ 6 ∷ []) (writerRows v ls (length out)) (writerAnswer v ls out) (writerLeaves v ls out ≡ out)
   pub text-reader : (text : List ℕ) (out : List ℤ) → ByRows (19 ∷ 6 ∷ []) (readerRows text (length out)) (readerAnswer text out) (readerLeaves text out ≡ out)
   -- (The places: each "first .." of the table is the least index at which a test holds; beside 6 stand the elements needed; and the place beside 19 is the
   -- "first byte where no accepted text can go on, or the text's length if it ends too soon".)
@@ -73,13 +74,13 @@ pub record Demand2 : Type 0 where
   -- "The judge says yes exactly when a drawing keeps every Yajilin rule;"
   pub judge-right : (s : List ℕ) → IsAccepted s → (ds : List ℕ) → judgeAnswer s ds ≡ saysYes ↔ SolutionBytes (boardOf s) ds
   -- "the clauses are those of document 01 in its order;"
-  -- (Unless turned down, the encoder writes them and touches nothing past them; it tells the count of elements written, V and the number of clauses.)
+  -- (Unless refused, the encoder writes them and touches nothing past them; it tells the count of elements written, V and the number of clauses.)
   pub clauses : (b : Board) → clauseList b ≡ each (joined (touching b ∷ clueLines b ∷ links b ∷ start b ∷ distance b ∷ [])) (written b)
   pub encoded : (s : List ℕ) (out : List ℤ) → encoderAnswer s out .number ≡ 0
       → (encoderAnswer s out ≡ answer (length (clauseList (boardOf s))) (variableCount (boardOf s)) (clauseCount (clauseList (boardOf s))))
       × (encoderLeaves s out ≡ filled out (clauseList (boardOf s)))
   -- "a list's DIMACS text reads back to that list,"
-  -- (The text is what the writer writes unless turned down. The reader reads it, given room; a slice has fewer than 2^64 elements.)
+  -- (The text is what the writer writes unless refused. The reader reads it, given room; a slice has fewer than 2^64 elements.)
   pub text : (v : ℕ) (ls : List ℤ) (buf : List ℕ) → writerAnswer v ls buf .number ≡ 0 → Writes v ls buf (textOf v ls)
   pub reads-back : (v : ℕ) (ls : List ℤ) (buf : List ℕ) (out : List ℤ) → length ls < 2 ^ 64 → writerAnswer v ls buf .number ≡ 0 → length ls ≤ length out
       → Reads (textWritten v ls buf) out v ls
@@ -112,7 +113,7 @@ pub record Demand3 : Type 0 where
   pub halted-steps : (c : Search) → IsTaken Searching c → (budget : ℕ) → Says (bySearch c budget) Halted
       → (steps (bySearch c budget) ≡ budget) × (steps (bySearch c budget) < 2 ^ (c .variables + 1) - 1)
   -- "Begun empty on a grid's clauses and not halted,"
-  -- (No search turns a grid's clauses down.)
+  -- (No search refuses a grid's clauses.)
   pub begun-taken : (s : List ℕ) (c : Search) → BegunOn s c → IsTaken Searching c
   -- "it says "none" exactly when the grid has no solution,"
   pub none-exactly : (s : List ℕ) (c : Search) → BegunOn s c → (budget : ℕ) → (Says (bySearch c budget) Halted → ⊥)

@@ -35,13 +35,15 @@ pub record RequestE1 : Type 0 where
   pub unless-halted : (c : Search) → IsTaken Following c → (budget : ℕ) → (Says (byNext c budget) Halted → ⊥)
       → (Says (byNext c budget) None × ((a : List Bool) → Sought Following c (begins c) a → ⊥))
       ⊎ (Says (byNext c budget) Found × FoundOne Following c (endsAt (byNext c budget)))
-  pub few-steps : (c : Search) → IsTaken Following c → (budget : ℕ) → (steps (byNext c budget) ≤ budget) × (steps (byNext c budget) ≤ 2 ^ (c .variables + 1) - 1)
+  pub few-steps : (c : Search) → IsTaken Following c → (budget : ℕ)
+      → (steps (byNext c budget) ≤ budget) × (steps (byNext c budget) ≤ 2 ^ (c .variables + 1) - 1)
   pub halted-steps : (c : Search) → IsTaken Following c → (budget : ℕ) → Says (byNext c budget) Halted
       → (steps (byNext c budget) ≡ budget) × (steps (byNext c budget) < 2 ^ (c .variables + 1) - 1)
   -- "With budget 0 it is halted with nothing dropped and is called again; halted later, it goes on by the ordinary search. Begun empty and carried on until
   -- "none", it lists every satisfying assignment once, false before true at the lowest variable where two differ,"
   -- (`Lists` has the calls one after another, with whatever budgets; they can be carried on to the end.)
-  pub lists-all : (c : Search) → IsTaken Searching c → c .used ≡ 0 → (found : List (List Bool)) → Lists Searching c found → ListsAll (c .variables) (c .list) found
+  pub lists-all : (c : Search) → IsTaken Searching c → c .used ≡ 0 → (found : List (List Bool)) → Lists Searching c found
+      → ListsAll (c .variables) (c .list) found
   pub carried-on : (c : Search) → IsTaken Searching c → (found : List (List Bool)) × Lists Searching c found
   -- "and so every solution of a grid once."
   pub lists-solutions : (s : List ℕ) (c : Search) → BegunOn s c → (found : List (List Bool)) → Lists Searching c found

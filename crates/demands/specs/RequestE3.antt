@@ -1,5 +1,6 @@
 -- Document 02, E3, "Line count in the text's order", as one statement, in its order and words; what is in quotation marks is the request's.
--- "The text" is document 004. The judge's counting is `judge_cells::cells::blacks_nearest`: by its contract it hands out `blacksNearest` of the line for each j from 0
+-- "The text" is document 004. The judge's counting is `judge_cells::cells::blacks_nearest`: by its contract it hands out `blacksNearest` of the line for each j
+-- from 0
 -- to the line's length. After j cells of the line of a clue in cell x comes `getD line j x`, the clue's own cell x after all of them.
 use Prim.Native.Nat.{ℕ, suc, _≤_, _<_}
 use lib.ListN.{length, getD}
@@ -23,10 +24,12 @@ pub record RequestE3 : Type 0 where
   -- "Document 004 counts a line from the board's edge"
   pub from-edge : (p : Puzzle) (d : Direction) (x : ℕ) → x < size (p .grid) → neighbour (p .grid) d (getD (line p d x) 0 x) ≡ none
   -- "towards the clue. However it goes now, the judge's counting is to go the same way, cell by cell in the order of that text,"
-  pub cell-by-cell : (p : Puzzle) (d : Direction) (x j : ℕ) → j < length (line p d x) → neighbour (p .grid) (opposite d) (getD (line p d x) j x) ≡ some (getD (line p d x) (suc j) x)
+  pub cell-by-cell : (p : Puzzle) (d : Direction) (x j : ℕ) → j < length (line p d x)
+      → neighbour (p .grid) (opposite d) (getD (line p d x) j x) ≡ some (getD (line p d x) (suc j) x)
   pub to-clue : (p : Puzzle) (d : Direction) (x : ℕ) → getD (line p d x) (length (line p d x)) x ≡ x
   -- "so that the two can be read side by side:"
-  -- (Of an assignment that satisfies a grid's clauses and the drawing that it decodes to, and a clue in cell x with its direction and number: T(j,t), the text's
+  -- (Of an assignment that satisfies a grid's clauses and the drawing that it decodes to, and a clue in cell x with its direction and number: T(j,t), the
+  -- text's
   -- count, holds exactly if the judge's count after j cells is t.)
   pub side-by-side : (s : List ℕ) → IsAccepted s → (a : List Bool) → Satisfying s a → (ds : List ℕ) → DecodesTo s a ds
       → (x : ℕ) (d : Direction) (n : ℕ) → x < size (sides s) → getD (puzzle (sides s) s .cells) x Open ≡ Clued d n
@@ -35,6 +38,7 @@ pub record RequestE3 : Type 0 where
   -- "it is proved that after j cells, for each j from 0 to the line's length, its count is the number of black cells among the j nearest the edge."
   -- (It begins with 0, a black cell makes it one more, and after the whole line it is the line's number of black cells, which the judge asks for.)
   pub begins : (black : ℕ → Bool) (line : List ℕ) → blacksNearest black line 0 ≡ 0
-  pub goes-on : (black : ℕ → Bool) (line : List ℕ) (x j : ℕ) → j < length line → blacksNearest black line (suc j) ≡ tally (black (getD line j x)) (blacksNearest black line j)
+  pub goes-on : (black : ℕ → Bool) (line : List ℕ) (x j : ℕ) → j < length line
+      → blacksNearest black line (suc j) ≡ tally (black (getD line j x)) (blacksNearest black line j)
   pub whole : (black : ℕ → Bool) (line : List ℕ) → blacksNearest black line (length line) ≡ howMany black line
-  -- "Answers and refusals are those of before." (`judgeAnswer` is: no definition of what a call tells has moved, and no contract of a call.)
+  -- "Answers and refusals are those of before." (`judgeAnswer` is the same definition, and the judge has the same contract.)

@@ -1,1 +1,1 @@
-// The three demands of the request, each one statement about the definitions that the calls are bound to: no code.
+// The three demands, each change request and the starred cases, as statements about the definitions that the calls are bound to: no code.

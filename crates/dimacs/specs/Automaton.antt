@@ -1,4 +1,4 @@
--- An automaton over bytes: from a state and a byte to the next state, or to none: it dies.
+-- An automaton over bytes: from a state and a byte to the next state, or to none: the byte is refused.
 use Prim.Native.Nat.{ℕ, suc}
 use mathlib.Core.Bool.{Bool, not}
 use mathlib.Core.Option.{Option, none, some}
@@ -15,7 +15,7 @@ module _ {S : Type 0} (step : S → ℕ → Option S) where
   endFrom s [] = some s
   endFrom s (b ∷ bs) = next (step s b) none (λ t. endFrom t bs)
 
-  -- the place of the first byte at which it dies, or the text's length if it ends in a state that does not accept
+  -- the place of the first byte that is refused, or the text's length if it ends in a state that does not accept
   unfoldable pub refusedFrom : (S → Bool) → S → List ℕ → ℕ → Option ℕ
   refusedFrom accepts s [] at = found (not (accepts s)) at none
   refusedFrom accepts s (b ∷ bs) at = next (step s b) (some at) (λ t. refusedFrom accepts t bs (suc at))

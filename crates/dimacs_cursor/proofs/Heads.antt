@@ -26,7 +26,8 @@ abbrev Followed : Number → (ℕ → State) → ℕ → Type 0
 Followed n after end = (x b : ℕ) → afterNumber n x b ≡ when (eqb b end) (after x)
 
 module _ (text : List ℕ) (a : ℕ) {t : Token} (n : Number) where
-  module _ (d : Numbers text n (first n) a t) {x : ℕ} {k : Cursor} (e : t ≡ NumberIs x k) {b : ℕ} (c : ByteAt text (k .at) b) (end : ℕ) (after : ℕ → State) (f : Followed n after end) where
+  module _ (d : Numbers text n (first n) a t) {x : ℕ} {k : Cursor} (e : t ≡ NumberIs x k) {b : ℕ} (c : ByteAt text (k .at) b) (end : ℕ) (after : ℕ → State)
+      (f : Followed n after end) where
     pub field-right : b ≡ end → FieldRead text n a (after x) x (k .at + 1)
     field-right q = let r = number-read text a n d e in record { run = after-right r c end (after x) (f x) q; small = r .small }
 
@@ -53,7 +54,8 @@ module _ (text : List ℕ) (s : State) (a : ℕ) (t : State) {p : Passed} (d : P
   pass-refused e = subst (Passes text s a t) e d
 
 -- an element without its sign
-module _ (text : List ℕ) (a : ℕ) {t : Token} (h : Header) (k : ℕ) (negative : Bool) (d : Numbers text (element h k negative) (first (element h k negative)) a t) {x : ℕ} {m : Cursor} (e : t ≡ NumberIs x m) {b : ℕ} (c : ByteAt text (m .at) b) where
+module _ (text : List ℕ) (a : ℕ) {t : Token} (h : Header) (k : ℕ) (negative : Bool) (d : Numbers text (element h k negative) (first (element h k negative)) a t)
+    {x : ℕ} {m : Cursor} (e : t ≡ NumberIs x m) {b : ℕ} (c : ByteAt text (m .at) b) where
   abbrev next : State
   next = clause h (closedAfter k x) (not (eqb x 0))
 

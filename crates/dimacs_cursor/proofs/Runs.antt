@@ -1,4 +1,4 @@
--- Laws of the automaton's runs: one step, one after the other, and where it dies. Assumes nothing.
+-- Laws of the automaton's runs: one step, one after the other, and where a byte is refused. Assumes nothing.
 use Prim.Native.Nat.{ℕ, _+_, _≤_, _<_}
 use native.Mathlib.Numerals.{add-one}
 use lib.IntN.{ℤ}
@@ -41,7 +41,7 @@ module _ {text : List ℕ} {a : ℕ} (h : a < length text) where
         ends = rw (drop-cons text a 0 h, e);
       })
 
-  -- it dies there
+  -- the byte is refused there
   pub dead-step : {s : State} → stepByte s (getD text a 0) ≡ none → Dead text s a a
   unfolding refusedFrom
   dead-step e = record { place = rw (drop-cons text a 0 h, e) }

@@ -15,7 +15,8 @@ use Rattle.dimacs_cursor.specs.declared.Cursor.{Cursor}
 use Rattle.dimacs_cursor.specs.declared.Token.{Token}
 use Rattle.dimacs_cursor.specs.declared.Token.the-variants.{Number as NumberIs, Refused as NoNumber}
 use Rattle.dimacs.specs.Text.{preamble}
-use Rattle.dimacs.specs.Reader.{State, line, comment, word, first, digits, Number, element, when, most, zeroAllowed, isDigit, afterNumber, readElement, afterWord, stepByte, ended}
+use Rattle.dimacs.specs.Reader.{State, line, comment, word, first, digits, Number, element, when, most, zeroAllowed, isDigit, afterNumber, readElement}
+use Rattle.dimacs.specs.Reader.{afterWord, stepByte, ended}
 use Rattle.dimacs_cursor.specs.Cursors.{ByteAt, isFirst, isNext, Run, Dead, NumberRead, Numbers, headerWith}
 use Rattle.dimacs_cursor.proofs.Runs.{run-stay, run-then, run-recast, run-dead, run-step, run-alike, dead-step, dead-end}
 
@@ -79,7 +80,8 @@ module _ {text : List ℕ} {a at i : ℕ} (g : Wording text a at i) where
     word-step : at < length text → getD text at 0 ≡ getD preamble i 0
         → Run text (afterWord (drop i preamble)) at [] (afterWord (drop (suc i) preamble)) (at + 1)
     word-step h e =
-        let s : stepByte (afterWord (drop i preamble)) (getD text at 0) ≡ some (afterWord (drop (suc i) preamble)) = word-byte (getD text at 0) ∙ when-true (eq-eqb _ _ e) in
+        let s : stepByte (afterWord (drop i preamble)) (getD text at 0) ≡ some (afterWord (drop (suc i) preamble)) = word-byte (getD text at 0)
+        ∙ when-true (eq-eqb _ _ e) in
         run-recast quiet (run-step h s)
       where
         quiet : ended (afterWord (drop i preamble)) (getD text at 0) ≡ []
@@ -131,7 +133,11 @@ module _ {text : List ℕ} {bound start a x at : ℕ} (g : Counted text bound st
       pub digits-more : isNext x (b - 48) bound ≡ true → Counted text bound start a (x * 10 + (b - 48)) (at + 1)
       digits-more u =
           let l : x * 10 + (b - 48) ≤ bound = leb-true _ _ (and-both (not (eqb x 0)) (leb (x * 10 + (b - 48)) bound) u .1) in
-          record { small = l; low = omega (arith, g .low); run = λ n p. rw (e .is) (run-then (g .run n p) (run-recast (quiet n) (run-step h (digit-step n p ∙ when-true (rw (e .is) at u))))) }
+          record {
+            small = l;
+            low = omega (arith, g .low);
+            run = λ n p. rw (e .is) (run-then (g .run n p) (run-recast (quiet n) (run-step h (digit-step n p ∙ when-true (rw (e .is) at u)))));
+          }
         where
           quiet : (n : Number) → ended (digits n x) (getD text at 0) ≡ []
           quiet n = rw (rw (e .is) at t)
@@ -172,7 +178,8 @@ module _ (text : List ℕ) (a : ℕ) {t : Token} where
     number-refused e = subst (Numbers text n (first n) a) e d
 
 -- the byte after a number, if the number may be followed by one byte alone
-module _ {text : List ℕ} {n : Number} {s : State} {a x b c : ℕ} (r : NumberRead text n s a x b) (e : ByteAt text b c) (end : ℕ) (after : State) (f : (c : ℕ) → afterNumber n x c ≡ when (eqb c end) after) where
+module _ {text : List ℕ} {n : Number} {s : State} {a x b c : ℕ} (r : NumberRead text n s a x b) (e : ByteAt text b c) (end : ℕ) (after : State)
+    (f : (c : ℕ) → afterNumber n x c ≡ when (eqb c end) after) where
   after-step : stepByte (digits n x) (getD text b 0) ≡ when (eqb (getD text b 0) end) after
   after-step = rw (r .behind) (f (getD text b 0))
 

@@ -5,7 +5,8 @@ ghost use Prim.Native.Nat.{ℕ, _≤_, _<_};
 ghost use lib.Dec.{eqb};
 ghost use lib.ListN.{length};
 ghost use Rattle.dimacs.specs.Text.{preamble};
-ghost use Rattle.dimacs.specs.Reader.{Header, Number, State, line, word, first, digits, clause, ofVariables, element, when, most, zeroAllowed, isDigit, afterNumber};
+ghost use Rattle.dimacs.specs.Reader.{Header, Number, State, line, word, first, digits, clause, ofVariables, element, when, most, zeroAllowed, isDigit};
+ghost use Rattle.dimacs.specs.Reader.{afterNumber};
 ghost use Rattle.dimacs_cursor.specs.Cursors.{ByteAt, isFirst, isNext, Passes, Numbers, Fields, Heads, behindNumber, Elemental};
 use dimacs::PREAMBLE;
 

@@ -84,6 +84,10 @@ module _ {text : List ℕ} {v c a : ℕ} {before after : List ℤ} {at n k : ℕ
       list-end e =
           record {
             accepted = g .run .refused ∙ rw (drop-of-length-le text h, t, eq-eqb k c e);
-            wrote = wrote-recast (sym (append-nil (g .done)) ∙ ap (λ (rest : List ℕ). g .done ++ listFrom (clause (headerWith v c) k begun) rest) (sym (drop-of-length-le text h)) ∙ sym (g .run .list)) (g .wrote);
+            wrote =
+                wrote-recast
+                (sym (append-nil (g .done))
+                ∙ ap (λ (rest : List ℕ). g .done ++ listFrom (clause (headerWith v c) k begun) rest) (sym (drop-of-length-le text h)) ∙ sym (g .run .list))
+                (g .wrote);
             ends = g .run .ends ∙ rw (drop-of-length-le text h, t, e);
           }

@@ -77,7 +77,7 @@ fn read_list(text: &[u8], from: usize, variables: usize, clauses: usize, out: &m
     Listed::Elements(n)
 }
 
-// What comes after the header. The text is gone through first with a buffer of its own: nothing is written before all refusals are settled.
+// What comes after the header. The text is read first with a buffer of its own: nothing is written before all refusals are settled.
 fn read_body(
     text: &[u8],
     from: usize,

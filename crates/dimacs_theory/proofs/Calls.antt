@@ -1,4 +1,4 @@
--- The two calls where no row turns them down. Assumes nothing.
+-- The two calls where no row refuses them. Assumes nothing.
 use Prim.Native.Nat.{ℕ, suc, _≤_, _<_, _^_}
 use native.Mathlib.Omega.{arith}
 use borrow.Author.Tests.{le-ltb, ltb-false}
@@ -23,7 +23,7 @@ use Rattle.dimacs.specs.Reader.{refusedAt, listOf}
 use Rattle.dimacs.specs.Calls.{writerAnswer, readerAnswer}
 use Rattle.dimacs_theory.specs.Reading.{ReadAs, Writes, Reads, written, elementsRead}
 
--- a row that did not turn the call down
+-- a row that did not refuse the call
 past : (n : ℕ) (o : Option ℕ) (t : Outcome) → (n ≡ 0 → ⊥) → unless n o t .number ≡ 0 → (o ≡ none) × (t .number ≡ 0)
 past n none t z e = (refl, e)
 past n (some v) t z e = absurd (z e)

@@ -1,4 +1,4 @@
--- Lists that refusal 16 lets pass, element by element. Assumes nothing.
+-- Lists that get no refusal 16, element by element. Assumes nothing.
 use Prim.Native.Nat.{ℕ, zero, suc, _-_, _≤_, _<_}
 use native.Mathlib.Omega.{arith}
 use borrow.Author.Tests.{le-ltb, ltb-false}

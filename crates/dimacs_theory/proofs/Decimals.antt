@@ -9,7 +9,7 @@ use mathlib.Core.Bool.{Bool, true, false}
 use mathlib.Core.List.{List, [], _∷_, _++_}
 use Rattle.text.specs.Decimal.{digit, decimalStep, decimalIn, decimal}
 
--- enough is enough
+-- more digits allowed than needed change nothing
 in-enough : (f g n : ℕ) → n < f → n < g → decimalIn f n ≡ decimalIn g n
 unfolding decimalIn
 in-enough zero g n h k = absurd (omega arith)

@@ -12,11 +12,13 @@ use Rattle.answers.specs.Lists.{tally, All}
 use Rattle.answers.proofs.Bools.{clash, and-both}
 use Rattle.text.specs.Decimal.{lineFeed, space, minus, digit, decimal}
 use Rattle.dimacs.specs.Text.{signed, behind, lines, preamble, headerLine, CommentByte, commentLine, commentLines, Narrow, Accepted}
-use Rattle.dimacs.specs.Reader.{Header, Number, State, ofClauses, element, line, comment, first, digits, clause, when, most, zeroAllowed, isDigit, firstDigit, nextDigit, afterWord, wordStep, afterNumber, afterElement, clauseStep, stepByte, accepts, readElement, ended}
+use Rattle.dimacs.specs.Reader.{Header, Number, State, ofClauses, element, line, comment, first, digits, clause, when, most, zeroAllowed, isDigit, firstDigit}
+use Rattle.dimacs.specs.Reader.{nextDigit, afterWord, wordStep, afterNumber, afterElement, clauseStep, stepByte, accepts, readElement, ended}
 use Rattle.dimacs_theory.proofs.Decimals.{decimal-one, decimal-more}
 use Rattle.dimacs_theory.proofs.Closings.{done, closing-right}
 use Rattle.dimacs_theory.proofs.Runs.{Fits, Runs, stay, byte}
-use Rattle.dimacs_theory.proofs.Shapes.{Opened, Listed, listed-more, sign, Head, variables, clauses, literal, literalOf, spelt, Shape, nothing, remark, letters, before, inside, list, Before}
+use Rattle.dimacs_theory.proofs.Shapes.{Opened, Listed, listed-more, sign, Head, variables, clauses, literal, literalOf, spelt, Shape, nothing, remark}
+use Rattle.dimacs_theory.proofs.Shapes.{letters, before, inside, list, Before}
 
 -- a byte that is taken where a test holds
 taken : (P : State → Type 0) (c : Bool) (s : State) {t : State} → when c s ≡ some t → (c ≡ true → P s) → P t

@@ -16,7 +16,8 @@ use Rattle.cnf.specs.Clauses.{clauseCount}
 use Rattle.text.specs.Decimal.{lineFeed, space, minus, digit, decimal}
 use Rattle.dimacs.specs.Text.{signed, behind, lines, preamble, headerLine, CommentByte, commentLine, commentLines, Accepted}
 use Rattle.dimacs.specs.Automaton.{next, endFrom}
-use Rattle.dimacs.specs.Reader.{Header, Number, State, ofVariables, ofClauses, element, line, comment, first, digits, clause, most, zeroAllowed, isDigit, firstDigit, afterWord, stepByte, ended, listFrom}
+use Rattle.dimacs.specs.Reader.{Header, Number, State, ofVariables, ofClauses, element, line, comment, first, digits, clause, most, zeroAllowed, isDigit}
+use Rattle.dimacs.specs.Reader.{firstDigit, afterWord, stepByte, ended, listFrom}
 use Rattle.dimacs_theory.proofs.Decimals.{digit-by-digit}
 use Rattle.dimacs_theory.proofs.Closings.{Closing, done, more, closing-counts, closing}
 
@@ -76,7 +77,8 @@ next-step {n} {x} {d} z h f =
     rw (is-digit d h, ne-eqb x 0 z, e, le-leb (x * 10 + d) (most n) (f .few))
 
 -- a number, from a state whose next byte is its first digit
-module _ {s u : State} {n : Number} {ls : List ℤ} (start : (d : ℕ) → d < 10 → Fits n d → (stepByte s (digit d) ≡ some (digits n d)) × (ended s (digit d) ≡ [])) where
+module _ {s u : State} {n : Number} {ls : List ℤ}
+    (start : (d : ℕ) → d < 10 → Fits n d → (stepByte s (digit d) ≡ some (digits n d)) × (ended s (digit d) ≡ [])) where
   pub number-run : (x : ℕ) → Fits n x → (rest : List ℕ) → Runs (digits n x) rest u ls → Runs s (decimal x ++ rest) u ls
   number-run = digit-by-digit P one more
     where

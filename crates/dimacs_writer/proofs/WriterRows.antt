@@ -104,7 +104,8 @@ module _ {v : ℕ} {ls : List ℤ} {buf : List ℕ} (f : TextFits v ls buf) {k :
   pub header-fits : length (headerLine v k) + length (lines ls) < 2 ^ 64
   header-fits = let s = f .small in omega (arith, text-append v ls, ap length header)
 
-  pub all-written : {b₁ new : List ℕ} {a r : ℕ} → Past v ls buf 2 → Wrote buf 0 (headerLine v k) b₁ a → Wrote b₁ a (lines ls) new r → Writes v ls buf (answer r 0 0) new
+  pub all-written : {b₁ new : List ℕ} {a r : ℕ} → Past v ls buf 2 → Wrote buf 0 (headerLine v k) b₁ a → Wrote b₁ a (lines ls) new r
+      → Writes v ls buf (answer r 0 0) new
   all-written {r = r} p w x =
       let t = wrote-after (wrote-recast header w) x in
       let n : r ≡ length (textOf v ls) = omega (arith, t .place) in

@@ -21,7 +21,8 @@ use Rattle.answers.specs.First.{orElse}
 use Rattle.cnf.specs.Literals.{closes, mostVariables, beyondAt, unclosed, wrongList}
 use Rattle.cnf.specs.Clauses.{clauseCount}
 use Rattle.answers.specs.Lists.{upTo, each}
-use Rattle.encoder.specs.Variables.{Variable, directions, opens, openCount, ifOpen, ifThere, neighbours, out, outgoing, linkVariables, clueCounts, counts, variables, variableCount, same, placeStep, place, number}
+use Rattle.encoder.specs.Variables.{Variable, directions, opens, openCount, ifOpen, ifThere, neighbours, out, outgoing, linkVariables, clueCounts, counts}
+use Rattle.encoder.specs.Variables.{variables, variableCount, same, placeStep, place, number}
 use Rattle.encoder.specs.Clauses.{Literal, plus, minus, Clause, clauses, signed, written, clauseList}
 use Rattle.encoder.specs.Small.{Small}
 use Rattle.answers.proofs.Elements.{all-append, all-at, all-each, all-map, length-from, length-each-most, keep-most, map-most}
@@ -94,7 +95,9 @@ literal-right b (plus v) m = number-most b m
 literal-right b (minus v) m = number-most b m
 
 written-right : (b : Board) (c : Clause) → Inside (variables b) c → All (Right (variableCount b)) (written b c)
-written-right b c h = all-append (Right (variableCount b)) (map (signed b) c) (pos 0 ∷ []) (all-map (Right (variableCount b)) (signed b) c (λ l m. literal-right b l (all-at (λ (l : Literal). variableOf l ∈ variables b) h m))) (omega arith, tt)
+written-right b c h =
+    all-append (Right (variableCount b)) (map (signed b) c) (pos 0 ∷ [])
+    (all-map (Right (variableCount b)) (signed b) c (λ l m. literal-right b l (all-at (λ (l : Literal). variableOf l ∈ variables b) h m))) (omega arith, tt)
 
 all-get : {A : Type 0} (P : A → Type 0) (d : A) (xs : List A) → All P xs → (i : ℕ) → i < length xs → P (getD xs i d)
 all-get P d [] h i l = absurd (omega arith)
@@ -132,7 +135,8 @@ count-clauses b = count-each b (clauses b)
 
 pub list-within : (b : Board) → Laws b → All (Right (variableCount b)) (clauseList b)
 unfolding clauseList
-list-within b law = all-each (Right (variableCount b)) (written b) (clauses b) (λ c m. written-right b c (all-at (Inside (variables b)) (clauses-within b law) m))
+list-within b law =
+    all-each (Right (variableCount b)) (written b) (clauses b) (λ c m. written-right b c (all-at (Inside (variables b)) (clauses-within b law) m))
 
 -- search and writer never find the list wrong
 pub list-right : (b : Board) → Laws b → wrongList (variableCount b) (clauseList b) ≡ none

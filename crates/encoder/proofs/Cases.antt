@@ -1,4 +1,5 @@
--- Document 01's starred grids and one with a clue on a clue's line, in one statement: what the encoder tells and writes. Each is computed; the lists were worked out apart from it.
+-- Document 01's starred grids and one with a clue on a clue's line, in one statement: what the encoder tells and writes. Each is computed; the lists are from
+-- an independent implementation.
 use Prim.Native.Nat.{ℕ}
 use lib.IntN.{ℤ, pos, negsuc}
 use lib.ListN.{length, replicate}

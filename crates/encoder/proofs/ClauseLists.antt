@@ -79,7 +79,8 @@ pub below-each : (b : Board) {A : Type 0} (F : ℕ → List A) (x : ℕ) → eac
 below-each b F zero = refl
 below-each b F (suc x) =
     let e : 0 + x ≡ x = omega arith in
-    ap (λ n. each (below b n) F) (sym (add-one x)) ∙ each-cell b x F ∙ (λ t. below-each b F x t ++ atCell b F (sym e t)) ∙ sym (each-next (atCell b F) 0 x) ∙ ap (λ n. each (upTo n) (atCell b F)) (add-one x)
+    ap (λ n. each (below b n) F) (sym (add-one x)) ∙ each-cell b x F ∙ (λ t. below-each b F x t ++ atCell b F (sym e t)) ∙ sym (each-next (atCell b F) 0 x)
+    ∙ ap (λ n. each (upTo n) (atCell b F)) (add-one x)
 
 -- the cells of lower rank are the open ones before x
 keep-all : {A : Type 0} (p : A → Bool) (xs : List A) → ((x : A) → x ∈ xs → p x ≡ true) → keep p xs ≡ xs
@@ -99,7 +100,8 @@ lower-is b x h =
     ∙ ap (keep before) (keep-append (b .isOpen) (upTo x) (from x (b .size - x)))
     ∙ keep-append before (below b x) (keep (b .isOpen) (from x (b .size - x)))
     ∙ (λ t. keep-all before (below b x) (λ y m. lt-ltb y x (of-upTo x (of-keep (b .isOpen) (upTo x) m .0))) t
-    ++ keep-none before (keep (b .isOpen) (from x (b .size - x))) (λ y m. le-ltb y x (of-from x (b .size - x) (of-keep (b .isOpen) (from x (b .size - x)) m .0) .0)) t)
+    ++ keep-none before (keep (b .isOpen) (from x (b .size - x)))
+    (λ y m. le-ltb y x (of-from x (b .size - x) (of-keep (b .isOpen) (from x (b .size - x)) m .0) .0)) t)
     ∙ append-nil (below b x)
   where
     before : ℕ → Bool
@@ -111,8 +113,12 @@ pairs-each f a zero = refl
 pairs-each f a (suc n) =
     let e : a + suc n - suc a ≡ n = omega arith in
     let i : suc a + n ≡ a + suc n = omega arith in
-    (λ t. map-map (notBoth (f a)) f (from (suc a) n) t ++ (pairs-each f (suc a) n ∙ ap (λ m. each (from (suc a) n) (λ t. map (λ u. notBoth (f t) (f u)) (from (suc t) (m - suc t)))) i) t)
-    ∙ ap (λ m. map (λ u. notBoth (f a) (f u)) (from (suc a) m) ++ each (from (suc a) n) (λ t. map (λ u. notBoth (f t) (f u)) (from (suc t) (a + suc n - suc t)))) (sym e)
+    (λ t.
+    map-map (notBoth (f a)) f (from (suc a) n) t ++
+    (pairs-each f (suc a) n ∙ ap (λ m. each (from (suc a) n) (λ t. map (λ u. notBoth (f t) (f u)) (from (suc t) (m - suc t)))) i) t)
+    ∙ ap
+    (λ m. map (λ u. notBoth (f a) (f u)) (from (suc a) m) ++ each (from (suc a) n) (λ t. map (λ u. notBoth (f t) (f u)) (from (suc t) (a + suc n - suc t))))
+    (sym e)
 
 -- 2. Clauses, as they are written
 
@@ -147,5 +153,6 @@ module _ (b : Board) where
     pub number-q : (x k : ℕ) → b .isOpen x ≡ true → k < openCount b → number b (Q x k) ≡ number b (Q x 0) + k
     number-q x k h l = let p = place-q b law x k h l in let q = place-q b law x 0 h (omega arith) in omega arith
 
-    pub number-t : (c : Clue) (cs : List Clue) (j t : ℕ) → At (b .clues) c cs → j ≤ length (c .line) → t ≤ c .number → number b (T (c .cell) j t) ≡ number b (T (c .cell) 0 0) + (j * suc (c .number) + t)
+    pub number-t : (c : Clue) (cs : List Clue) (j t : ℕ) → At (b .clues) c cs → j ≤ length (c .line) → t ≤ c .number
+        → number b (T (c .cell) j t) ≡ number b (T (c .cell) 0 0) + (j * suc (c .number) + t)
     number-t c cs j t m h k = let p = place-t b law c cs j t m h k in let q = place-t b law c cs 0 0 m (omega arith) (omega arith) in omega arith

@@ -23,20 +23,27 @@ module _ (p : Puzzle) where
   next-from (c ∷ cs) y zero h = let e : y + 0 ≡ y = omega arith in append-nil (clueOf p y c) ∙ ap (λ z. clueOf p z c) (sym e)
   next-from (c ∷ cs) y (suc x) h =
       let e : suc y + x ≡ y + suc x = omega arith in
-      ap (λ l. clueOf p y c ++ l) (next-from cs (suc y) x (omega arith)) ∙ sym (append-assoc (clueOf p y c) (cluesFrom p (suc y) (take x cs)) (clueOf p (suc y + x) (getD cs x Open)))
+      ap (λ l. clueOf p y c ++ l) (next-from cs (suc y) x (omega arith))
+      ∙ sym (append-assoc (clueOf p y c) (cluesFrom p (suc y) (take x cs)) (clueOf p (suc y + x) (getD cs x Open)))
       ∙ ap (λ z. (clueOf p y c ++ cluesFrom p (suc y) (take x cs)) ++ clueOf p z (getD cs x Open)) e
 
-  pub clues-next : (x : ℕ) → x < length (p .cells) → cluesFrom p 0 (take (x + 1) (p .cells)) ≡ cluesFrom p 0 (take x (p .cells)) ++ clueOf p x (getD (p .cells) x Open)
-  clues-next x h = let e : 0 + x ≡ x = omega arith in rw (add-one x) (next-from (p .cells) 0 x h ∙ ap (λ z. cluesFrom p 0 (take x (p .cells)) ++ clueOf p z (getD (p .cells) x Open)) e)
+  pub clues-next : (x : ℕ) → x < length (p .cells)
+      → cluesFrom p 0 (take (x + 1) (p .cells)) ≡ cluesFrom p 0 (take x (p .cells)) ++ clueOf p x (getD (p .cells) x Open)
+  clues-next x h =
+      let e : 0 + x ≡ x = omega arith in
+      rw (add-one x) (next-from (p .cells) 0 x h ∙ ap (λ z. cluesFrom p 0 (take x (p .cells)) ++ clueOf p z (getD (p .cells) x Open)) e)
 
   -- a clue in cell x: those of the first x cells stand before it
-  at-from : (cs : List Cell) (y x : ℕ) → x < length cs → {d : Direction} {n : ℕ} → getD cs x Open ≡ Clued d n → At (cluesFrom p y cs) (clue (y + x) d n) (cluesFrom p y (take x cs))
+  at-from : (cs : List Cell) (y x : ℕ) → x < length cs → {d : Direction} {n : ℕ} → getD cs x Open ≡ Clued d n
+      → At (cluesFrom p y cs) (clue (y + x) d n) (cluesFrom p y (take x cs))
   at-from [] y x h e = absurd (omega arith)
   at-from (c ∷ cs) y zero h {d} {n} e = let z : y + 0 ≡ y = omega arith in rw (z, e) (at-head (clue y d n) (cluesFrom p (suc y) cs))
   at-from (c ∷ cs) y (suc x) h e = let z : y + suc x ≡ suc y + x = omega arith in rw z (at-right (clueOf p y c) (at-from cs (suc y) x (omega arith) e))
 
-  pub at-clue : (x : ℕ) → x < length (p .cells) → {d : Direction} {n : ℕ} → getD (p .cells) x Open ≡ Clued d n → At (cluesFrom p 0 (p .cells)) (record { cell = x; number = n; line = line p d x }) (cluesFrom p 0 (take x (p .cells)))
+  pub at-clue : (x : ℕ) → x < length (p .cells) → {d : Direction} {n : ℕ} → getD (p .cells) x Open ≡ Clued d n
+      → At (cluesFrom p 0 (p .cells)) (record { cell = x; number = n; line = line p d x }) (cluesFrom p 0 (take x (p .cells)))
   at-clue x h e = let z : 0 + x ≡ x = omega arith in rw z at (at-from (p .cells) 0 x h e)
 
-  pub clue-in : (x : ℕ) → x < length (p .cells) → {d : Direction} {n : ℕ} → getD (p .cells) x Open ≡ Clued d n → record { cell = x; number = n; line = line p d x } ∈ cluesFrom p 0 (p .cells)
+  pub clue-in : (x : ℕ) → x < length (p .cells) → {d : Direction} {n : ℕ} → getD (p .cells) x Open ≡ Clued d n
+      → record { cell = x; number = n; line = line p d x } ∈ cluesFrom p 0 (p .cells)
   clue-in x h e = let m = at-clue x h e in rw (m .is) (Memᴰ·append-right (cluesFrom p 0 (take x (p .cells))) (List·Memᴰ·head refl))

@@ -13,7 +13,9 @@ use Rattle.rules.specs.declared.Direction.the-variants.{East as east}
 use Rattle.rules.specs.Board.{Board}
 use Rattle.answers.specs.Lists.{from, upTo, each, joined}
 use Rattle.encoder.specs.Variables.{Variable, Z, S, T, directions, opens, openCount, Neighbour, neighbours, out, outgoing, distancesAt, countsAt}
-use Rattle.encoder.specs.Clauses.{plus, minus, Clause, notBoth, pairs, orAny, eastSouth, touch, touchingAt, oneMore, countStep, cellClauses, lineClauses, noneBlack, clueParts, back, incoming, bothWhite, oneWay, linksAt, lower, blackBefore, eastward, startAt, someStart, noDistance, notAhead, nearer, fromOne, nearerEach, distanceAt, signed, written}
+use Rattle.encoder.specs.Clauses.{plus, minus, Clause, notBoth, pairs, orAny, eastSouth, touch, touchingAt, oneMore, countStep, cellClauses, lineClauses}
+use Rattle.encoder.specs.Clauses.{noneBlack, clueParts, back, incoming, bothWhite, oneWay, linksAt, lower, blackBefore, eastward, startAt, someStart}
+use Rattle.encoder.specs.Clauses.{noDistance, notAhead, nearer, fromOne, nearerEach, distanceAt, signed, written}
 use Rattle.answers.proofs.Elements.{of-upTo, each-append, length-from}
 use Rattle.encoder.proofs.ClauseLists.{each-next}
 
@@ -30,7 +32,10 @@ pairCount (suc n) = n + pairCount n
 pub pair-count : (n : ℕ) → pairCount n * 2 ≡ n * (n - 1)
 pair-count zero = refl
 pair-count (suc zero) = refl
-pair-count (suc (suc n)) = let h = pair-count (suc n) in let e : suc n - 1 ≡ n = omega arith in let i : suc (suc n) - 1 ≡ suc n = omega arith in rw i (omega (arith, ap (λ k. suc n * k) e, suc-mul (suc n) (suc n), mul-suc (suc n) n))
+pair-count (suc (suc n)) =
+    let h = pair-count (suc n) in
+    let e : suc n - 1 ≡ n = omega arith in
+    let i : suc (suc n) - 1 ≡ suc n = omega arith in rw i (omega (arith, ap (λ k. suc n * k) e, suc-mul (suc n) (suc n), mul-suc (suc n) n))
 
 module _ (b : Board) where
   written-long : (c : Clause) → length (written b c) ≡ suc (length c)
@@ -45,7 +50,10 @@ module _ (b : Board) where
       let j = q .clauses in
       let k = p .elements in
       let l = q .elements in
-      record { clauses = length-append cs ds ∙ omega arith; elements = ap length (each-append (written b) cs ds) ∙ length-append (each cs (written b)) (each ds (written b)) ∙ omega arith }
+      record {
+        clauses = length-append cs ds ∙ omega arith;
+        elements = ap length (each-append (written b) cs ds) ∙ length-append (each cs (written b)) (each ds (written b)) ∙ omega arith;
+      }
 
   sized-one : (c : Clause) {k : ℕ} → length c ≡ k → Sized b (c ∷ []) 1 (suc k)
   sized-one c e = record { clauses = refl; elements = length-append (written b c) [] ∙ omega (arith, written-long c) }
@@ -54,9 +62,13 @@ module _ (b : Board) where
   sized-map f k h [] = record { clauses = refl; elements = omega arith }
   sized-map f k h (x ∷ xs) =
       let p = sized-map f k h xs .elements in
-      record { clauses = length-map (x ∷ xs) f; elements = length-append (written b (f x)) (each (map f xs) (written b)) ∙ omega (arith, written-long (f x), h x, suc-mul (length xs) (suc k)) }
+      record {
+        clauses = length-map (x ∷ xs) f;
+        elements = length-append (written b (f x)) (each (map f xs) (written b)) ∙ omega (arith, written-long (f x), h x, suc-mul (length xs) (suc k));
+      }
 
-  sized-each : {A : Type 0} (f : A → List Clause) {n e : ℕ} (xs : List A) → ((x : A) → x ∈ xs → Sized b (f x) n e) → Sized b (each xs f) (length xs * n) (length xs * e)
+  sized-each : {A : Type 0} (f : A → List Clause) {n e : ℕ} (xs : List A) → ((x : A) → x ∈ xs → Sized b (f x) n e)
+      → Sized b (each xs f) (length xs * n) (length xs * e)
   sized-each f [] h = record { clauses = omega arith; elements = omega arith }
   sized-each f {n} {e} (x ∷ xs) h =
       let r = sized-append (h x (List·Memᴰ·head refl)) (sized-each f xs (λ y m. h y (List·Memᴰ·tail m))) in
@@ -91,7 +103,9 @@ module _ (b : Board) where
   -- 2. Clue lines, for a number n: past a clue, past an open cell
   module _ (a n j c : ℕ) where
     pairs-sized : Sized b (pairs (countsAt a n (suc j))) (pairCount (suc n)) (pairCount (suc n) * 3)
-    pairs-sized = let l : length (countsAt a n (suc j)) ≡ suc n = length-map (upTo (suc n)) _ ∙ length-from 0 (suc n) in sized-is (ap pairCount l) (ap (λ k. pairCount k * 3) l) (sized-pairs (countsAt a n (suc j)))
+    pairs-sized =
+        let l : length (countsAt a n (suc j)) ≡ suc n = length-map (upTo (suc n)) _ ∙ length-from 0 (suc n) in
+        sized-is (ap pairCount l) (ap (λ k. pairCount k * 3) l) (sized-pairs (countsAt a n (suc j)))
 
     past-clue : Sized b (each (upTo (suc n)) (countStep false a n j c)) (suc n) (suc n * 3)
     past-clue =
@@ -99,28 +113,35 @@ module _ (b : Board) where
         sized-is (omega arith) (omega arith) (sized-each (countStep false a n j c) {n = 1} {e = 3} (upTo (suc n)) (λ t m. sized-one _ refl))
 
     -- [−T(j,t) Zc T(j+1,t)] has four elements; what follows it too, but for t = n
-    two : (t : ℕ) (l : Bool) {k : ℕ} → length (oneMore l a j t c) ≡ k → Sized b ((minus (T a j t) ∷ plus (Z c) ∷ plus (T a (suc j) t) ∷ []) ∷ oneMore l a j t c ∷ []) 2 (4 + suc k)
+    two : (t : ℕ) (l : Bool) {k : ℕ} → length (oneMore l a j t c) ≡ k
+        → Sized b ((minus (T a j t) ∷ plus (Z c) ∷ plus (T a (suc j) t) ∷ []) ∷ oneMore l a j t c ∷ []) 2 (4 + suc k)
     two t l e = sized-append (sized-one (minus (T a j t) ∷ plus (Z c) ∷ plus (T a (suc j) t) ∷ []) refl) (sized-one (oneMore l a j t c) e)
 
     past-open : Sized b (each (upTo (suc n)) (countStep true a n j c)) (suc n * 2) (n * 8 + 7)
     past-open =
         let l = length-from 0 n in
-        let e : each (upTo n) (countStep true a n j c) ++ countStep true a n j c (0 + n) ≡ each (upTo (suc n)) (countStep true a n j c) = sym (each-next (countStep true a n j c) 0 n) ∙ ap (λ k. each (upTo k) (countStep true a n j c)) (add-one n) in
+        let e : each (upTo n) (countStep true a n j c) ++ countStep true a n j c (0 + n) ≡ each (upTo (suc n)) (countStep true a n j c) = sym (each-next (countStep true a n j c) 0 n)
+        ∙ ap (λ k. each (upTo k) (countStep true a n j c)) (add-one n) in
         sized-is (omega arith) (omega arith)
         (subst (λ cs. Sized b cs (length (upTo n) * 2 + 2) (length (upTo n) * 8 + 7)) e
         (sized-append (sized-each (countStep true a n j c) {n = 2} {e = 8} (upTo n) (λ t m. let h = of-upTo n m in rw (ne-eqb t n (omega arith)) (two t false refl))) (rw (eq-eqb (0 + n) n (omega arith)) (two (0 + n) true refl))))
 
-    pub cell-clue : (isOpen : ℕ → Bool) → isOpen c ≡ false → Sized b (cellClauses isOpen a n j c) (suc n + pairCount (suc n)) (suc n * 3 + pairCount (suc n) * 3)
+    pub cell-clue : (isOpen : ℕ → Bool) → isOpen c ≡ false
+        → Sized b (cellClauses isOpen a n j c) (suc n + pairCount (suc n)) (suc n * 3 + pairCount (suc n) * 3)
     cell-clue isOpen h = rw h (sized-is (omega arith) (omega arith) (sized-append past-clue (sized-append pairs-sized sized-none)))
 
-    pub cell-open : (isOpen : ℕ → Bool) → isOpen c ≡ true → Sized b (cellClauses isOpen a n j c) (suc n * 2 + pairCount (suc n)) (n * 8 + 7 + pairCount (suc n) * 3)
+    pub cell-open : (isOpen : ℕ → Bool) → isOpen c ≡ true
+        → Sized b (cellClauses isOpen a n j c) (suc n * 2 + pairCount (suc n)) (n * 8 + 7 + pairCount (suc n) * 3)
     cell-open isOpen h = rw h (sized-is (omega arith) (omega arith) (sized-append past-open (sized-append pairs-sized sized-none)))
 
   -- [T(0,0)], [−T(0,t)] for t = 1 to n, last [T(L,n)]
-  pub clue-sized : (a n : ℕ) (cs : List ℕ) (isOpen : ℕ → Bool) {m e : ℕ} → Sized b (lineClauses isOpen a n 0 cs) m e → Sized b (joined (clueParts isOpen a n cs)) (n + 2 + m) (n * 2 + 4 + e)
+  pub clue-sized : (a n : ℕ) (cs : List ℕ) (isOpen : ℕ → Bool) {m e : ℕ} → Sized b (lineClauses isOpen a n 0 cs) m e
+      → Sized b (joined (clueParts isOpen a n cs)) (n + 2 + m) (n * 2 + 4 + e)
   clue-sized a n cs isOpen h =
       let l = length-from 1 n in
-      sized-is (omega arith) (omega arith) (sized-append (sized-one _ refl) (sized-append (sized-map (noneBlack a) 1 (λ t. refl) (from 1 n)) (sized-append h (sized-append (sized-one _ refl) sized-none))))
+      sized-is (omega arith) (omega arith)
+      (sized-append (sized-one _ refl)
+      (sized-append (sized-map (noneBlack a) 1 (λ t. refl) (from 1 n)) (sized-append h (sized-append (sized-one _ refl) sized-none))))
 
   module _ (x : ℕ) where
     abbrev ys : List Neighbour
@@ -143,7 +164,9 @@ module _ (b : Board) where
     pub start-sized : Sized b (startAt b x) (length (lower b x) + 2) (length (lower b x) * 3 + 5 + length (neighbours b x (east ∷ [])))
     start-sized =
         let e : length (eastward b x) ≡ suc (length (neighbours b x (east ∷ []))) = ap suc (length-map (map (out x) (neighbours b x (east ∷ []))) plus ∙ length-map (neighbours b x (east ∷ [])) (out x)) in
-        sized-is (omega arith) (omega arith) (sized-append (sized-one _ refl) (sized-append (sized-map (blackBefore x) 2 (λ y. refl) (lower b x)) (sized-append (sized-one (eastward b x) e) sized-none)))
+        sized-is (omega arith) (omega arith)
+        (sized-append (sized-one _ refl)
+        (sized-append (sized-map (blackBefore x) 2 (λ y. refl) (lower b x)) (sized-append (sized-one (eastward b x) e) sized-none)))
 
     -- 5. Distance, with F open cells
     pub distance-sized : Sized b (distanceAt b x) (openCount b + length (fromOne b) + 3 + around x * length (fromOne b)) (openCount b * 4 + length (fromOne b) * 3 + 8 + around x * (length (fromOne b) * 4))

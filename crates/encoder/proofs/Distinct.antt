@@ -10,7 +10,8 @@ use Rattle.rules.specs.declared.Direction.{Direction}
 use Rattle.rules.specs.Board.{Clue, Board}
 use Rattle.rules.proofs.Boards.{Laws}
 use Rattle.answers.specs.Lists.{upTo, each}
-use Rattle.encoder.specs.Variables.{Variable, Z, S, E, Q, T, directions, opens, openCount, Neighbour, neighbours, out, outgoing, blacks, starts, linkVariables, distances, countsAt, clueCounts, counts, variables}
+use Rattle.encoder.specs.Variables.{Variable, Z, S, E, Q, T, directions, opens, openCount, Neighbour, neighbours, out, outgoing, blacks, starts}
+use Rattle.encoder.specs.Variables.{linkVariables, distances, countsAt, clueCounts, counts, variables}
 use Rattle.answers.proofs.Elements.{of-each, apart-append, apart-map, apart-each, apart-from}
 use Rattle.encoder.proofs.Neighbours.{apart-opens, links-apart}
 
@@ -31,7 +32,8 @@ record From (k : ℕ) (vs : List Variable) : Type 0 where
   once : Apart vs
 
 join : (k : ℕ) (us vs : List Variable) → Just k us → From (suc k) vs → From k (us ++ vs)
-join k us vs p q = record { above = λ v m. by v (List·Memᴰ·append-cases us m); once = apart-append us vs (p .once) (q .once) (λ v m n. off v (p .is v m) (q .above v n)) }
+join k us vs p q =
+    record { above = λ v m. by v (List·Memᴰ·append-cases us m); once = apart-append us vs (p .once) (q .once) (λ v m n. off v (p .is v m) (q .above v n)) }
   where
     by : (v : Variable) → (v ∈ us) ⊎ (v ∈ vs) → k ≤ letter v
     by v (inl m) = let h : letter v ≡ k = p .is v m in omega arith
@@ -44,7 +46,8 @@ mapped : (k : ℕ) {A : Type 0} (f : A → Variable) (xs : List A) → ((x : A) 
 mapped k f xs h v m = let r = Memᴰ·of-map f xs m in ap letter (sym (r .2)) ∙ h (r .0)
 
 -- what is made of each number of a list: f x of each element that x gives
-of-numbers : (k : ℕ) {A : Type 0} (f : ℕ → A → Variable) (els : ℕ → List A) (xs : List ℕ) → ((x : ℕ) (a : A) → letter (f x a) ≡ k) → ((x y : ℕ) (a c : A) → f x a ≡ f y c → x ≡ y) → Apart xs → ((x : ℕ) → Apart (map (f x) (els x))) → Just k (each xs (λ x. map (f x) (els x)))
+of-numbers : (k : ℕ) {A : Type 0} (f : ℕ → A → Variable) (els : ℕ → List A) (xs : List ℕ) → ((x : ℕ) (a : A) → letter (f x a) ≡ k)
+    → ((x y : ℕ) (a c : A) → f x a ≡ f y c → x ≡ y) → Apart xs → ((x : ℕ) → Apart (map (f x) (els x))) → Just k (each xs (λ x. map (f x) (els x)))
 of-numbers k f els xs h inj p q = record { is = all; once = apart-each (λ x. x) (λ x. map (f x) (els x)) xs p (λ x m. q x) key }
   where
     all : (v : Variable) → v ∈ each xs (λ x. map (f x) (els x)) → letter v ≡ k
@@ -99,10 +102,14 @@ module _ (b : Board) where
   part-e = of-numbers 2 out (λ x. neighbours b x directions) (opens b) (λ x y. refl) e-cell (apart-opens b) outgoing-apart
 
   part-q : Just 3 (distances b)
-  part-q = of-numbers 3 (λ x k. Q x k) (λ x. upTo (openCount b)) (opens b) (λ x k. refl) q-cell (apart-opens b) (λ x. apart-map (λ k. Q x k) (q-count x) (upTo (openCount b)) (apart-from 0 (openCount b)))
+  part-q =
+      of-numbers 3 (λ x k. Q x k) (λ x. upTo (openCount b)) (opens b) (λ x k. refl) q-cell (apart-opens b)
+      (λ x. apart-map (λ k. Q x k) (q-count x) (upTo (openCount b)) (apart-from 0 (openCount b)))
 
   clue-just : (c : Clue) → Just 4 (clueCounts c)
-  clue-just c = of-numbers 4 (λ j t. T (c .cell) j t) (λ j. upTo (suc (c .number))) (upTo (suc (length (c .line)))) (λ j t. refl) (t-row (c .cell)) (apart-from 0 (suc (length (c .line)))) (counts-apart (c .cell) (c .number))
+  clue-just c =
+      of-numbers 4 (λ j t. T (c .cell) j t) (λ j. upTo (suc (c .number))) (upTo (suc (length (c .line)))) (λ j t. refl) (t-row (c .cell))
+      (apart-from 0 (suc (length (c .line)))) (counts-apart (c .cell) (c .number))
 
   part-t : Laws b → Just 4 (counts b)
   part-t law = record { is = all; once = apart-each (λ (c : Clue). c .cell) clueCounts (b .clues) (law .clues-apart) (λ c m. clue-just c .once) key }

@@ -11,7 +11,8 @@ use Rattle.answers.specs.Lists.{_∈_}
 use Rattle.rules.specs.Board.{Clue, Board}
 use Rattle.rules.proofs.Boards.{Laws}
 use Rattle.answers.specs.Lists.{upTo}
-use Rattle.encoder.specs.Variables.{Variable, Z, S, E, Q, T, directions, opens, openCount, Neighbour, neighbours, out, outgoing, blacks, starts, linkVariables, distancesAt, distances, countsAt, clueCounts, counts, letters, variables}
+use Rattle.encoder.specs.Variables.{Variable, Z, S, E, Q, T, directions, opens, openCount, Neighbour, neighbours, out, outgoing, blacks, starts}
+use Rattle.encoder.specs.Variables.{linkVariables, distancesAt, distances, countsAt, clueCounts, counts, letters, variables}
 use Rattle.answers.proofs.Elements.{in-each, of-each, in-joined, in-upTo, of-upTo}
 use Rattle.encoder.proofs.Neighbours.{of-opens, in-opens, in-directions, Beside, of-neighbours, in-neighbours}
 
@@ -23,7 +24,8 @@ Known b (Q x k) = (b .isOpen x ≡ true) × (k < openCount b)
 Known b (T a j t) = (c : Clue) × (c ∈ b .clues) × (c .cell ≡ a) × (j ≤ length (c .line)) × (t ≤ c .number)
 
 module _ (b : Board) where
-  of-part : (us vs : List Variable) → ((v : Variable) → v ∈ us → Known b v) → ((v : Variable) → v ∈ vs → Known b v) → (v : Variable) → v ∈ (us ++ vs) → Known b v
+  of-part : (us vs : List Variable) → ((v : Variable) → v ∈ us → Known b v) → ((v : Variable) → v ∈ vs → Known b v) → (v : Variable) → v ∈ (us ++ vs)
+      → Known b v
   of-part us vs f g v m = by (List·Memᴰ·append-cases us m)
     where
       by : (v ∈ us) ⊎ (v ∈ vs) → Known b v
@@ -70,9 +72,11 @@ module _ (b : Board) where
     in-variables (S x) h = in-joined {xss = letters b} (List·Memᴰ·tail (List·Memᴰ·head refl)) (Memᴰ·map (λ x. S x) (in-opens b law h))
     in-variables (E x d) (h, (y, e, o)) =
         in-joined {xss = letters b} (List·Memᴰ·tail (List·Memᴰ·tail (List·Memᴰ·head refl)))
-        (in-each (outgoing b) (in-opens b law h) (Memᴰ·map (out x) (in-neighbours b x directions (record { way = d; cell = y }) (in-directions d) (record { leads = e; opened = o }))))
+        (in-each (outgoing b) (in-opens b law h)
+        (Memᴰ·map (out x) (in-neighbours b x directions (record { way = d; cell = y }) (in-directions d) (record { leads = e; opened = o }))))
     in-variables (Q x k) (h, l) =
-        in-joined {xss = letters b} (List·Memᴰ·tail (List·Memᴰ·tail (List·Memᴰ·tail (List·Memᴰ·head refl)))) (in-each (distancesAt b) (in-opens b law h) (Memᴰ·map (λ k. Q x k) (in-upTo (openCount b) k l)))
+        in-joined {xss = letters b} (List·Memᴰ·tail (List·Memᴰ·tail (List·Memᴰ·tail (List·Memᴰ·head refl))))
+        (in-each (distancesAt b) (in-opens b law h) (Memᴰ·map (λ k. Q x k) (in-upTo (openCount b) k l)))
     in-variables (T a j t) (c, m, e, h, l) =
         subst (λ z. T z j t ∈ variables b) e
         (in-joined {xss = letters b} (List·Memᴰ·tail (List·Memᴰ·tail (List·Memᴰ·tail (List·Memᴰ·tail (List·Memᴰ·head refl)))))

@@ -12,7 +12,10 @@ use Rattle.rules.specs.declared.Direction.the-variants.{East as east}
 use Rattle.rules.specs.Board.{Clue, Board}
 use Rattle.answers.specs.Lists.{from, upTo, each, joined}
 use Rattle.encoder.specs.Variables.{Variable, Z, S, Q, T, directions, opens, openCount, neighbours, out, outgoing, distancesAt, countsAt}
-use Rattle.encoder.specs.Clauses.{plus, minus, Clause, notBoth, pairs, orAny, eastSouth, touch, touchingAt, oneMore, countStep, cellParts, cellClauses, lineClauses, noneBlack, clueParts, clueClauses, back, incoming, bothWhite, oneWay, linkParts, linksAt, lower, blackBefore, eastward, startParts, startAt, someStart, noDistance, notAhead, nearer, fromOne, nearerEach, distanceParts, distanceAt, families, clauses, signed, written, clauseList}
+use Rattle.encoder.specs.Clauses.{plus, minus, Clause, notBoth, pairs, orAny, eastSouth, touch, touchingAt, oneMore, countStep, cellParts, cellClauses}
+use Rattle.encoder.specs.Clauses.{lineClauses, noneBlack, clueParts, clueClauses, back, incoming, bothWhite, oneWay, linkParts, linksAt, lower}
+use Rattle.encoder.specs.Clauses.{blackBefore, eastward, startParts, startAt, someStart, noDistance, notAhead, nearer, fromOne, nearerEach, distanceParts}
+use Rattle.encoder.specs.Clauses.{distanceAt, families, clauses, signed, written, clauseList}
 use Rattle.encoder.specs.Small.{Small}
 use Rattle.answers.proofs.Elements.{all-append, all-at, all-each, all-map, length-from, length-each-most, keep-most, map-most}
 use Rattle.encoder.proofs.Bounds.{neighbours-most, open-few}
@@ -29,7 +32,9 @@ few-one : (c : Clause) → length c ≤ 2026 → Few 1 (c ∷ [])
 few-one c h = record { many = omega arith; short = (h, tt) }
 
 few-append : {m n : ℕ} (cs ds : List Clause) → Few m cs → Few n ds → Few (m + n) (cs ++ ds)
-few-append cs ds p q = let i = p .many in let j = q .many in record { many = omega (arith, length-append cs ds); short = all-append (λ (c : Clause). length c ≤ 2026) cs ds (p .short) (q .short) }
+few-append cs ds p q =
+    let i = p .many in
+    let j = q .many in record { many = omega (arith, length-append cs ds); short = all-append (λ (c : Clause). length c ≤ 2026) cs ds (p .short) (q .short) }
 
 few-map : {A : Type 0} (f : A → Clause) (xs : List A) (n : ℕ) → length xs ≤ n → ((x : A) → length (f x) ≤ 2026) → Few n (map f xs)
 few-map f xs n h k = record { many = map-most f xs n h; short = all-map (λ (c : Clause). length c ≤ 2026) f xs (λ x m. k x) }
@@ -64,7 +69,8 @@ few-joined (n ∷ ns) (p ∷ ps) h = few-append p (joined ps) (h .0) (few-joined
 some-pairs : (vs : List Variable) (m : ℕ) → length vs ≤ m → Few (length vs * m) (pairs vs)
 some-pairs [] m h = few-more (omega arith) few-none
 some-pairs (v ∷ vs) m h =
-    few-more (omega (arith, suc-mul (length vs) m)) (few-append (map (notBoth v) vs) (pairs vs) (few-map (notBoth v) vs m (omega arith) (λ u. omega arith)) (some-pairs vs m (omega arith)))
+    few-more (omega (arith, suc-mul (length vs) m))
+    (few-append (map (notBoth v) vs) (pairs vs) (few-map (notBoth v) vs m (omega arith) (λ u. omega arith)) (some-pairs vs m (omega arith)))
 
 few-pairs : (vs : List Variable) (m : ℕ) → length vs ≤ m → Few (m * m) (pairs vs)
 few-pairs vs m h = few-more (mul-le-mul-right m h) (some-pairs vs m h)
@@ -108,13 +114,17 @@ module _ (b : Board) (small : Small b) where
 
     line-few : (j : ℕ) (xs : List ℕ) → Few (length xs * 2115) (lineClauses (b .isOpen) a n j xs)
     line-few j [] = few-none
-    line-few j (x ∷ xs) = few-more (omega arith) (few-append (cellClauses (b .isOpen) a n j x) (lineClauses (b .isOpen) a n (suc j) xs) (cell-few j x) (line-few (suc j) xs))
+    line-few j (x ∷ xs) =
+        few-more (omega arith) (few-append (cellClauses (b .isOpen) a n j x) (lineClauses (b .isOpen) a n (suc j) xs) (cell-few j x) (line-few (suc j) xs))
 
     clue-few : Few 93106 (clueClauses (b .isOpen) c)
     clue-few =
         few-joined (1 ∷ 44 ∷ 93060 ∷ 1 ∷ []) (clueParts (b .isOpen) a n (c .line)) (
           few-one _ (omega arith),
-          (few-map (noneBlack a) (from 1 n) 44 (omega (arith, length-from 1 n)) (λ t. omega arith), (few-more (omega arith) (line-few 0 (c .line)), (few-one _ (omega arith), tt))),
+          (
+            few-map (noneBlack a) (from 1 n) 44 (omega (arith, length-from 1 n)) (λ t. omega arith),
+            (few-more (omega arith) (line-few 0 (c .line)), (few-one _ (omega arith), tt)),
+          ),
         )
 
   -- 3. Links
@@ -127,14 +137,18 @@ module _ (b : Board) (small : Small b) where
   links-few : (x : ℕ) → Few 44 (linksAt b x)
   links-few x =
       few-joined (8 ∷ 1 ∷ 16 ∷ 1 ∷ 16 ∷ 2 ∷ []) (linkParts b x) (
-        few-each (bothWhite x) (neighbours b x directions) 4 2 (neighbours-most b x directions) (λ y m. record { many = omega arith; short = (omega arith, (omega arith, tt)) }),
+        few-each (bothWhite x) (neighbours b x directions) 4 2 (neighbours-most b x directions)
+            (λ y m. record { many = omega arith; short = (omega arith, (omega arith, tt)) }),
         (
           few-any (Z x) (outgoing b x) (omega (arith, outgoing-most x)),
           (
             few-pairs (outgoing b x) 4 (outgoing-most x),
             (
               few-any (Z x) (incoming b x) (omega (arith, incoming-most x)),
-              (few-pairs (incoming b x) 4 (incoming-most x), (few-map (oneWay x) (neighbours b x eastSouth) 2 (neighbours-most b x eastSouth) (λ y. omega arith), tt)),
+              (
+                few-pairs (incoming b x) 4 (incoming-most x),
+                (few-map (oneWay x) (neighbours b x eastSouth) 2 (neighbours-most b x eastSouth) (λ y. omega arith), tt),
+              ),
             ),
           ),
         ),
@@ -164,7 +178,8 @@ module _ (b : Board) (small : Small b) where
             (
               few-map (notAhead x) (fromOne b) 2025 (omega (arith, length-from 1 (openCount b - 1), few-opens)) (λ k. omega arith),
               (
-                few-each (nearerEach b x) (neighbours b x directions) 4 2025 (neighbours-most b x directions) (λ y m. few-map (nearer x y) (fromOne b) 2025 (omega (arith, length-from 1 (openCount b - 1), few-opens)) (λ k. omega arith)),
+                few-each (nearerEach b x) (neighbours b x directions) 4 2025 (neighbours-most b x directions)
+                    (λ y m. few-map (nearer x y) (fromOne b) 2025 (omega (arith, length-from 1 (openCount b - 1), few-opens)) (λ k. omega arith)),
                 tt,
               ),
             ),
@@ -178,11 +193,14 @@ module _ (b : Board) (small : Small b) where
       few-more (omega arith) (few-joined (4050 ∷ 188539650 ∷ 89100 ∷ 4104676 ∷ 24609825 ∷ []) (families b) (
         few-each (touchingAt b) (opens b) 2025 2 few-opens (λ x m. touching-few x),
         (
-          few-each (clueClauses (b .isOpen)) (b .clues) 2025 93106 (small .clues) (λ c m. let (l, n) = all-at (λ (c : Clue). (length (c .line) ≤ 44) × (c .number ≤ 44)) (small .short) m in clue-few c l n),
+          few-each (clueClauses (b .isOpen)) (b .clues) 2025 93106 (small .clues)
+              (λ c m. let (l, n) = all-at (λ (c : Clue). (length (c .line) ≤ 44) × (c .number ≤ 44)) (small .short) m in clue-few c l n),
           (
             few-each (linksAt b) (opens b) 2025 44 few-opens (λ x m. links-few x),
             (
-              few-append (someStart b ∷ []) (each (opens b) (startAt b)) (few-one (someStart b) (omega (arith, length-map (map (λ x. S x) (opens b)) plus, length-map (opens b) (λ x. S x), few-opens))) (few-each (startAt b) (opens b) 2025 2027 few-opens (λ x m. start-few x)),
+              few-append (someStart b ∷ []) (each (opens b) (startAt b))
+                  (few-one (someStart b) (omega (arith, length-map (map (λ x. S x) (opens b)) plus, length-map (opens b) (λ x. S x), few-opens)))
+                  (few-each (startAt b) (opens b) 2025 2027 few-opens (λ x m. start-few x)),
               (few-each (distanceAt b) (opens b) 2025 12153 few-opens (λ x m. distance-few x), tt),
             ),
           ),

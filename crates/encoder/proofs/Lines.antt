@@ -75,7 +75,8 @@ module _ (g : Grid) where
   outward-short d zero x seen = omega arith
   outward-short d (suc fuel) x seen = by (neighbour g d x) refl (λ y. outward-short d fuel y (y ∷ seen))
     where
-      by : (o : Option ℕ) → neighbour g d x ≡ o → ((y : ℕ) → length (outward g d fuel y (y ∷ seen)) ≤ suc (length seen) + left d y) → length (beyond o seen (λ y. outward g d fuel y (y ∷ seen))) ≤ length seen + left d x
+      by : (o : Option ℕ) → neighbour g d x ≡ o → ((y : ℕ) → length (outward g d fuel y (y ∷ seen)) ≤ suc (length seen) + left d y)
+          → length (beyond o seen (λ y. outward g d fuel y (y ∷ seen))) ≤ length seen + left d x
       by none e go = omega arith
       by (some y) e go = let n : left d y < left d x = nearer d x y e in let l = go y in omega arith
 

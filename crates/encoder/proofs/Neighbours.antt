@@ -69,7 +69,9 @@ in-neighbours b x ds y m k = in-each (λ d. ifThere b d (b .next d x)) m (rw (k 
 
 -- variables that tell the way are apart for the open neighbours of a cell
 pub links-apart : (b : Board) (x : ℕ) (f : Neighbour → Variable) → ((y z : Neighbour) → f y ≡ f z → y .way ≡ z .way) → Apart (map f (neighbours b x directions))
-links-apart b x f tell = rw (map-each f (λ d. ifThere b d (b .next d x)) directions) (apart-each turn (λ d. map f (ifThere b d (b .next d x))) directions apart-directions (λ d m. one d (b .next d x)) key)
+links-apart b x f tell =
+    rw (map-each f (λ d. ifThere b d (b .next d x)) directions)
+    (apart-each turn (λ d. map f (ifThere b d (b .next d x))) directions apart-directions (λ d m. one d (b .next d x)) key)
   where
     one : (d : Direction) (o : Option ℕ) → Apart (map f (ifThere b d o))
     one d none = tt

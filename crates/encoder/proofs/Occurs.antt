@@ -14,8 +14,12 @@ use Rattle.rules.specs.Directions.{opposite}
 use Rattle.rules.specs.Board.{Clue, Board}
 use Rattle.rules.proofs.Boards.{Laws}
 use Rattle.answers.specs.Lists.{from, upTo}
-use Rattle.encoder.specs.Variables.{Variable, Z, S, Q, T, directions, opens, openCount, Neighbour, neighbours, out, outgoing, distancesAt, countsAt, variables}
-use Rattle.encoder.specs.Clauses.{Literal, plus, minus, Clause, notBoth, pairs, eastSouth, touch, touchingAt, oneMore, countStep, cellParts, cellClauses, lineClauses, noneBlack, clueParts, clueClauses, back, incoming, bothWhite, oneWay, linkParts, linksAt, lower, blackBefore, startParts, startAt, noDistance, notAhead, nearer, fromOne, nearerEach, distanceParts, distanceAt, families, clauses}
+use Rattle.encoder.specs.Variables.{Variable, Z, S, Q, T, directions, opens, openCount, Neighbour, neighbours, out, outgoing, distancesAt, countsAt}
+use Rattle.encoder.specs.Variables.{variables}
+use Rattle.encoder.specs.Clauses.{Literal, plus, minus, Clause, notBoth, pairs, eastSouth, touch, touchingAt, oneMore, countStep, cellParts, cellClauses}
+use Rattle.encoder.specs.Clauses.{lineClauses, noneBlack, clueParts, clueClauses, back, incoming, bothWhite, oneWay, linkParts, linksAt, lower}
+use Rattle.encoder.specs.Clauses.{blackBefore, startParts, startAt, noDistance, notAhead, nearer, fromOne, nearerEach, distanceParts, distanceAt}
+use Rattle.encoder.specs.Clauses.{families, clauses}
 use Rattle.answers.proofs.Elements.{all-append, all-at, all-each, all-map, all-joined, of-from, of-upTo, of-keep}
 use Rattle.encoder.proofs.Neighbours.{of-opens, Beside, of-neighbours}
 use Rattle.encoder.proofs.Known.{in-variables, in-e, in-t}
@@ -34,7 +38,8 @@ Within vs cs = All (Inside vs) cs
 pairs-within : (vs us : List Variable) → All (λ u. u ∈ vs) us → Within vs (pairs us)
 pairs-within vs [] h = tt
 pairs-within vs (u ∷ us) h =
-    all-append (Inside vs) (map (notBoth u) us) (pairs us) (all-map (Inside vs) (notBoth u) us (λ v m. (h .0, (all-at (λ v. v ∈ vs) (h .1) m, tt)))) (pairs-within vs us (h .1))
+    all-append (Inside vs) (map (notBoth u) us) (pairs us) (all-map (Inside vs) (notBoth u) us (λ v m. (h .0, (all-at (λ v. v ∈ vs) (h .1) m, tt))))
+    (pairs-within vs us (h .1))
 
 some-first : {x : ℕ} {xs : List ℕ} → x ∈ xs → 0 < length xs
 some-first (List·Memᴰ·head e) = omega arith
@@ -74,7 +79,8 @@ module _ (b : Board) (law : Laws b) where
     line-fine j (x ∷ xs) e =
         all-append Fine (cellClauses (b .isOpen) (c .cell) (c .number) j x) (lineClauses (b .isOpen) (c .cell) (c .number) (suc j) xs)
         (all-joined Fine (cellParts (b .isOpen) (c .cell) (c .number) j x) (
-          all-each Fine (countStep (b .isOpen x) (c .cell) (c .number) j x) (upTo (suc (c .number))) (λ t n. let l = of-upTo (suc (c .number)) n in past-fine j t x (b .isOpen x) refl (omega arith) (omega arith)),
+          all-each Fine (countStep (b .isOpen x) (c .cell) (c .number) j x) (upTo (suc (c .number)))
+              (λ t n. let l = of-upTo (suc (c .number)) n in past-fine j t x (b .isOpen x) refl (omega arith) (omega arith)),
           (pairs-within (variables b) (countsAt (c .cell) (c .number) (suc j)) (counts-in (suc j) (omega arith)), tt),
         ))
         (line-fine (suc j) xs (omega arith))
@@ -84,7 +90,8 @@ module _ (b : Board) (law : Laws b) where
         all-joined Fine (clueParts (b .isOpen) (c .cell) (c .number) (c .line)) (
           ((in-t b law m 0 0 (omega arith) (omega arith), tt), tt),
           (
-            all-map Fine (noneBlack (c .cell)) (from 1 (c .number)) (λ t n. let r = of-from 1 (c .number) n in (in-t b law m 0 t (omega arith) (omega arith), tt)),
+            all-map Fine (noneBlack (c .cell)) (from 1 (c .number))
+                (λ t n. let r = of-from 1 (c .number) n in (in-t b law m 0 t (omega arith) (omega arith), tt)),
             (line-fine 0 (c .line) (omega arith), (((in-t b law m (length (c .line)) (c .number) (omega arith) (omega arith), tt), tt), tt)),
           ),
         )
@@ -115,7 +122,8 @@ module _ (b : Board) (law : Laws b) where
     back-in : (ds : List Direction) (y : Neighbour) → y ∈ neighbours b x ds → In (back y)
     back-in ds y n =
         let k = beside ds y n in
-        in-e b law (y .cell) (record { way = opposite (y .way); cell = x }) (k .opened) (record { leads = law .wired .back (y .way) x (y .cell) (k .leads); opened = x-open })
+        in-e b law (y .cell) (record { way = opposite (y .way); cell = x }) (k .opened)
+        (record { leads = law .wired .back (y .way) x (y .cell) (k .leads); opened = x-open })
 
     outgoing-in : All In (outgoing b x)
     outgoing-in = all-map In (out x) (neighbours b x directions) (out-in directions)
@@ -131,14 +139,18 @@ module _ (b : Board) (law : Laws b) where
     links-fine : Within (variables b) (linksAt b x)
     links-fine =
         all-joined Fine (linkParts b x) (
-          all-each Fine (bothWhite x) (neighbours b x directions) (λ y n. ((out-in directions y n, (z, tt)), ((out-in directions y n, (zy directions y n, tt)), tt))),
+          all-each Fine (bothWhite x) (neighbours b x directions)
+              (λ y n. ((out-in directions y n, (z, tt)), ((out-in directions y n, (zy directions y n, tt)), tt))),
           (
             ((z, any-fine (outgoing b x) outgoing-in), tt),
             (
               pairs-within (variables b) (outgoing b x) outgoing-in,
               (
                 ((z, any-fine (incoming b x) incoming-in), tt),
-                (pairs-within (variables b) (incoming b x) incoming-in, (all-map Fine (oneWay x) (neighbours b x eastSouth) (λ y n. (out-in eastSouth y n, (back-in eastSouth y n, tt))), tt)),
+                (
+                  pairs-within (variables b) (incoming b x) incoming-in,
+                  (all-map Fine (oneWay x) (neighbours b x eastSouth) (λ y n. (out-in eastSouth y n, (back-in eastSouth y n, tt))), tt),
+                ),
               ),
             ),
           ),

@@ -12,7 +12,9 @@ use Rattle.rules.specs.declared.Direction.the-variants.{North as north, East as
 use Rattle.rules.specs.Board.{Clue, Board}
 use Rattle.rules.proofs.Boards.{Laws}
 use Rattle.answers.specs.Lists.{from, upTo, each, joined, keepStep, keep}
-use Rattle.encoder.specs.Variables.{Variable, Z, S, E, Q, T, directions, opens, openCount, ifThere, neighbours, out, outgoing, blacks, starts, linkVariables, distancesAt, distances, countsAt, clueCounts, counts, letters, variables, variableCount, same, placeStep, place}
+use Rattle.encoder.specs.Variables.{Variable, Z, S, E, Q, T, directions, opens, openCount, ifThere, neighbours, out, outgoing, blacks, starts}
+use Rattle.encoder.specs.Variables.{linkVariables, distancesAt, distances, countsAt, clueCounts, counts, letters, variables, variableCount, same}
+use Rattle.encoder.specs.Variables.{placeStep, place}
 use Rattle.answers.proofs.Elements.{each-append, keep-append, length-from, length-each}
 use Rattle.encoder.proofs.Distinct.{variables-apart}
 
@@ -34,12 +36,15 @@ at-right {x = x} {us = us} ys p = record { rest = p .rest; is = ap (λ zs. ys ++
 at-map : {A B : Type 0} (f : A → B) {xs : List A} {x : A} {us : List A} → At xs x us → At (map f xs) (f x) (map f us)
 at-map f {x = x} {us = us} p = record { rest = map f (p .rest); is = ap (map f) (p .is) ∙ map-append f us (x ∷ p .rest) }
 
-at-each : {A B : Type 0} (f : A → List B) {xs : List A} {x : A} {us : List A} {v : B} {ws : List B} → At xs x us → At (f x) v ws → At (each xs f) v (each us f ++ ws)
+at-each : {A B : Type 0} (f : A → List B) {xs : List A} {x : A} {us : List A} {v : B} {ws : List B} → At xs x us → At (f x) v ws
+    → At (each xs f) v (each us f ++ ws)
 at-each f {xs = xs} {x = x} {us = us} {v = v} {ws = ws} p q =
-    subst (λ zs. At zs v (each us f ++ ws)) (sym (ap (λ zs. each zs f) (p .is) ∙ each-append f us (x ∷ p .rest))) (at-right (each us f) (at-left (each (p .rest) f) q))
+    subst (λ zs. At zs v (each us f ++ ws)) (sym (ap (λ zs. each zs f) (p .is) ∙ each-append f us (x ∷ p .rest)))
+    (at-right (each us f) (at-left (each (p .rest) f) q))
 
 at-keep : {A : Type 0} (t : A → Bool) {xs : List A} {x : A} {us : List A} → At xs x us → t x ≡ true → At (keep t xs) x (keep t us)
-at-keep t {x = x} {us = us} p h = record { rest = keep t (p .rest); is = ap (keep t) (p .is) ∙ keep-append t us (x ∷ p .rest) ∙ ap (λ k. keep t us ++ keepStep k x (keep t (p .rest))) h }
+at-keep t {x = x} {us = us} p h =
+    record { rest = keep t (p .rest); is = ap (keep t) (p .is) ∙ keep-append t us (x ∷ p .rest) ∙ ap (λ k. keep t us ++ keepStep k x (keep t (p .rest))) h }
 
 at-from : (a n i : ℕ) → i < n → At (from a n) (a + i) (from a i)
 at-from a zero i h = absurd (omega arith)
@@ -126,7 +131,9 @@ module _ (b : Board) where
   after-e : (us : List Variable) → length (blacks b ++ (starts b ++ (linkVariables b ++ us))) ≡ openCount b + openCount b + length (linkVariables b) + length us
   after-e us = let p = length-append (linkVariables b) us in after-s (linkVariables b ++ us) ∙ omega arith
 
-  after-q : (us : List Variable) → length (blacks b ++ (starts b ++ (linkVariables b ++ (distances b ++ us)))) ≡ openCount b + openCount b + length (linkVariables b) + openCount b * openCount b + length us
+  after-q : (us : List Variable)
+      → length (blacks b ++ (starts b ++ (linkVariables b ++ (distances b ++ us))))
+      ≡ openCount b + openCount b + length (linkVariables b) + openCount b * openCount b + length us
   after-q us = let p = length-append (distances b) us in after-e (distances b ++ us) ∙ omega (arith, distances-long)
 
   -- V = 2F + A + F times F + the sum over clues
@@ -140,7 +147,9 @@ module _ (b : Board) where
 
     pub place-z : (x : ℕ) → b .isOpen x ≡ true → place (Z x) (variables b) ≡ rank b x
     unfolding variables
-    place-z x h = place-is (joined (letters b)) (Z x) (map (λ x. Z x) (below b x)) (variables-apart b law) (at-left _ (at-map (λ x. Z x) (at-opens x h))) ∙ length-map (below b x) (λ x. Z x)
+    place-z x h =
+        place-is (joined (letters b)) (Z x) (map (λ x. Z x) (below b x)) (variables-apart b law) (at-left _ (at-map (λ x. Z x) (at-opens x h)))
+        ∙ length-map (below b x) (λ x. Z x)
 
     pub place-s : (x : ℕ) → b .isOpen x ≡ true → place (S x) (variables b) ≡ openCount b + rank b x
     unfolding variables
@@ -149,20 +158,26 @@ module _ (b : Board) where
         place-is (joined (letters b)) (S x) (blacks b ++ us) (variables-apart b law) (at-right (blacks b) (at-left _ (at-map (λ x. S x) (at-opens x h))))
         ∙ after-z us ∙ ap (λ n. openCount b + n) (length-map (below b x) (λ x. S x))
 
-    pub place-e : (x : ℕ) (d : Direction) (y : ℕ) → b .isOpen x ≡ true → b .next d x ≡ some y → b .isOpen y ≡ true → place (E x d) (variables b) ≡ openCount b + openCount b + (linksBelow b x + length (neighbours b x (earlier d)))
+    pub place-e : (x : ℕ) (d : Direction) (y : ℕ) → b .isOpen x ≡ true → b .next d x ≡ some y → b .isOpen y ≡ true
+        → place (E x d) (variables b) ≡ openCount b + openCount b + (linksBelow b x + length (neighbours b x (earlier d)))
     unfolding variables
     place-e x d y h e o =
         let before = neighbours b x (earlier d) ++ [] in
         let us = each (below b x) (outgoing b) ++ map (out x) before in
         place-is (joined (letters b)) (E x d) (blacks b ++ (starts b ++ us)) (variables-apart b law)
-        (at-right (blacks b) (at-right (starts b) (at-left _ (at-each (outgoing b) (at-opens x h) (at-map (out x) (at-each (λ d. ifThere b d (b .next d x)) (at-direction d) one))))))
+        (at-right (blacks b)
+        (at-right (starts b)
+        (at-left _ (at-each (outgoing b) (at-opens x h) (at-map (out x) (at-each (λ d. ifThere b d (b .next d x)) (at-direction d) one))))))
         ∙ after-s us
-        ∙ ap (λ n. openCount b + openCount b + n) (length-append (each (below b x) (outgoing b)) (map (out x) before) ∙ ap (λ n. linksBelow b x + n) (length-map before (out x) ∙ ap length (append-nil (neighbours b x (earlier d)))))
+        ∙ ap (λ n. openCount b + openCount b + n)
+        (length-append (each (below b x) (outgoing b)) (map (out x) before)
+        ∙ ap (λ n. linksBelow b x + n) (length-map before (out x) ∙ ap length (append-nil (neighbours b x (earlier d)))))
       where
         one : At (ifThere b d (b .next d x)) (record { way = d; cell = y }) []
         one = rw (e, o) (at-head (record { way = d; cell = y }) [])
 
-    pub place-q : (x k : ℕ) → b .isOpen x ≡ true → k < openCount b → place (Q x k) (variables b) ≡ openCount b + openCount b + length (linkVariables b) + (rank b x * openCount b + k)
+    pub place-q : (x k : ℕ) → b .isOpen x ≡ true → k < openCount b
+        → place (Q x k) (variables b) ≡ openCount b + openCount b + length (linkVariables b) + (rank b x * openCount b + k)
     unfolding variables
     place-q x k h l =
         let us = each (below b x) (distancesAt b) in
@@ -170,16 +185,29 @@ module _ (b : Board) where
         let p : length us ≡ rank b x * openCount b = length-each (distancesAt b) (openCount b) (below b x) distances-at in
         let q : length vs ≡ k = length-map (upTo k) (λ k. Q x k) ∙ length-from 0 k in
         place-is (joined (letters b)) (Q x k) (blacks b ++ (starts b ++ (linkVariables b ++ (us ++ vs)))) (variables-apart b law)
-        (at-right (blacks b) (at-right (starts b) (at-right (linkVariables b) (at-left _ (at-each (distancesAt b) (at-opens x h) (at-map (λ k. Q x k) (at-upTo (openCount b) k l)))))))
+        (at-right (blacks b)
+        (at-right (starts b)
+        (at-right (linkVariables b) (at-left _ (at-each (distancesAt b) (at-opens x h) (at-map (λ k. Q x k) (at-upTo (openCount b) k l)))))))
         ∙ after-e (us ++ vs) ∙ (let r = length-append us vs in omega arith)
 
     -- cs the clues before c
-    pub place-t : (c : Clue) (cs : List Clue) (j t : ℕ) → At (b .clues) c cs → j ≤ length (c .line) → t ≤ c .number → place (T (c .cell) j t) (variables b) ≡ openCount b + openCount b + length (linkVariables b) + openCount b * openCount b + (length (each cs clueCounts) + (j * suc (c .number) + t))
+    pub place-t : (c : Clue) (cs : List Clue) (j t : ℕ) → At (b .clues) c cs → j ≤ length (c .line) → t ≤ c .number
+        → place (T (c .cell) j t) (variables b)
+        ≡ openCount b + openCount b + length (linkVariables b) + openCount b * openCount b + (length (each cs clueCounts) + (j * suc (c .number) + t))
     unfolding variables
     place-t c cs j t m h k =
         let us = each (upTo j) (countsAt (c .cell) (c .number)) in
         let vs = map (λ t. T (c .cell) j t) (upTo t) in
         let q : length vs ≡ t = length-map (upTo t) (λ t. T (c .cell) j t) ∙ length-from 0 t in
-        place-is (joined (letters b)) (T (c .cell) j t) (blacks b ++ (starts b ++ (linkVariables b ++ (distances b ++ (each cs clueCounts ++ (us ++ vs)))))) (variables-apart b law)
-        (at-right (blacks b) (at-right (starts b) (at-right (linkVariables b) (at-right (distances b) (at-left [] (at-each clueCounts m (at-each (countsAt (c .cell) (c .number)) (at-upTo (suc (length (c .line))) j (omega arith)) (at-map (λ t. T (c .cell) j t) (at-upTo (suc (c .number)) t (omega arith))))))))))
-        ∙ after-q (each cs clueCounts ++ (us ++ vs)) ∙ (let r = length-append (each cs clueCounts) (us ++ vs) in let s = length-append us vs in omega (arith, rows-long (c .cell) (c .number) j))
+        place-is (joined (letters b)) (T (c .cell) j t) (blacks b ++ (starts b ++ (linkVariables b ++ (distances b ++ (each cs clueCounts ++ (us ++ vs))))))
+        (variables-apart b law)
+        (at-right (blacks b)
+        (at-right (starts b)
+        (at-right (linkVariables b)
+        (at-right (distances b)
+        (at-left []
+        (at-each clueCounts m
+        (at-each (countsAt (c .cell) (c .number)) (at-upTo (suc (length (c .line))) j (omega arith))
+        (at-map (λ t. T (c .cell) j t) (at-upTo (suc (c .number)) t (omega arith))))))))))
+        ∙ after-q (each cs clueCounts ++ (us ++ vs))
+        ∙ (let r = length-append (each cs clueCounts) (us ++ vs) in let s = length-append us vs in omega (arith, rows-long (c .cell) (c .number) j))

@@ -33,10 +33,12 @@ module _ (p : Puzzle) (rows : p .grid .rows ≤ 45) (columns : p .grid .columns 
   clues-few x (Open ∷ cs) = let h = clues-few (suc x) cs in omega arith
   clues-few x (Clued d n ∷ cs) = let h = clues-few (suc x) cs in omega arith
 
-  clues-short : (x : ℕ) (cs : List Cell) → x + length cs ≤ size (p .grid) → All (λ c. numberOf c ≤ 44) cs → All (λ (c : Clue). (length (c .line) ≤ 44) × (c .number ≤ 44)) (cluesFrom p x cs)
+  clues-short : (x : ℕ) (cs : List Cell) → x + length cs ≤ size (p .grid) → All (λ c. numberOf c ≤ 44) cs
+      → All (λ (c : Clue). (length (c .line) ≤ 44) × (c .number ≤ 44)) (cluesFrom p x cs)
   clues-short x [] h k = tt
   clues-short x (Open ∷ cs) h k = clues-short (suc x) cs (omega arith) (k .1)
-  clues-short x (Clued d n ∷ cs) h k = let l = line-short p 45 rows columns d x (omega arith) in ((omega arith, k .0), clues-short (suc x) cs (omega arith) (k .1))
+  clues-short x (Clued d n ∷ cs) h k =
+      let l = line-short p 45 rows columns d x (omega arith) in ((omega arith, k .0), clues-short (suc x) cs (omega arith) (k .1))
 
   pub small-board : Filled p → All (λ c. numberOf c ≤ 44) (p .cells) → Small (board p)
   small-board filled numbers =
@@ -48,7 +50,8 @@ module _ (p : Puzzle) (rows : p .grid .rows ≤ 45) (columns : p .grid .columns 
 pub cell-small : (v : ℕ) → numberOf (cellOf v) ≤ 44
 cell-small v = by (eqb v 0) (leb 0x10 v && leb v 0x4F)
   where
-    by : (s t : Bool) → numberOf (isCell (mathlib.Core.Bool.cond s (Is Open) (mathlib.Core.Bool.cond t (Is (Clued (directionOf (v / 16)) (v % 16))) NotAllowed))) ≤ 44
+    by : (s t : Bool)
+        → numberOf (isCell (mathlib.Core.Bool.cond s (Is Open) (mathlib.Core.Bool.cond t (Is (Clued (directionOf (v / 16)) (v % 16))) NotAllowed))) ≤ 44
     by true t = omega arith
     by false true = omega arith
     by false false = omega arith
@@ -60,4 +63,5 @@ pub accepted-small : (s : List ℕ) → IsAccepted s → Small (boardOf s)
 accepted-small s acc =
     let (c1, (c2, (c3, c))) = accepted-clear s acc in
     let w = or-neither (not (isSide (sides s .rows))) (not (isSide (sides s .columns))) (no-cause _ c3) in
-    small-board (puzzle (sides s) s) (side-small _ (not-false _ (w .0))) (side-small _ (not-false _ (w .1))) (held-filled (accepted-fits s acc)) (all-map (λ c. numberOf c ≤ 44) cellOf (drop 6 s) (λ v m. cell-small v))
+    small-board (puzzle (sides s) s) (side-small _ (not-false _ (w .0))) (side-small _ (not-false _ (w .1))) (held-filled (accepted-fits s acc))
+    (all-map (λ c. numberOf c ≤ 44) cellOf (drop 6 s) (λ v m. cell-small v))

@@ -10,7 +10,8 @@ use Rattle.rules.specs.declared.Direction.the-variants.{East as east, South as 
 use Rattle.rules.specs.Directions.{opposite}
 use Rattle.rules.specs.Board.{Clue, Board}
 use Rattle.answers.specs.Lists.{from, upTo, each, joined, keep}
-use Rattle.encoder.specs.Variables.{Variable, Z, S, E, Q, T, directions, opens, openCount, Neighbour, neighbours, out, starts, outgoing, distancesAt, countsAt, number}
+use Rattle.encoder.specs.Variables.{Variable, Z, S, E, Q, T, directions, opens, openCount, Neighbour, neighbours, out, starts, outgoing, distancesAt}
+use Rattle.encoder.specs.Variables.{countsAt, number}
 
 -- minus for "not"
 pub data Literal : Type 0 where

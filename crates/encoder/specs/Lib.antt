@@ -1,4 +1,5 @@
--- The variables and clauses of a grid, the encoder's and the decoder's answers. Read Variables, Clauses, Encoding and Decoding: document 01's sections in its order.
+-- The variables and clauses of a grid, the encoder's and the decoder's answers. Read Variables, Clauses, Encoding and Decoding: document 01's sections in its
+-- order.
 pub mod Variables
 pub mod Clauses
 pub mod Encoding

@@ -1,1 +1,1 @@
-// The encoder and the decoder: variables and clauses of a grid, written as a list, and values of the variables drawn.
+// The encoder and the decoder: definitions of variables, clauses and decoding, and their laws. No code.

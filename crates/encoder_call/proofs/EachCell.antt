@@ -26,7 +26,8 @@ use Rattle.encoder_call.specs.declared.Family.the-variants.{Touching, Li
 use Rattle.encoder_call.specs.Families.{familyAt, familyParts}
 
 -- an open cell, by numbers
-pub family-list : (w : Family) (b : Board) → Laws b → (x : ℕ) → b .isOpen x ≡ true → listOf b (familyAt w b x) ≡ joined (familyParts w (openCount b) (cellNumbersOf b x))
+pub family-list : (w : Family) (b : Board) → Laws b → (x : ℕ) → b .isOpen x ≡ true
+    → listOf b (familyAt w b x) ≡ joined (familyParts w (openCount b) (cellNumbersOf b x))
 family-list Touching b law x h = touching-list b x
 family-list Links b law x h = links-list b x
 family-list Start b law x h = start-list b law x h
@@ -34,7 +35,8 @@ family-list Distance b law x h = distance-list b law x h
 
 module _ (b : Board) where
   pub cells-each : (F : ℕ → List Clause) {n : ℕ} → n ≡ b .size → listOf b (each (opens b) F) ≡ each (upTo n) (λ x. listOf b (atCell b F x))
-  cells-each F q = ap (listOf b) (below-each b F (b .size)) ∙ list-each b (atCell b F) (upTo (b .size)) ∙ ap (λ n. each (upTo n) (λ x. listOf b (atCell b F x))) (sym q)
+  cells-each F q =
+      ap (listOf b) (below-each b F (b .size)) ∙ list-each b (atCell b F) (upTo (b .size)) ∙ ap (λ n. each (upTo n) (λ x. listOf b (atCell b F x))) (sym q)
 
   -- [all S]
   pub start-parts : Laws b → {f : ℕ} → f ≡ openCount b → listOf b (start b) ≡ joined (atLeastOne (f + 1) f ∷ listOf b (each (opens b) (startAt b)) ∷ [])
@@ -44,7 +46,10 @@ module _ (b : Board) where
       one x h = let e = place-s b law x h in let z : number b (S x) ≡ f + 1 + rank b x = omega arith in ap (λ n. pos n ∷ []) z
 
       some : map (signed b) (someStart b) ++ (pos 0 ∷ []) ≡ atLeastOne (f + 1) f
-      some = ap (λ l. l ++ (pos 0 ∷ [])) (literals-each b (λ x. S x) (opens b) ∙ each-ranked b (λ x. pos (number b (S x)) ∷ []) (λ k. pos (f + 1 + k) ∷ []) one (b .size) ∙ ap (λ n. literals (f + 1) n) (sym q))
+      some =
+          ap (λ l. l ++ (pos 0 ∷ []))
+          (literals-each b (λ x. S x) (opens b) ∙ each-ranked b (λ x. pos (number b (S x)) ∷ []) (λ k. pos (f + 1 + k) ∷ []) one (b .size)
+          ∙ ap (λ n. literals (f + 1) n) (sym q))
 
 -- a cell of a grid
 module _ {g : Grid} {s table : List ℕ} {sizes : Sizes} (t : Tables g s sizes table) (x : ℕ) where
@@ -52,9 +57,11 @@ module _ {g : Grid} {s table : List ℕ} {sizes : Sizes} (t : Tables g s sizes t
   shut-list w e = sym (ap (listOf (gridBoard g s)) (at-shut (gridBoard g s) x (familyAt w (gridBoard g s)) e))
 
   module _ (o : OpenCell g s x) {numbers : CellNumbers} (e : numbers ≡ cellNumbersOf (gridBoard g s) x) where
-    pub open-list : (w : Family) → listOf (gridBoard g s) (atCell (gridBoard g s) (familyAt w (gridBoard g s)) x) ≡ joined (familyParts w (sizes .opens) numbers)
+    pub open-list : (w : Family)
+        → listOf (gridBoard g s) (atCell (gridBoard g s) (familyAt w (gridBoard g s)) x) ≡ joined (familyParts w (sizes .opens) numbers)
     open-list w =
-        ap (listOf (gridBoard g s)) (at-open (gridBoard g s) x (familyAt w (gridBoard g s)) (o .opened)) ∙ family-list w (gridBoard g s) (held-laws (t .recordFits)) x (o .opened)
+        ap (listOf (gridBoard g s)) (at-open (gridBoard g s) x (familyAt w (gridBoard g s)) (o .opened))
+        ∙ family-list w (gridBoard g s) (held-laws (t .recordFits)) x (o .opened)
         ∙ (λ i. joined (familyParts w (sym (t .sized) i .opens) (sym e i)))
 
     pub open-few : (0 < sizes .opens) × (numbers .distance ≤ mostVariables)

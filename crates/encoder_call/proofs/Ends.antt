@@ -52,7 +52,12 @@ module _ {g : Grid} {s : List ℕ} (w : Encodable g s) where
   pub writable : emit.Writable 0 list
   writable =
       let many = few-variables (w .small) in
-      record { room = omega (arith, few); right = all-in emit.Right list (λ l m. let h = all-at (Right (variableCount (gridBoard g s))) (list-within (gridBoard g s) (held-laws (w .recordFits))) m in omega arith) }
+      record {
+        room = omega (arith, few);
+        right =
+            all-in emit.Right list
+            (λ l m. let h = all-at (Right (variableCount (gridBoard g s))) (list-within (gridBoard g s) (held-laws (w .recordFits))) m in omega arith);
+      }
 
   -- what the call tells after the reader's rows, and leaves
   abbrev pub GridEnds : List ℤ → Outcome → List ℤ → Type 0
@@ -64,7 +69,8 @@ module _ {g : Grid} {s : List ℕ} (w : Encodable g s) where
     elements : c .elements ≡ length list
     elements = ap (λ (c : Counts). c .elements) e
 
-    ends : {u : Outcome} {new : List ℤ} → RowsGive (roomRows (gridBoard g s) out) (countsOutcome (countsOf (gridBoard g s))) u → new ≡ unlessRefused u out (filled out list) → GridEnds out u new
+    ends : {u : Outcome} {new : List ℤ} → RowsGive (roomRows (gridBoard g s) out) (countsOutcome (countsOf (gridBoard g s))) u
+        → new ≡ unlessRefused u out (filled out list) → GridEnds out u new
     ends = settled (roomRows (gridBoard g s) out) (countsOutcome (countsOf (gridBoard g s))) out (filled out list)
 
     pub ends-short : length out < c .elements → GridEnds out (refusal 6 (c .elements)) out
@@ -92,5 +98,6 @@ module _ (s : List ℕ) (out : List ℤ) where
     pub ends-read : {u : Outcome} {new : List ℤ} → GridEnds (read-encodable s q e) out u new → Ends u new
     ends-read (a, b) =
         let t = goes-on s q e (λ g. roomRows (gridBoard g s) out) (countsOutcome (countsOf (boardOf s))) in
-        let z : firstRefusal (roomRows (gridBoard g s) out) (countsOutcome (countsOf (gridBoard g s))) ≡ encoderAnswer s out = ap (λ g'. firstRefusal (roomRows (gridBoard g s) out) (countsOutcome (countsOf (gridBoard g' s)))) (read-sides s q e) ∙ t in
+        let z : firstRefusal (roomRows (gridBoard g s) out) (countsOutcome (countsOf (gridBoard g s))) ≡ encoderAnswer s out = ap (λ g'. firstRefusal (roomRows (gridBoard g s) out) (countsOutcome (countsOf (gridBoard g' s)))) (read-sides s q e)
+        ∙ t in
         (a ∙ z, b ∙ (λ i. unlessRefused (z i) out (filled out (clauseList (gridBoard (read-sides s q e i) s)))))

@@ -30,7 +30,7 @@ pub enum Family {
     Distance,
 }
 
-// Why a record is turned down: the reader's refusal, else 6 with the elements needed.
+// Why a record is refused: the reader's refusal, else 6 with the elements needed.
 pub enum EncodeRefusal {
     Record(RecordRefusal),
     TooShort(usize),

@@ -64,7 +64,8 @@ abbrev pub nearer : ℕ → ℕ → NeighbourNumbers → List ℤ
 nearer q f y = optional (y .out) (eachBothImply (y .out) (q + 1) (y .distance) (f - 1))
 
 abbrev pub nearerParts : ℕ → CellNumbers → List (List ℤ)
-nearerParts f x = nearer (x .distance) f (x .north) ∷ nearer (x .distance) f (x .east) ∷ nearer (x .distance) f (x .south) ∷ nearer (x .distance) f (x .west) ∷ []
+nearerParts f x =
+    nearer (x .distance) f (x .north) ∷ nearer (x .distance) f (x .east) ∷ nearer (x .distance) f (x .south) ∷ nearer (x .distance) f (x .west) ∷ []
 
 abbrev pub distanceParts : ℕ → CellNumbers → List (List ℤ)
 distanceParts f x =

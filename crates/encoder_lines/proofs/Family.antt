@@ -55,7 +55,8 @@ module _ {g : Grid} {s : List ℕ} (h : RecordFits g s) (x : ℕ) (l : x < size 
 
 module _ {g : Grid} {s : List ℕ} (h : RecordFits g s) where
   -- the family, cell by cell
-  so-far : (x : ℕ) → x ≤ size g → each (cluesFrom (puzzle g s) 0 (take x (puzzle g s .cells))) (clueClauses (gridBoard g s .isOpen)) ≡ each (upTo x) (clueAt (puzzle g s))
+  so-far : (x : ℕ) → x ≤ size g
+      → each (cluesFrom (puzzle g s) 0 (take x (puzzle g s .cells))) (clueClauses (gridBoard g s .isOpen)) ≡ each (upTo x) (clueAt (puzzle g s))
   so-far zero l = refl
   so-far (suc x) l =
       let p = puzzle g s in
@@ -70,9 +71,11 @@ module _ {g : Grid} {s : List ℕ} (h : RecordFits g s) where
   lines-cells =
       let p = puzzle g s in
       let w = held-filled h in
-      ap (λ cs. each (cluesFrom p 0 cs) (clueClauses (gridBoard g s .isOpen))) (sym (take-all (size g) (p .cells) (omega arith))) ∙ so-far (size g) (omega arith)
+      ap (λ cs. each (cluesFrom p 0 cs) (clueClauses (gridBoard g s .isOpen))) (sym (take-all (size g) (p .cells) (omega arith)))
+      ∙ so-far (size g) (omega arith)
 
-  pub lines-each : {n : ℕ} → n ≡ size g → listOf (gridBoard g s) (clueLines (gridBoard g s)) ≡ each (upTo n) (λ x. listOf (gridBoard g s) (clueAt (puzzle g s) x))
+  pub lines-each : {n : ℕ} → n ≡ size g
+      → listOf (gridBoard g s) (clueLines (gridBoard g s)) ≡ each (upTo n) (λ x. listOf (gridBoard g s) (clueAt (puzzle g s) x))
   lines-each {n} q =
       let b = gridBoard g s in
       let p = puzzle g s in

@@ -46,9 +46,12 @@ pub line-start : {at first n y : ℕ} {buf : List ℤ} (p : Puzzle) (d : Directi
     → Writable at (countStepEach first n (map black (line p d x))) → Lining p d x black first n buf at buf y first at 0
 line-start {at} {buf = buf} p d x black e w = record { here = e; done = []; whole = refl; wrote = wrote-nothing buf at; writable = w }
 
-module _ {p : Puzzle} {d : Direction} {x : ℕ} {black : ℕ → ℕ} {first n : ℕ} {buf : List ℤ} {at : ℕ} {new : List ℤ} {y row i j : ℕ} (w : Lining p d x black first n buf at new y row i j) where
+module _ {p : Puzzle} {d : Direction} {x : ℕ} {black : ℕ → ℕ} {first n : ℕ} {buf : List ℤ} {at : ℕ} {new : List ℤ} {y row i j : ℕ}
+    (w : Lining p d x black first n buf at new y row i j) where
   pub line-end : length (line p d x) ≤ j → Wrote buf at (countStepEach first n (map black (line p d x))) new i
-  line-end h = wrote-recast (sym (w .whole ∙ ap (λ l. w .done ++ countStepEach row n (map black l)) (drop-of-length-le (line p d x) h) ∙ append-nil (w .done))) (w .wrote)
+  line-end h =
+      wrote-recast (sym (w .whole ∙ ap (λ l. w .done ++ countStepEach row n (map black l)) (drop-of-length-le (line p d x) h) ∙ append-nil (w .done)))
+      (w .wrote)
 
   pub line-kept : length new ≡ length buf
   line-kept = wrote-length (w .wrote)
@@ -63,15 +66,20 @@ module _ {p : Puzzle} {d : Direction} {x : ℕ} {black : ℕ → ℕ} {first n :
 
       split : countStepEach first n (map black (line p d x)) ≡ w .done ++ (joined (countStepParts row z n) ++ rest)
       unfolding rest
-      split = w .whole ∙ ap (λ l. w .done ++ countStepEach row n (map black l)) (drop-cons (line p d x) j x h) ∙ ap (λ z. w .done ++ (joined (countStepParts row z n) ++ rest)) (ap black (sym (w .here)) ∙ sym e)
+      split =
+          w .whole ∙ ap (λ l. w .done ++ countStepEach row n (map black l)) (drop-cons (line p d x) j x h)
+          ∙ ap (λ z. w .done ++ (joined (countStepParts row z n) ++ rest)) (ap black (sym (w .here)) ∙ sym e)
 
       pub line-needs : Parts i (countStepParts row z n)
-      line-needs = in-parts (countStepParts row z n) (writable-left (joined (countStepParts row z n)) rest (writable-right (w .done) _ (writable-recast split (w .writable)) (w .wrote)))
+      line-needs =
+          in-parts (countStepParts row z n)
+          (writable-left (joined (countStepParts row z n)) rest (writable-right (w .done) _ (writable-recast split (w .writable)) (w .wrote)))
 
       pub line-row : row ≤ mostVariables
       line-row = row-few row z n (line-needs .writable)
 
-      pub line-on : {new₂ : List ℤ} {i₂ y₂ : ℕ} {back : Direction} → Wrote new i (joined (countStepParts row z n)) new₂ i₂ → back ≡ opposite d → y₂ ≡ go (neighbour (p .grid)) back y → Lining p d x black first n buf at new₂ y₂ (row + (n + 1)) i₂ (j + 1)
+      pub line-on : {new₂ : List ℤ} {i₂ y₂ : ℕ} {back : Direction} → Wrote new i (joined (countStepParts row z n)) new₂ i₂ → back ≡ opposite d
+          → y₂ ≡ go (neighbour (p .grid)) back y → Lining p d x black first n buf at new₂ y₂ (row + (n + 1)) i₂ (j + 1)
       unfolding rest
       line-on v o q = rw (add-one j) (record {
         here = line-go p d x h (w .here) o q;

@@ -15,9 +15,11 @@ use Rattle.encoder.specs.Variables.{Z, T, countsAt, number}
 use Rattle.encoder.specs.Clauses.{notBoth, pairs, countStep, cellParts, cellClauses, lineClauses, noneBlack, clueParts, clueClauses, written}
 use Rattle.encoder.proofs.Places.{At}
 use Rattle.encoder.proofs.ClauseLists.{each-next, each-shift, pairs-each, listOf, list-append, list-joined, list-each, list-map, number-t}
-use Rattle.encoder_shapes.specs.Shapes.{unit, unitNot as unitNot#, notBoth as notPair, implies, impliesEither, bothImply, eachUnitNot, eachNotBoth, pairsWith, atMostOne}
+use Rattle.encoder_shapes.specs.Shapes.{unit, unitNot as unitNot#, notBoth as notPair, implies, impliesEither, bothImply, eachUnitNot, eachNotBoth, pairsWith}
+use Rattle.encoder_shapes.specs.Shapes.{atMostOne}
 use Rattle.encoder_numbers.specs.Numbered.{blackOf}
-use Rattle.encoder_lines.specs.Line.{countStepClue, countStepBoth, countStepBelow, countStepOpen, countStepRow, countStepParts, countStepEach, clueNumbers}
+use Rattle.encoder_lines.specs.Line.{countStepClue, countStepBoth, countStepBelow, countStepOpen, countStepRow, countStepParts, countStepEach}
+use Rattle.encoder_lines.specs.Line.{clueNumbers}
 
 -- a clue c of a board, cs the clues before it
 module _ (b : Board) (law : Laws b) (c : Clue) (cs : List Clue) (m : At (b .clues) c cs) where
@@ -36,7 +38,9 @@ module _ (b : Board) (law : Laws b) (c : Clue) (cs : List Clue) (m : At (b .clue
   row-on j t h k = let p = number-t b law c cs j t m h k in let q = number-t b law c cs j 0 m h (omega arith) in omega arith
 
   row-next : (j : ℕ) → suc j ≤ length (c .line) → t# (suc j) 0 ≡ t# j 0 + (n + 1)
-  row-next j h = let p = number-t b law c cs (suc j) 0 m h (omega arith) in let q = number-t b law c cs j 0 m (omega arith) (omega arith) in omega (arith, suc-mul j (suc n))
+  row-next j h =
+      let p = number-t b law c cs (suc j) 0 m h (omega arith) in
+      let q = number-t b law c cs j 0 m (omega arith) (omega arith) in omega (arith, suc-mul j (suc n))
 
   row-first : (j : ℕ) → j ≤ length (c .line) → t# j 0 ≡ t# 0 0 + j * (n + 1)
   row-first j h = let p = number-t b law c cs j 0 m h (omega arith) in let e : j * suc n ≡ j * (n + 1) = ap (λ k. j * k) (sym (add-one n)) in omega arith
@@ -57,7 +61,8 @@ module _ (b : Board) (law : Laws b) (c : Clue) (cs : List Clue) (m : At (b .clue
     count-step-clue : listOf b (each (upTo (suc n)) (countStep false a n j x)) ≡ countStepClue row next (n + 1)
     count-step-clue =
         list-each b (countStep false a n j x) (upTo (suc n))
-        ∙ each-shift (λ t. listOf b (countStep false a n j x t)) (λ t. implies (row + t) (next + t)) 0 0 (suc n) (λ t k. (λ i. implies (here (0 + t) (omega arith) i) (there (0 + t) (omega arith) i)))
+        ∙ each-shift (λ t. listOf b (countStep false a n j x t)) (λ t. implies (row + t) (next + t)) 0 0 (suc n)
+        (λ t k. (λ i. implies (here (0 + t) (omega arith) i) (there (0 + t) (omega arith) i)))
         ∙ ap (λ k. each (upTo k) (λ t. implies (row + t) (next + t))) (sym (add-one n))
 
     count-step-open : listOf b (each (upTo (suc n)) (countStep true a n j x)) ≡ joined (countStepOpen row next (number b (Z x)) n)
@@ -72,15 +77,20 @@ module _ (b : Board) (law : Laws b) (c : Clue) (cs : List Clue) (m : At (b .clue
           where
             one : (t : ℕ) → t < n → listOf b (countStep true a n j x (0 + t)) ≡ joined (countStepBoth (row + (0 + t)) (number b (Z x)) (next + (0 + t)))
             one t k =
-                rw (ne-eqb (0 + t) n (omega arith)) (λ i. impliesEither (here (0 + t) (omega arith) i) (number b (Z x)) (there (0 + t) (omega arith) i) ++ bothImply (here (0 + t) (omega arith) i) (number b (Z x)) (up i))
+                rw (ne-eqb (0 + t) n (omega arith))
+                (λ i.
+                impliesEither (here (0 + t) (omega arith) i) (number b (Z x)) (there (0 + t) (omega arith) i) ++
+                bothImply (here (0 + t) (omega arith) i) (number b (Z x)) (up i))
               where
                 up : t# (suc j) (suc (0 + t)) ≡ next + (0 + t) + 1
                 up = there (suc (0 + t)) (omega arith) ∙ omega arith
 
-        last : listOf b (countStep true a n j x (0 + n)) ≡ joined (impliesEither (row + n) (number b (Z x)) (next + n) ∷ notPair (row + n) (number b (Z x)) ∷ [])
+        last : listOf b (countStep true a n j x (0 + n))
+            ≡ joined (impliesEither (row + n) (number b (Z x)) (next + n) ∷ notPair (row + n) (number b (Z x)) ∷ [])
         last =
             let e : 0 + n ≡ n = omega arith in
-            rw (e, eq-eqb n n refl) (λ i. impliesEither (here n (omega arith) i) (number b (Z x)) (there n (omega arith) i) ++ notPair (here n (omega arith) i) (number b (Z x)))
+            rw (e, eq-eqb n n refl)
+            (λ i. impliesEither (here n (omega arith) i) (number b (Z x)) (there n (omega arith) i) ++ notPair (here n (omega arith) i) (number b (Z x)))
 
     count-step-row : listOf b (each (upTo (suc n)) (countStep (b .isOpen x) a n j x)) ≡ countStepRow (blackOf b x) row next n
     count-step-row = by (b .isOpen x)
@@ -94,17 +104,21 @@ module _ (b : Board) (law : Laws b) (c : Clue) (cs : List Clue) (m : At (b .clue
     next-pairs =
         ap (listOf b) (pairs-each (λ t. T a (suc j) t) 0 (suc n))
         ∙ list-each b (λ t. map (λ u. notBoth (T a (suc j) t) (T a (suc j) u)) (from (suc t) (0 + suc n - suc t))) (upTo (suc n))
-        ∙ each-shift (λ t. listOf b (map (λ u. notBoth (T a (suc j) t) (T a (suc j) u)) (from (suc t) (0 + suc n - suc t)))) (pairsWith next (n + 1)) 0 0 (suc n) one
+        ∙ each-shift (λ t. listOf b (map (λ u. notBoth (T a (suc j) t) (T a (suc j) u)) (from (suc t) (0 + suc n - suc t)))) (pairsWith next (n + 1)) 0 0
+        (suc n) one
         ∙ ap (λ k. each (upTo k) (pairsWith next (n + 1))) (sym (add-one n))
       where
-        one : (t : ℕ) → t < suc n → listOf b (map (λ u. notBoth (T a (suc j) (0 + t)) (T a (suc j) u)) (from (suc (0 + t)) (0 + suc n - suc (0 + t)))) ≡ pairsWith next (n + 1) (0 + t)
+        one : (t : ℕ) → t < suc n
+            → listOf b (map (λ u. notBoth (T a (suc j) (0 + t)) (T a (suc j) u)) (from (suc (0 + t)) (0 + suc n - suc (0 + t)))) ≡ pairsWith next (n + 1) (0 + t)
         one t k =
             let e : 0 + suc n - suc (0 + t) ≡ n + 1 - (0 + t + 1) = omega arith in
             list-map b (λ u. notBoth (T a (suc j) (0 + t)) (T a (suc j) u)) (from (suc (0 + t)) (0 + suc n - suc (0 + t)))
-            ∙ each-shift (λ u. written b (notBoth (T a (suc j) (0 + t)) (T a (suc j) u))) (λ k. notPair (next + (0 + t)) (next + (0 + t) + 1 + k)) (suc (0 + t)) 0 (0 + suc n - suc (0 + t)) pair
+            ∙ each-shift (λ u. written b (notBoth (T a (suc j) (0 + t)) (T a (suc j) u))) (λ k. notPair (next + (0 + t)) (next + (0 + t) + 1 + k)) (suc (0 + t))
+            0 (0 + suc n - suc (0 + t)) pair
             ∙ ap (eachNotBoth (next + (0 + t)) (next + (0 + t) + 1)) e
           where
-            pair : (u : ℕ) → u < 0 + suc n - suc (0 + t) → written b (notBoth (T a (suc j) (0 + t)) (T a (suc j) (suc (0 + t) + u))) ≡ notPair (next + (0 + t)) (next + (0 + t) + 1 + (0 + u))
+            pair : (u : ℕ) → u < 0 + suc n - suc (0 + t)
+                → written b (notBoth (T a (suc j) (0 + t)) (T a (suc j) (suc (0 + t) + u))) ≡ notPair (next + (0 + t)) (next + (0 + t) + 1 + (0 + u))
             pair u l = (λ i. notPair (there (0 + t) (omega arith) i) (second i))
               where
                 second : t# (suc j) (suc (0 + t) + u) ≡ next + (0 + t) + 1 + (0 + u)
@@ -114,7 +128,8 @@ module _ (b : Board) (law : Laws b) (c : Clue) (cs : List Clue) (m : At (b .clue
     count-step-cell = list-joined b (cellParts (b .isOpen) a n j x) ∙ (λ i. joined (count-step-row i ∷ next-pairs i ∷ []))
 
   -- the cells of the line from the j-th on
-  past-line : (j : ℕ) (xs : List ℕ) → j + length xs ≤ length (c .line) → listOf b (lineClauses (b .isOpen) a n j xs) ≡ countStepEach (t# j 0) n (map (blackOf b) xs)
+  past-line : (j : ℕ) (xs : List ℕ) → j + length xs ≤ length (c .line)
+      → listOf b (lineClauses (b .isOpen) a n j xs) ≡ countStepEach (t# j 0) n (map (blackOf b) xs)
   past-line j [] h = refl
   past-line j (x ∷ xs) h =
       let l : suc j ≤ length (c .line) = omega arith in
@@ -122,10 +137,15 @@ module _ (b : Board) (law : Laws b) (c : Clue) (cs : List Clue) (m : At (b .clue
       ∙ (λ i. count-step-cell j x l i ++ (past-line (suc j) xs (omega arith) ∙ ap (λ r. countStepEach r n (map (blackOf b) xs)) (row-next j l)) i)
 
   pub clue-list : listOf b (clueClauses (b .isOpen) c) ≡ joined (clueNumbers (t# 0 0) n (map (blackOf b) (c .line)))
-  clue-list = list-joined b (clueParts (b .isOpen) a n (c .line)) ∙ (λ i. joined (unit (t# 0 0) ∷ nevers i ∷ past-line 0 (c .line) (omega arith) i ∷ unit (last i) ∷ []))
+  clue-list =
+      list-joined b (clueParts (b .isOpen) a n (c .line))
+      ∙ (λ i. joined (unit (t# 0 0) ∷ nevers i ∷ past-line 0 (c .line) (omega arith) i ∷ unit (last i) ∷ []))
     where
       nevers : listOf b (map (noneBlack a) (from 1 n)) ≡ eachUnitNot (t# 0 0 + 1) n
-      nevers = list-map b (noneBlack a) (from 1 n) ∙ each-shift (λ t. written b (noneBlack a t)) (λ k. unitNot# (t# 0 0 + 1 + k)) 1 0 n (λ t k. let e : t# 0 0 + (1 + t) ≡ t# 0 0 + 1 + (0 + t) = omega arith in ap unitNot# (row-on 0 (1 + t) (omega arith) (omega arith) ∙ e))
+      nevers =
+          list-map b (noneBlack a) (from 1 n)
+          ∙ each-shift (λ t. written b (noneBlack a t)) (λ k. unitNot# (t# 0 0 + 1 + k)) 1 0 n
+          (λ t k. let e : t# 0 0 + (1 + t) ≡ t# 0 0 + 1 + (0 + t) = omega arith in ap unitNot# (row-on 0 (1 + t) (omega arith) (omega arith) ∙ e))
 
       last : t# (length (c .line)) n ≡ t# 0 0 + length (map (blackOf b) (c .line)) * (n + 1) + n
       last =

@@ -19,12 +19,15 @@ module _ (z row next n : ℕ) where
       by zero k w = absurd (k refl)
       by (suc z) k w = record { writable = w }
 
-  pub wrote-clue : {buf new : List ℤ} {at end : ℕ} → z ≡ 0 → Wrote buf at (countStepClue row next (n + 1)) new end → Wrote buf at (countStepRow z row next n) new end
+  pub wrote-clue : {buf new : List ℤ} {at end : ℕ} → z ≡ 0 → Wrote buf at (countStepClue row next (n + 1)) new end
+      → Wrote buf at (countStepRow z row next n) new end
   wrote-clue e w = rw e w
 
-  pub wrote-open : {buf new : List ℤ} {at end : ℕ} → (z ≡ 0 → ⊥) → Wrote buf at (joined (countStepOpen row next z n)) new end → Wrote buf at (countStepRow z row next n) new end
+  pub wrote-open : {buf new : List ℤ} {at end : ℕ} → (z ≡ 0 → ⊥) → Wrote buf at (joined (countStepOpen row next z n)) new end
+      → Wrote buf at (countStepRow z row next n) new end
   wrote-open k w = by z k w
     where
-      by : {buf new : List ℤ} {at end : ℕ} (z : ℕ) → (z ≡ 0 → ⊥) → Wrote buf at (joined (countStepOpen row next z n)) new end → Wrote buf at (countStepRow z row next n) new end
+      by : {buf new : List ℤ} {at end : ℕ} (z : ℕ) → (z ≡ 0 → ⊥) → Wrote buf at (joined (countStepOpen row next z n)) new end
+          → Wrote buf at (countStepRow z row next n) new end
       by zero k w = absurd (k refl)
       by (suc z) k w = w

@@ -74,7 +74,8 @@ module _ {g : Grid} {s table : List ℕ} {sizes : Sizes} (t : Tables g s sizes t
         let q : z .opens * sizes .opens ≡ rank b x * openCount b = (λ i. e i .opens * t .sized i .opens) in
         omega (arith, ap (λ (z : Sizes). z .opens) (t .sized), ap (λ (z : Sizes). z .links) (t .sized))
 
-    pub number-e : {d : Direction} {y n : ℕ} → OpenPair g s x d y → n ≡ length (neighbours (gridBoard g s) x (earlier d)) → sizes .opens + sizes .opens + z .links + n + 1 ≡ number (gridBoard g s) (E x d)
+    pub number-e : {d : Direction} {y n : ℕ} → OpenPair g s x d y → n ≡ length (neighbours (gridBoard g s) x (earlier d))
+        → sizes .opens + sizes .opens + z .links + n + 1 ≡ number (gridBoard g s) (E x d)
     number-e {d} {y} p q =
         let k = place-e (gridBoard g s) (held-laws (t .recordFits)) x d y (o .opened) (p .leads) (p .there .opened) in
         omega (arith, ap (λ (z : Sizes). z .links) e, ap (λ (z : Sizes). z .opens) (t .sized))
@@ -84,11 +85,21 @@ module _ {g : Grid} {s table : List ℕ} {sizes : Sizes} (t : Tables g s sizes t
     black-open = number-z ∙ sym (ap (λ t. cond t (number (gridBoard g s) (Z x)) 0) (o .opened))
 
   -- all of a cell
-  pub cell-is : {x : ℕ} → OpenCell g s x → {z : Sizes} {n : ℕ} {north east south west : NeighbourNumbers} → z ≡ sizesBelow g s x → n ≡ number (gridBoard g s) (Q x 0)
+  pub cell-is : {x : ℕ} → OpenCell g s x → {z : Sizes} {n : ℕ} {north east south west : NeighbourNumbers} → z ≡ sizesBelow g s x
+      → n ≡ number (gridBoard g s) (Q x 0)
       → north ≡ cellNumbersOf (gridBoard g s) x .north → east ≡ cellNumbersOf (gridBoard g s) x .east
       → south ≡ cellNumbersOf (gridBoard g s) x .south → west ≡ cellNumbersOf (gridBoard g s) x .west
       → _≡_ {A = CellNumbers}
-      (record { rank = z .opens; black = z .opens + 1; start = sizes .opens + z .opens + 1; distance = n; north = north; east = east; south = south; west = west })
+      (record {
+        rank = z .opens;
+        black = z .opens + 1;
+        start = sizes .opens + z .opens + 1;
+        distance = n;
+        north = north;
+        east = east;
+        south = south;
+        west = west;
+      })
       (cellNumbersOf (gridBoard g s) x)
   cell-is o e q hn he hs hw =
       (λ i. record { rank = e i .opens; black = number-z o e i; start = number-s o e i; distance = q i; north = hn i; east = he i; south = hs i; west = hw i })
@@ -100,7 +111,8 @@ black-clue b x h = sym (ap (λ t. cond t (number b (Z x)) 0) h)
 pub no-neighbour-is : (b : Board) (x : ℕ) (d : Direction) → none ≡ openNeighbour b d x → noNeighbour ≡ neighbourNumbersOf b x d
 no-neighbour-is b x d e = sym (ap (neighbourNumbersIf b x) (there-none b x d e))
 
-pub neighbour-is : (b : Board) (x : ℕ) (d : Direction) {y : ℕ} {n : NeighbourNumbers} → some y ≡ openNeighbour b d x → n ≡ neighbourNumbersTo b x (record { way = d; cell = y }) → n ≡ neighbourNumbersOf b x d
+pub neighbour-is : (b : Board) (x : ℕ) (d : Direction) {y : ℕ} {n : NeighbourNumbers} → some y ≡ openNeighbour b d x
+    → n ≡ neighbourNumbersTo b x (record { way = d; cell = y }) → n ≡ neighbourNumbersOf b x d
 neighbour-is b x d e h = let r = there-some b x d e in h ∙ sym (rw (r .0, r .1))
 
 -- a pair's numbers

@@ -74,8 +74,10 @@ module _ (b : Board) (x : ℕ) where
   one-few d e = omega (arith, neighbours-most b x (d ∷ []))
 
   -- in two groups of directions
-  pub links-sum : (ds es : List Direction) {m n : ℕ} → m ≡ length (neighbours b x ds) → n ≡ length (neighbours b x es) → m + n ≡ length (neighbours b x (ds ++ es))
-  links-sum ds es h k = (λ i. h i + k i) ∙ sym (ap length (each-append (λ d. ifThere b d (b .next d x)) ds es) ∙ length-append (neighbours b x ds) (neighbours b x es))
+  pub links-sum : (ds es : List Direction) {m n : ℕ} → m ≡ length (neighbours b x ds) → n ≡ length (neighbours b x es)
+      → m + n ≡ length (neighbours b x (ds ++ es))
+  links-sum ds es h k =
+      (λ i. h i + k i) ∙ sym (ap length (each-append (λ d. ifThere b d (b .next d x)) ds es) ∙ length-append (neighbours b x ds) (neighbours b x es))
 
   pub links-earlier : {d : Direction} (e : Direction) {n : ℕ} → d ≡ e → n ≡ length (neighbours b x (earlier e)) → n ≡ length (neighbours b x (earlier d))
   links-earlier e q h = h ∙ ap (λ e. length (neighbours b x (earlier e))) (sym q)
@@ -106,10 +108,12 @@ counts-on p x h =
     let ds = clueOf p x (getD (p .cells) x Open) in
     ap (λ l. length (each l clueCounts)) (clues-next p x h) ∙ ap length (each-append clueCounts cs ds) ∙ length-append (each cs clueCounts) (each ds clueCounts)
 
-pub clue-counts : (p : Puzzle) (x : ℕ) {c : Cell} {d : Direction} {n l : ℕ} → c ≡ Clued d n → c ≡ getD (p .cells) x Open → l ≡ length (line p d x) → (l + 1) * (n + 1) ≡ countsOf p x
+pub clue-counts : (p : Puzzle) (x : ℕ) {c : Cell} {d : Direction} {n l : ℕ} → c ≡ Clued d n → c ≡ getD (p .cells) x Open → l ≡ length (line p d x)
+    → (l + 1) * (n + 1) ≡ countsOf p x
 clue-counts p x {c} {d} {n} {l} e h q =
     let k : Clue = record { cell = x; number = n; line = line p d x } in
-    (λ i. (add-one l ∙ ap suc q) i * add-one n i) ∙ sym (ap (λ c. length (each (clueOf p x c) clueCounts)) (sym h ∙ e) ∙ ap length (append-nil (clueCounts k)) ∙ clue-long k)
+    (λ i. (add-one l ∙ ap suc q) i * add-one n i)
+    ∙ sym (ap (λ c. length (each (clueOf p x c) clueCounts)) (sym h ∙ e) ∙ ap length (append-nil (clueCounts k)) ∙ clue-long k)
 
 pub no-counts : (p : Puzzle) (x : ℕ) {c : Cell} → c ≡ Open → c ≡ getD (p .cells) x Open → 0 ≡ countsOf p x
 no-counts p x e h = ap (λ c. length (each (clueOf p x c) clueCounts)) (sym e ∙ h)
@@ -140,15 +144,18 @@ below-few h zero l = omega arith
 below-few {g} {s} h (suc x) l =
     let f = held-filled h in
     let k = below-few h x (omega arith) in
-    let e : countsBelow (puzzle g s) (suc x) ≡ countsBelow (puzzle g s) x + countsOf (puzzle g s) x = ap (countsBelow (puzzle g s)) (sym (add-one x)) ∙ counts-on (puzzle g s) x (omega arith) in
+    let e : countsBelow (puzzle g s) (suc x) ≡ countsBelow (puzzle g s) x + countsOf (puzzle g s) x = ap (countsBelow (puzzle g s)) (sym (add-one x))
+    ∙ counts-on (puzzle g s) x (omega arith) in
     omega (arith, counts-few {x = x} h l)
 
 pub counts-are : {g : Grid} {s : List ℕ} → RecordFits g s → countsBelow (puzzle g s) (size g) ≡ length (counts (gridBoard g s))
-counts-are {g} {s} h = let f = held-filled h in ap (λ cs. length (each (cluesFrom (puzzle g s) 0 cs) clueCounts)) (take-all (size g) (puzzle g s .cells) (omega arith))
+counts-are {g} {s} h =
+    let f = held-filled h in ap (λ cs. length (each (cluesFrom (puzzle g s) 0 cs) clueCounts)) (take-all (size g) (puzzle g s .cells) (omega arith))
 
 -- 3. The sizes of the cells before x, one cell more, and their bounds
 
-module _ {g : Grid} {s : List ℕ} (h : RecordFits g s) {x : ℕ} (l : x < size g) {z : Sizes} (e : z ≡ sizesBelow g s x) {c : Cell} (q : c ≡ getD (puzzle g s .cells) x Open) where
+module _ {g : Grid} {s : List ℕ} (h : RecordFits g s) {x : ℕ} (l : x < size g) {z : Sizes} (e : z ≡ sizesBelow g s x) {c : Cell}
+    (q : c ≡ getD (puzzle g s .cells) x Open) where
   counts-next : countsBelow (puzzle g s) (x + 1) ≡ countsBelow (puzzle g s) x + countsOf (puzzle g s) x
   counts-next = let f = held-filled h in counts-on (puzzle g s) x (omega arith)
 
@@ -167,7 +174,8 @@ module _ {g : Grid} {s : List ℕ} (h : RecordFits g s) {x : ℕ} (l : x < size 
       let b = gridBoard g s in
       let o : b .isOpen x ≡ true = sym (is-opened h l q) ∙ ap openCell k in
       let i : z .opens + 1 ≡ rank b (x + 1) = ap (λ n. n + 1) opens-is ∙ sym (rank-open b x o) in
-      let j : z .links + n ≡ linksBelow b (x + 1) = (λ t. links-is t + m t) ∙ sym (ways-open b x o ∙ ap (λ n. linksBelow b x + n) (length-map (neighbours b x directions) (out x))) in
+      let j : z .links + n ≡ linksBelow b (x + 1) = (λ t. links-is t + m t)
+      ∙ sym (ways-open b x o ∙ ap (λ n. linksBelow b x + n) (length-map (neighbours b x directions) (out x))) in
       let u : z .counts ≡ countsBelow (puzzle g s) (x + 1) = (let f = no-counts (puzzle g s) x k q in omega (arith, counts-next, counts-is)) in
       (λ t. record { opens = i t; links = j t; counts = u t })
 
@@ -197,7 +205,9 @@ sizes-few {g} {s} h x l e =
 
 module _ {g : Grid} {s : List ℕ} (h : RecordFits g s) {z : Sizes} (e : z ≡ sizesOf g s) where
   pub total-is : z .opens + z .opens + z .links + z .opens * z .opens + z .counts ≡ variableCount (gridBoard g s)
-  total-is = ap (λ (z : Sizes). z .opens + z .opens + z .links + z .opens * z .opens + z .counts) e ∙ ap (λ n. openCount b + openCount b + length (linkVariables b) + openCount b * openCount b + n) (counts-are h) ∙ sym (total b)
+  total-is =
+      ap (λ (z : Sizes). z .opens + z .opens + z .links + z .opens * z .opens + z .counts) e
+      ∙ ap (λ n. openCount b + openCount b + length (linkVariables b) + openCount b * openCount b + n) (counts-are h) ∙ sym (total b)
     where
       b : Board
       b = gridBoard g s

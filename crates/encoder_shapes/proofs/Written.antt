@@ -62,7 +62,18 @@ in-parts ps w = record { writable = w }
 -- nothing is written yet
 abbrev pub begun : (list : List ℤ) {at : ℕ} {ps : List (List ℤ)} → Parts at ps → Progress
 begun list {at} {ps} w =
-    record { list = list; from = at; parts = ps; now = list; at = at; left = ps; done = []; splits = refl; wrote = wrote-nothing list at; writable = w .writable }
+    record {
+      list = list;
+      from = at;
+      parts = ps;
+      now = list;
+      at = at;
+      left = ps;
+      done = [];
+      splits = refl;
+      wrote = wrote-nothing list at;
+      writable = w .writable;
+    }
 
 module _ (p : Progress) where
   pub split-left : Writable (p .at) (firstPart (p .left) ++ joined (otherParts (p .left)))
@@ -83,7 +94,8 @@ module _ (p : Progress) where
         at = next;
         left = otherParts (p .left);
         done = p .done ++ firstPart (p .left);
-        splits = p .splits ∙ ap (λ l. p .done ++ l) (parts-split (p .left)) ∙ sym (append-assoc (p .done) (firstPart (p .left)) (joined (otherParts (p .left))));
+        splits =
+            p .splits ∙ ap (λ l. p .done ++ l) (parts-split (p .left)) ∙ sym (append-assoc (p .done) (firstPart (p .left)) (joined (otherParts (p .left))));
         wrote = wrote-after (p .wrote) h;
         writable = writable-right (firstPart (p .left)) (joined (otherParts (p .left))) split-left h;
       }

@@ -1,9 +1,10 @@
 // Writes clauses by the numbers of their variables: a function for each shape of clause, and one for each run of clauses.
-// Each returns the place after what it wrote; beyond the end of the list nothing is written and the place goes on all the same.
+// Each returns the place after what it wrote; beyond the end of the list nothing is written, and the place is counted all the same.
 ghost use Prim.Native.Nat.{_+_, _<_, _^_};
 ghost use Rattle.answers.specs.Lent.{Wrote};
 ghost use Rattle.encoder_shapes.specs.Writable.{Writable};
-ghost use Rattle.encoder_shapes.specs.Shapes.{unit, unitNot, notBoth, implies, orNot, impliesEither, bothImply, literals, atLeastOne, orAtLeastOne, eachUnitNot, eachNotBoth, eachImplies, eachBothImply, atMostOne};
+ghost use Rattle.encoder_shapes.specs.Shapes.{unit, unitNot, notBoth, implies, orNot, impliesEither, bothImply, literals, atLeastOne, orAtLeastOne};
+ghost use Rattle.encoder_shapes.specs.Shapes.{eachUnitNot, eachNotBoth, eachImplies, eachBothImply, atMostOne};
 use cnf::put;
 use cnf::put_not;
 

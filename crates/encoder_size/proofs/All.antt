@@ -9,7 +9,8 @@ use Rattle.rules.specs.Record.{size, puzzle, RecordFits}
 use Rattle.rules.specs.Board.{Board, gridBoard}
 use Rattle.answers.specs.Lists.{upTo, each, keep}
 use Rattle.encoder.specs.Variables.{openCount, variableCount}
-use Rattle.encoder.specs.Clauses.{Clause, touchingAt, linksAt, startAt, distanceAt, someStart, start, touching, clueLines, links, distance, clauses, written, clauseList}
+use Rattle.encoder.specs.Clauses.{Clause, touchingAt, linksAt, startAt, distanceAt, someStart, start, touching, clueLines, links, distance, clauses, written}
+use Rattle.encoder.specs.Clauses.{clauseList}
 use Rattle.answers.proofs.Elements.{each-append}
 use Rattle.encoder.proofs.ClauseLists.{each-next, atCell, below-each}
 use Rattle.encoder.proofs.Counts.{Sized, sized-none, sized-append, some-start-sized}
@@ -27,7 +28,8 @@ module _ (many : List Clause → ℕ) (none : many [] ≡ 0) (adds : (cs ds : Li
       let i = both F G xs in
       omega (arith, adds (F x ++ G x) (each xs (λ x. F x ++ G x)), adds (F x) (G x), adds (F x) (each xs F), adds (G x) (each xs G))
 
-  regrouped : {g : Grid} {s : List ℕ} → RecordFits g s → many (clauses (gridBoard g s)) ≡ many (each (upTo (size g)) (cellFamilies g s)) + many (someStart (gridBoard g s) ∷ [])
+  regrouped : {g : Grid} {s : List ℕ} → RecordFits g s
+      → many (clauses (gridBoard g s)) ≡ many (each (upTo (size g)) (cellFamilies g s)) + many (someStart (gridBoard g s) ∷ [])
   unfolding clauses
   regrouped {g} {s} h =
       let b = gridBoard g s in
@@ -73,7 +75,17 @@ pub record Adding (g : Grid) (s : List ℕ) (n e x : ℕ) : Type 0 where
   long : e ≡ elements + (openCount (gridBoard g s) + 1)
 
 pub adding-start : {g : Grid} {s : List ℕ} {f : ℕ} → f ≡ openCount (gridBoard g s) → Adding g s 1 (f + 1) 0
-adding-start {g} {s} q = record { within = omega arith; clauses = 0; elements = 0; sized = sized-none (gridBoard g s); few = omega arith; short = omega arith; all = refl; long = omega arith }
+adding-start {g} {s} q =
+    record {
+      within = omega arith;
+      clauses = 0;
+      elements = 0;
+      sized = sized-none (gridBoard g s);
+      few = omega arith;
+      short = omega arith;
+      all = refl;
+      long = omega arith;
+    }
 
 module _ {g : Grid} {s : List ℕ} {n e x : ℕ} (h : RecordFits g s) (p : Adding g s n e x) where
   pub adding-few : (n ≤ x * 2 ^ 40 + 1) × (e ≤ x * 2 ^ 40 + (openCount (gridBoard g s) + 1))
@@ -88,12 +100,14 @@ module _ {g : Grid} {s : List ℕ} {n e x : ℕ} (h : RecordFits g s) (p : Addin
       let y = r .few in
       let z = r .short in
       let q : 0 + x ≡ x = omega arith in
-      let m : each (upTo x) (cellFamilies g s) ++ cellFamilies g s x ≡ each (upTo (x + 1)) (cellFamilies g s) = ap (λ k. each (upTo x) (cellFamilies g s) ++ cellFamilies g s k) (sym q) ∙ sym (each-next (cellFamilies g s) 0 x) in
+      let m : each (upTo x) (cellFamilies g s) ++ cellFamilies g s x ≡ each (upTo (x + 1)) (cellFamilies g s) = ap (λ k. each (upTo x) (cellFamilies g s) ++ cellFamilies g s k) (sym q)
+      ∙ sym (each-next (cellFamilies g s) 0 x) in
       record {
         within = omega arith;
         clauses = p .clauses + a .clauses;
         elements = p .elements + a .elements;
-        sized = subst (λ cs. Sized (gridBoard g s) cs (p .clauses + a .clauses) (p .elements + a .elements)) m (sized-append (gridBoard g s) (p .sized) (r .sized));
+        sized =
+            subst (λ cs. Sized (gridBoard g s) cs (p .clauses + a .clauses) (p .elements + a .elements)) m (sized-append (gridBoard g s) (p .sized) (r .sized));
         few = omega arith;
         short = omega arith;
         all = omega arith;
@@ -116,7 +130,8 @@ module _ {g : Grid} {s : List ℕ} {n e x : ℕ} (h : RecordFits g s) (p : Addin
       let Y = ap (λ k. length (each (each (upTo k) (cellFamilies g s)) (written b))) q in
       record {
         clauses = (let z = regrouped length refl length-append h in omega arith);
-        elements = (let z = regrouped (λ cs. length (each cs (written b))) refl (λ cs ds. ap length (each-append (written b) cs ds) ∙ length-append (each cs (written b)) (each ds (written b))) h in omega arith);
+        elements =
+            (let z = regrouped (λ cs. length (each cs (written b))) refl (λ cs ds. ap length (each-append (written b) cs ds) ∙ length-append (each cs (written b)) (each ds (written b))) h in omega arith);
       }
 
 pub counted : (b : Board) {n e v : ℕ} → Sized b (clauses b) n e → v ≡ variableCount b → record { elements = e; variables = v; clauses = n } ≡ countsOf b

@@ -22,7 +22,8 @@ use Rattle.encoder.specs.Clauses.{Clause, eastSouth, fromOne, touchingAt, clueP
 use Rattle.encoder.proofs.Places.{rank}
 use Rattle.encoder.proofs.Bounds.{neighbours-most}
 use Rattle.encoder.proofs.ClauseLists.{atCell, at-open, at-shut, lower-is}
-use Rattle.encoder.proofs.Counts.{pairCount, Sized, sized-none, sized-append, sized-is, around, after, touching-sized, clue-sized, links-sized, start-sized, distance-sized, from-one}
+use Rattle.encoder.proofs.Counts.{pairCount, Sized, sized-none, sized-append, sized-is, around, after, touching-sized, clue-sized, links-sized, start-sized}
+use Rattle.encoder.proofs.Counts.{distance-sized, from-one}
 use Rattle.judge_cells.proofs.Checks.{is-opened}
 use Rattle.encoder_numbers.proofs.Numbers.{line-few, rank-few, links-sum}
 use Rattle.encoder_numbers.proofs.Neighbours.{some-open}
@@ -46,7 +47,8 @@ module _ {g : Grid} {s : List ℕ} {x : ℕ} (h : RecordFits g s) (inside : x < 
         (λ t. at (touchingAt b) t ++ (none t ++ (at (linksAt b) t ++ (at (startAt b) t ++ at (distanceAt b) t))))
 
     open-few : (0 < openCount b) × (openCount b ≤ mostCells) × (rank b x ≤ mostCells)
-    open-few = let w = h .sides .few in (some-open h (record { inside = inside; opened = opened }), omega (arith, rank-few b (size g)), omega (arith, rank-few b x))
+    open-few =
+        let w = h .sides .few in (some-open h (record { inside = inside; opened = opened }), omega (arith, rank-few b (size g)), omega (arith, rank-few b x))
 
     open-amounts : Amounts b (cellFamilies g s x) (openAmount (openCount b) (rank b x) (around b x) (after b x) (length (neighbours b x (east ∷ []))))
     open-amounts =
@@ -61,7 +63,9 @@ module _ {g : Grid} {s : List ℕ} {x : ℕ} (h : RecordFits g s) (inside : x < 
         let j = neighbours-most b x eastSouth in
         let o = neighbours-most b x (east ∷ []) in
         record {
-          sized = subst (λ cs. Sized b cs (a .clauses) (a .elements)) open-families (sized-is b (omega arith) (omega (arith, mul-assoc (around b x) (length (fromOne b)) 4))
+          sized =
+              subst (λ cs. Sized b cs (a .clauses) (a .elements)) open-families
+              (sized-is b (omega arith) (omega (arith, mul-assoc (around b x) (length (fromOne b)) 4))
               (sized-append b (touching-sized b x) (sized-append b (sized-none b) (sized-append b (links-sized b x) (sized-append b (start-sized b x) (distance-sized b x))))));
           few = omega arith;
           short = omega arith;
@@ -75,8 +79,14 @@ module _ {g : Grid} {s : List ℕ} {x : ℕ} (h : RecordFits g s) (inside : x < 
 
       pub open-asks : ((0 < f) × (f ≤ mostCells) × (lower ≤ mostCells)) × ((m ≤ 4) × (t + u ≤ 2) × (t ≤ 1))
       open-asks =
-          let (i, j, k) = open-few in
-          ((omega arith, omega arith, omega arith), (omega (arith, neighbours-most b x directions), omega (arith, two-sides, neighbours-most b x eastSouth), omega (arith, neighbours-most b x (east ∷ []))))
+          let (i, j, k) = open-few in (
+            (omega arith, omega arith, omega arith),
+            (
+              omega (arith, neighbours-most b x directions),
+              omega (arith, two-sides, neighbours-most b x eastSouth),
+              omega (arith, neighbours-most b x (east ∷ [])),
+            ),
+          )
 
       pub open-counted : {r : Amount} → r ≡ openAmount f lower m (t + u) t → Amounts b (cellFamilies g s x) r
       open-counted q = subst (Amounts b (cellFamilies g s x)) (sym (q ∙ (λ i. openAmount (F i) (R i) (M i) (two-sides i) (T i)))) open-amounts

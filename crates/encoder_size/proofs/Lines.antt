@@ -30,11 +30,15 @@ module _ (b : Board) (isOpen : ℕ → Bool) (a n : ℕ) where
   line-sized j [] q e = let z : q ≡ 0 = omega arith in rw z (sized-is b (omega arith) (omega arith) (sized-none b))
   line-sized j (c ∷ cs) q e = by (isOpen c) refl q e (line-sized (suc j) cs)
     where
-      by : (t : Bool) → isOpen c ≡ t → (q : ℕ) → q + tally t (howMany isOpen cs) ≡ suc (length cs) → ((q : ℕ) → q + howMany isOpen cs ≡ length cs → LineSized (suc j) cs (length cs) q (howMany isOpen cs)) → LineSized j (c ∷ cs) (suc (length cs)) q (tally t (howMany isOpen cs))
+      by : (t : Bool) → isOpen c ≡ t → (q : ℕ) → q + tally t (howMany isOpen cs) ≡ suc (length cs)
+          → ((q : ℕ) → q + howMany isOpen cs ≡ length cs → LineSized (suc j) cs (length cs) q (howMany isOpen cs))
+          → LineSized j (c ∷ cs) (suc (length cs)) q (tally t (howMany isOpen cs))
       by true h q e go =
-          sized-is b (omega (arith, suc-mul (length cs) (pairCount (suc n)), suc-mul (howMany isOpen cs) (n * 2 + 1))) (omega (arith, suc-mul (length cs) (pairCount (suc n)), suc-mul (howMany isOpen cs) (n * 2 + 1)))
+          sized-is b (omega (arith, suc-mul (length cs) (pairCount (suc n)), suc-mul (howMany isOpen cs) (n * 2 + 1)))
+          (omega (arith, suc-mul (length cs) (pairCount (suc n)), suc-mul (howMany isOpen cs) (n * 2 + 1)))
           (sized-append b (cell-open b a n j c isOpen h) (go q (omega arith)))
       by false h zero e go = absurd (let m = many-most isOpen cs in omega arith)
       by false h (suc q) e go =
-          sized-is b (omega (arith, suc-mul (length cs) (pairCount (suc n)), suc-mul q (suc n))) (omega (arith, suc-mul (length cs) (pairCount (suc n)), suc-mul q (suc n)))
+          sized-is b (omega (arith, suc-mul (length cs) (pairCount (suc n)), suc-mul q (suc n)))
+          (omega (arith, suc-mul (length cs) (pairCount (suc n)), suc-mul q (suc n)))
           (sized-append b (cell-clue b a n j c isOpen h) (go q (omega arith)))

@@ -1,4 +1,4 @@
-// Counts a grid's clauses and their elements without writing them: of each cell by products, so that no clause is gone through.
+// Counts a grid's clauses and their elements without writing them: of each cell by products, so that no clause is visited.
 ghost use mathlib.Core.Path.{_≡_};
 ghost use Prim.Native.Nat.{_*_, _≤_, _<_, _^_};
 ghost use lib.ListN.{length, getD};

@@ -78,7 +78,11 @@ module _ (p : Direction → Bool) where
 -- and back: a byte that is allowed is made of what it shows
 allowed-back : (o : Bool) (v : ℕ) → Allowed o v → drawnByte o (eqb v 0x10) (byteLink v) ≡ v
 allowed-back true v (inl e) = rw e refl
-allowed-back true v (inr (p, e)) = rw e (let l = sum-small p in ap (λ z. drawnByte true z (byteLink (linkSum p))) (ne-eqb (linkSum p) 0x10 (λ e. omega arith)) ∙ byte-white (byteLink (linkSum p)) ∙ sum-same (byteLink (linkSum p)) p (sum-link p))
+allowed-back true v (inr (p, e)) =
+    rw e
+    (let l = sum-small p in
+    ap (λ z. drawnByte true z (byteLink (linkSum p))) (ne-eqb (linkSum p) 0x10 (λ e. omega arith)) ∙ byte-white (byteLink (linkSum p))
+    ∙ sum-same (byteLink (linkSum p)) p (sum-link p))
 allowed-back false v e = sym e
 
 -- 2. The list, cell by cell
@@ -96,7 +100,7 @@ module _ (b : Board) (D : Drawing) where
   bytes-at : (x : ℕ) → x < b .size → getD (bytesFor b D) x 0 ≡ drawnByte (b .isOpen x) (D .black x) (D .link x)
   bytes-at x h = made-at byte 0 (b .size) x h
 
-  -- the bytes of a solution show it again
+  -- the drawing that the bytes of a solution are is that solution
   module _ (law : Laws b) (sol : Solution b D) where
     bare : (x : ℕ) → Bare (D .link x) (D .black x)
     bare x e d = off (D .link x d) (λ h. clash e (of-white b (D .black) x (sol .links .at-white x d h) .1))
@@ -108,14 +112,16 @@ module _ (b : Board) (D : Drawing) where
     shut-link x d h = off (D .link x d) (λ e. clash (of-white b (D .black) x (sol .links .at-white x d e) .0) h)
 
     -- what a byte shows: of an open cell what it was made of, elsewhere (0x20, or 0 beyond the board) nothing
-    module _ {A : Type 0} (shows : ℕ → A) (x : ℕ) (is : A) (opened : shows (drawnByte true (D .black x) (D .link x)) ≡ is) (shut : b .isOpen x ≡ false → (shows 0x20 ≡ is) × (shows 0 ≡ is)) where
+    module _ {A : Type 0} (shows : ℕ → A) (x : ℕ) (is : A) (opened : shows (drawnByte true (D .black x) (D .link x)) ≡ is)
+        (shut : b .isOpen x ≡ false → (shows 0x20 ≡ is) × (shows 0 ≡ is)) where
       shown : shows (getD (bytesFor b D) x 0) ≡ is
       shown = by (decLt x (b .size)) (b .isOpen x) refl
         where
           by : Dec (x < b .size) → (o : Bool) → b .isOpen x ≡ o → shows (getD (bytesFor b D) x 0) ≡ is
           by (yes l) true o = ap shows (bytes-at x l ∙ ap (λ t. drawnByte t (D .black x) (D .link x)) o) ∙ opened
           by (yes l) false o = ap shows (bytes-at x l ∙ ap (λ t. drawnByte t (D .black x) (D .link x)) o) ∙ shut o .0
-          by (no l) t o = ap shows (List·getD-eq-default (bytesFor b D) 0 (omega (arith, bytes-long))) ∙ shut (off (b .isOpen x) (λ h. l (law .open-stays x h))) .1
+          by (no l) t o =
+              ap shows (List·getD-eq-default (bytesFor b D) 0 (omega (arith, bytes-long))) ∙ shut (off (b .isOpen x) (λ h. l (law .open-stays x h))) .1
 
     black-shown : (x : ℕ) → blackAt (bytesFor b D) x ≡ D .black x
     black-shown x = shown (λ v. eqb v 0x10) x (D .black x) (shows-black (D .link x) (D .black x) (bare x)) (λ h. (sym (shut-black x h), sym (shut-black x h)))
@@ -130,7 +136,12 @@ module _ (b : Board) (D : Drawing) where
 
     -- so they are a solution as bytes
     pub solution-bytes : SolutionBytes b (bytesFor b D)
-    solution-bytes = record { long = bytes-long; allowed = λ x h. subst (Allowed (b .isOpen x)) (sym (bytes-at x h)) (by x (b .isOpen x)); solution = subst (Solution b) (sym drawing-shown) sol }
+    solution-bytes =
+        record {
+          long = bytes-long;
+          allowed = λ x h. subst (Allowed (b .isOpen x)) (sym (bytes-at x h)) (by x (b .isOpen x));
+          solution = subst (Solution b) (sym drawing-shown) sol;
+        }
       where
         by : (x : ℕ) (o : Bool) → Allowed o (drawnByte o (D .black x) (D .link x))
         by x true = shows-allowed (D .link x) (D .black x) (bare x)
@@ -138,4 +149,8 @@ module _ (b : Board) (D : Drawing) where
 
 -- the bytes of a solution are those of the drawing that they are
 pub bytes-back : (b : Board) (ds : List ℕ) → SolutionBytes b ds → bytesFor b (drawingAt ds) ≡ ds
-bytes-back b ds S = ext-getD 0 (bytesFor b (drawingAt ds)) ds (bytes-long b (drawingAt ds) ∙ sym (S .long)) (λ x h. let l : x < b .size = omega (arith, bytes-long b (drawingAt ds)) in bytes-at b (drawingAt ds) x l ∙ allowed-back (b .isOpen x) (getD ds x 0) (S .allowed x l))
+bytes-back b ds S =
+    ext-getD 0 (bytesFor b (drawingAt ds)) ds (bytes-long b (drawingAt ds) ∙ sym (S .long))
+    (λ x h.
+    let l : x < b .size = omega (arith, bytes-long b (drawingAt ds)) in
+    bytes-at b (drawingAt ds) x l ∙ allowed-back (b .isOpen x) (getD ds x 0) (S .allowed x l))

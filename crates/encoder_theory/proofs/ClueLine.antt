@@ -16,10 +16,12 @@ use Rattle.rules.specs.Drawing.{blacksNearest}
 use Rattle.answers.specs.Lists.{from, upTo, joined}
 use Rattle.encoder.specs.Variables.{Variable, Z, T, countsAt}
 use Rattle.encoder.specs.Clauses.{plus, minus, pairs, oneMore, countStep, cellParts, cellClauses, lineClauses, noneBlack, clueParts}
-use Rattle.answers.proofs.Elements.{all-append, all-left, all-right, all-each, each-at, all-map, map-at, all-joined, joined-all, in-from, of-from, in-upTo, of-upTo}
+use Rattle.answers.proofs.Elements.{all-append, all-left, all-right, all-each, each-at, all-map, map-at, all-joined, joined-all, in-from, of-from, in-upTo}
+use Rattle.answers.proofs.Elements.{of-upTo}
 use Rattle.encoder.proofs.Distinct.{t-count, counts-apart}
 use Rattle.encoder_theory.specs.Valuations.{Sat, Holds}
-use Rattle.encoder_theory.proofs.Views.{unit-plus, unit-minus, next-minus, next-plus, not-both, implies, by-minus, by-plus, both-not, at-most-one, one-at-most}
+use Rattle.encoder_theory.proofs.Views.{unit-plus, unit-minus, next-minus, next-plus, not-both, implies, by-minus, by-plus, both-not, at-most-one}
+use Rattle.encoder_theory.proofs.Views.{one-at-most}
 
 tally-add : (t : Bool) (k m : ℕ) → tally t k + m ≡ k + tally t m
 tally-add true k m = omega arith
@@ -54,7 +56,8 @@ module _ (w : Variable → Bool) (isOpen : ℕ → Bool) (a n : ℕ) where
   -- 1. From the clauses to the rows
 
   -- past one cell
-  past-to : (j k c : ℕ) (o : Bool) → Row j k → Holds w (countStep o a n j c k) → (tally (o && w (Z c)) k ≤ n) × (w (T a (suc j) (tally (o && w (Z c)) k)) ≡ true)
+  past-to : (j k c : ℕ) (o : Bool) → Row j k → Holds w (countStep o a n j c k)
+      → (tally (o && w (Z c)) k ≤ n) × (w (T a (suc j) (tally (o && w (Z c)) k)) ≡ true)
   past-to j k c false r h = (r .bound, implies w (T a j k) (T a (suc j) k) (h .0) (holds-at r))
   past-to j k c true r h = by (w (Z c)) refl
     where
@@ -67,7 +70,11 @@ module _ (w : Variable → Bool) (isOpen : ℕ → Bool) (a n : ℕ) where
 
       by : (z : Bool) → w (Z c) ≡ z → (tally z k ≤ n) × (w (T a (suc j) (tally z k)) ≡ true)
       by true z = full (eqb k n) refl z (h .1 .0)
-      by false z = (r .bound, unit-plus w (T a (suc j) k) (next-plus w (Z c) (plus (T a (suc j) k) ∷ []) (next-minus w (T a j k) (plus (Z c) ∷ plus (T a (suc j) k) ∷ []) (h .0) (holds-at r)) z))
+      by false z = (
+        r .bound,
+        unit-plus w (T a (suc j) k)
+            (next-plus w (Z c) (plus (T a (suc j) k) ∷ []) (next-minus w (T a j k) (plus (Z c) ∷ plus (T a (suc j) k) ∷ []) (h .0) (holds-at r)) z),
+      )
 
   step : (j k c : ℕ) → Row j k → Holds w (cellClauses isOpen a n j c) → Row (suc j) (tally (black c) k)
   step j k c r h =
@@ -82,14 +89,16 @@ module _ (w : Variable → Bool) (isOpen : ℕ → Bool) (a n : ℕ) where
   rows j k [] r h (suc i) l = absurd (omega arith)
   rows j k (c ∷ cs) r h (suc i) l =
       moved (omega arith) (tally-add (black c) k (blacksNearest black cs i))
-      (rows (suc j) (tally (black c) k) cs (step j k c r (all-left (Sat w) (cellClauses isOpen a n j c) (lineClauses isOpen a n (suc j) cs) h)) (all-right (Sat w) (cellClauses isOpen a n j c) (lineClauses isOpen a n (suc j) cs) h) i (omega arith))
+      (rows (suc j) (tally (black c) k) cs (step j k c r (all-left (Sat w) (cellClauses isOpen a n j c) (lineClauses isOpen a n (suc j) cs) h))
+      (all-right (Sat w) (cellClauses isOpen a n j c) (lineClauses isOpen a n (suc j) cs) h) i (omega arith))
 
   first-row : w (T a 0 0) ≡ true → Holds w (map (noneBlack a) (from 1 n)) → Row 0 0
   first-row p h = record { bound = omega arith; only = by }
     where
       by : (t : ℕ) → t ≤ n → w (T a 0 t) ≡ eqb 0 t
       by zero l = p
-      by (suc t) l = unit-minus w (T a 0 (suc t)) (map-at (Sat w) (noneBlack a) h (in-from 1 n (suc t) (omega arith) (omega arith))) ∙ sym (ne-eqb 0 (suc t) (omega arith))
+      by (suc t) l =
+          unit-minus w (T a 0 (suc t)) (map-at (Sat w) (noneBlack a) h (in-from 1 n (suc t) (omega arith) (omega arith))) ∙ sym (ne-eqb 0 (suc t) (omega arith))
 
   -- what T means: of the j cells of the line nearest the edge, t are black
   abbrev pub Counts : List ℕ → Type 0
@@ -114,7 +123,10 @@ module _ (w : Variable → Bool) (isOpen : ℕ → Bool) (a n : ℕ) where
 
   past-of : (j k c t : ℕ) (o : Bool) → t ≤ n → Row j k → Row (suc j) (tally (o && w (Z c)) k) → Holds w (countStep o a n j c t)
   past-of j k c t false l r s = (by-minus w (T a j t) (plus (T a (suc j) t) ∷ []) (λ p. inl (s .only t l ∙ sym (r .only t l) ∙ p)), tt)
-  past-of j k c t true l r s = (by-minus w (T a j t) (plus (Z c) ∷ plus (T a (suc j) t) ∷ []) (λ p. by-plus w (Z c) (plus (T a (suc j) t) ∷ []) (λ z. inl (white p z))), (full (eqb t n) refl, tt))
+  past-of j k c t true l r s = (
+    by-minus w (T a j t) (plus (Z c) ∷ plus (T a (suc j) t) ∷ []) (λ p. by-plus w (Z c) (plus (T a (suc j) t) ∷ []) (λ z. inl (white p z))),
+    (full (eqb t n) refl, tt),
+  )
     where
       same : w (T a j t) ≡ true → k ≡ t
       same p = eqb-true k t (sym (r .only t l) ∙ p)
@@ -123,7 +135,8 @@ module _ (w : Variable → Bool) (isOpen : ℕ → Bool) (a n : ℕ) where
       white p z = (rw z at s) .only t l ∙ eq-eqb k t (same p)
 
       full : (m : Bool) → eqb t n ≡ m → Sat w (oneMore m a j t c)
-      full true q = both-not w (T a j t) (Z c) (λ p z. let b : suc k ≤ n = (rw z at s) .bound in let f : t ≡ n = eqb-true t n q in let g : k ≡ t = same p in omega arith)
+      full true q =
+          both-not w (T a j t) (Z c) (λ p z. let b : suc k ≤ n = (rw z at s) .bound in let f : t ≡ n = eqb-true t n q in let g : k ≡ t = same p in omega arith)
       full false q = by-minus w (T a j t) (minus (Z c) ∷ plus (T a (suc j) (suc t)) ∷ []) (λ p. by-minus w (Z c) (plus (T a (suc j) (suc t)) ∷ []) (λ z.
           let ne : t ≡ n → ⊥ = eqb-false t n q in
           inl ((rw z at s) .only (suc t) (omega arith) ∙ eq-eqb (suc k) (suc t) (ap suc (same p)))))
@@ -138,7 +151,8 @@ module _ (w : Variable → Bool) (isOpen : ℕ → Bool) (a n : ℕ) where
       one u v m o p q =
           let x = Memᴰ·of-map (λ t. T a j t) (upTo (suc n)) m in
           let y = Memᴰ·of-map (λ t. T a j t) (upTo (suc n)) o in
-          sym (x .2) ∙ ap (λ t. T a j t) (sym (is (x .0) (of-upTo (suc n) (x .1)) (ap w (x .2) ∙ p)) ∙ is (y .0) (of-upTo (suc n) (y .1)) (ap w (y .2) ∙ q)) ∙ y .2
+          sym (x .2) ∙ ap (λ t. T a j t) (sym (is (x .0) (of-upTo (suc n) (x .1)) (ap w (x .2) ∙ p)) ∙ is (y .0) (of-upTo (suc n) (y .1)) (ap w (y .2) ∙ q))
+          ∙ y .2
 
   line-of : (j k : ℕ) (cs : List ℕ) → ((i : ℕ) → i ≤ length cs → Row (j + i) (k + blacksNearest black cs i)) → Holds w (lineClauses isOpen a n j cs)
   line-of j k [] f = tt
@@ -174,7 +188,10 @@ module _ (w : Variable → Bool) (isOpen : ℕ → Bool) (a n : ℕ) where
         (
           all-map (Sat w) (noneBlack a) (from 1 n) (λ t m. let r = of-from 1 n m in inl (h 0 t (omega arith) (omega arith) ∙ ne-eqb 0 t (omega arith))),
           (
-            line-of 0 0 cs (λ i l. moved {i = i} {k = blacksNearest black cs i} (omega arith) (omega arith) (record { bound = (let p = part-of cs i in omega arith); only = λ t k. h i t l k })),
+            line-of 0 0 cs
+                (λ i l.
+                moved {i = i} {k = blacksNearest black cs i} (omega arith) (omega arith)
+                (record { bound = (let p = part-of cs i in omega arith); only = λ t k. h i t l k })),
             ((inl (h (length cs) n (omega arith) (omega arith) ∙ eq-eqb _ _ (many-all black cs refl ∙ e)), tt), tt),
           ),
         ),

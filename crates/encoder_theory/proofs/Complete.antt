@@ -19,7 +19,9 @@ use Rattle.rules.proofs.Boards.{Laws}
 use Rattle.rules_theory.proofs.Directions.{opposite-injective}
 use Rattle.answers.specs.Lists.{upTo}
 use Rattle.encoder.specs.Variables.{Variable, Z, S, E, Q, directions, opens, openCount, Neighbour, neighbours, out, outgoing, distancesAt}
-use Rattle.encoder.specs.Clauses.{plus, minus, eastSouth, touch, touchingAt, clueClauses, back, incoming, bothWhite, oneWay, linkParts, linksAt, lower, blackBefore, startParts, startAt, noDistance, notAhead, nearer, fromOne, nearerEach, distanceParts, distanceAt, families, clauses}
+use Rattle.encoder.specs.Clauses.{plus, minus, eastSouth, touch, touchingAt, clueClauses, back, incoming, bothWhite, oneWay, linkParts, linksAt, lower}
+use Rattle.encoder.specs.Clauses.{blackBefore, startParts, startAt, noDistance, notAhead, nearer, fromOne, nearerEach, distanceParts, distanceAt, families}
+use Rattle.encoder.specs.Clauses.{clauses}
 use Rattle.answers.proofs.Elements.{all-each, all-map, all-at, all-joined, in-upTo, of-from, of-keep}
 use Rattle.encoder.proofs.Neighbours.{of-opens, in-opens, in-directions, Beside, of-neighbours, in-neighbours, links-apart}
 use Rattle.encoder.proofs.Distinct.{e-way, outgoing-apart}
@@ -51,7 +53,9 @@ module _ (b : Board) (law : Laws b) (D : Drawing) (sol : Solution b D) where
   clue-holds : (c : Clue) → c ∈ b .clues → Holds w (clueClauses (b .isOpen) c)
   clue-holds c m =
       clue-of w (b .isOpen) (c .cell) (c .number) (c .line)
-      (λ j t h k. ap (λ l. eqb (blacksNearest (D .black) l j) t) (line-is (b .clues) (law .clues-apart) c m) ∙ ap (λ f. eqb (blacksNearest f (c .line) j) t) (sym same))
+      (λ j t h k.
+      ap (λ l. eqb (blacksNearest (D .black) l j) t) (line-is (b .clues) (law .clues-apart) c m)
+      ∙ ap (λ f. eqb (blacksNearest f (c .line) j) t) (sym same))
       (ap (λ f. howMany f (c .line)) same ∙ all-at (λ (c : Clue). howMany (D .black) (c .line) ≡ c .number) (sol .met) m)
     where
       same : black w (b .isOpen) (c .cell) (c .number) ≡ D .black
@@ -80,7 +84,9 @@ module _ (b : Board) (law : Laws b) (D : Drawing) (sol : Solution b D) where
 
     -- 1. Touching
     touching-holds : Holds w (touchingAt b x)
-    touching-holds = all-map (Sat w) (touch x) (neighbours b x eastSouth) (λ y n. both-not w (Z x) (Z (y .cell)) (sol .untouched (y .way) x (y .cell) (beside eastSouth y n .leads)))
+    touching-holds =
+        all-map (Sat w) (touch x) (neighbours b x eastSouth)
+        (λ y n. both-not w (Z x) (Z (y .cell)) (sol .untouched (y .way) x (y .cell) (beside eastSouth y n .leads)))
 
     -- 3. Links
     links-hold : Holds w (linksAt b x)
@@ -97,8 +103,14 @@ module _ (b : Board) (law : Laws b) (D : Drawing) (sol : Solution b D) where
               (
                 (by-plus w (Z x) (map plus (incoming b x)) way-in, tt),
                 (
-                  one-at-most w (incoming b x) (links-apart b x back (λ y z e. opposite-injective (y .way) (z .way) (e-way (y .cell) (z .cell) (opposite (y .way)) (opposite (z .way)) e))) in-one,
-                  (all-map (Sat w) (oneWay x) (neighbours b x eastSouth) (λ y n. both-not w (out x y) (back y) (flow .oriented .one-way x (y .way) (y .cell) (beside eastSouth y n .leads))), tt),
+                  one-at-most w (incoming b x)
+                      (links-apart b x back (λ y z e. opposite-injective (y .way) (z .way) (e-way (y .cell) (z .cell) (opposite (y .way)) (opposite (z .way)) e)))
+                      in-one,
+                  (
+                    all-map (Sat w) (oneWay x) (neighbours b x eastSouth)
+                        (λ y n. both-not w (out x y) (back y) (flow .oriented .one-way x (y .way) (y .cell) (beside eastSouth y n .leads))),
+                    tt,
+                  ),
                 ),
               ),
             ),
@@ -164,7 +176,8 @@ module _ (b : Board) (law : Laws b) (D : Drawing) (sol : Solution b D) where
         all-joined (Sat w) (distanceParts b x) (
           (by-plus w (Z x) (map plus (distancesAt b x)) has, tt),
           (
-            all-map (Sat w) (noDistance x) (upTo (openCount b)) (λ k n. both-not w (Z x) (Q x k) (λ p q. clash p (of-white b (D .black) x (told-white b law D sol x k q) .1))),
+            all-map (Sat w) (noDistance x) (upTo (openCount b))
+                (λ k n. both-not w (Z x) (Q x k) (λ p q. clash p (of-white b (D .black) x (told-white b law D sol x k q) .1))),
             (
               (
                 by-minus w (S x) (plus (Q x 0) ∷ []) (λ p. inl (ap (λ z. w (Q z 0)) (here p) ∙ flow .counted .begins)),
@@ -174,7 +187,8 @@ module _ (b : Board) (law : Laws b) (D : Drawing) (sol : Solution b D) where
                 all-map (Sat w) (notAhead x) (fromOne b) (λ k n. both-not w (S x) (Q x k) (noneBlack k (of-from 1 (openCount b - 1) n .0))),
                 (
                   all-each (Sat w) (nearerEach b x) (neighbours b x directions) (λ y i. all-map (Sat w) (nearer x y) (fromOne b) (λ k n.
-                      by-minus w (out x y) (minus (Q x k) ∷ plus (Q (y .cell) (k - 1)) ∷ []) (λ p. by-minus w (Q x k) (plus (Q (y .cell) (k - 1)) ∷ []) (λ q. inl (falls y i k (of-from 1 (openCount b - 1) n .0) p q))))),
+                      by-minus w (out x y) (minus (Q x k) ∷ plus (Q (y .cell) (k - 1)) ∷ [])
+                      (λ p. by-minus w (Q x k) (plus (Q (y .cell) (k - 1)) ∷ []) (λ q. inl (falls y i k (of-from 1 (openCount b - 1) n .0) p q))))),
                   tt,
                 ),
               ),
@@ -191,7 +205,9 @@ module _ (b : Board) (law : Laws b) (D : Drawing) (sol : Solution b D) where
 
         falls : (y : Neighbour) → y ∈ neighbours b x directions → (k : ℕ) → 1 ≤ k → w (out x y) ≡ true → w (Q x k) ≡ true → w (Q (y .cell) (k - 1)) ≡ true
         falls y i zero h p q = absurd (omega arith)
-        falls y i (suc k) h p q = let z : suc k - 1 ≡ k = omega arith in ap (λ n. w (Q (y .cell) n)) z ∙ flow .counted .falls x (y .way) (y .cell) k p (beside directions y i .leads) q
+        falls y i (suc k) h p q =
+            let z : suc k - 1 ≡ k = omega arith in
+            ap (λ n. w (Q (y .cell) n)) z ∙ flow .counted .falls x (y .way) (y .cell) k p (beside directions y i .leads) q
 
   pub complete : Holds w (clauses b)
   unfolding clauses
@@ -203,7 +219,10 @@ module _ (b : Board) (law : Laws b) (D : Drawing) (sol : Solution b D) where
           (
             all-each (Sat w) (linksAt b) (opens b) (λ x m. links-hold m),
             (
-              (plus-some w (S s) (Memᴰ·map (λ x. S x) (in-opens b law (s-white .0))) (eq-eqb s s refl), all-each (Sat w) (startAt b) (opens b) (λ x m. start-holds m)),
+              (
+                plus-some w (S s) (Memᴰ·map (λ x. S x) (in-opens b law (s-white .0))) (eq-eqb s s refl),
+                all-each (Sat w) (startAt b) (opens b) (λ x m. start-holds m),
+              ),
               (all-each (Sat w) (distanceAt b) (opens b) (λ x m. distance-holds m), tt),
             ),
           ),

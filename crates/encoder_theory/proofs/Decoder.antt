@@ -66,7 +66,9 @@ module _ (s : List ℕ) (acc : IsAccepted s) (a : List Bool) (e : Assignment (va
   decodes S = record { says = says; hands = λ lent long. yes-unless lent long (says lent long) }
     where
       says : (lent : List ℕ) → length lent ≡ b .size → decoderAnswer s (bytesOf a) lent ≡ saysYes
-      says lent long = judges lent long ∙ ap (λ ds. firstRefusal (judgeRows b ds) saysYes) (decoded-is b a) ∙ judge-right-on (accepted-laws s acc) (drawn b (valuation b a)) .1 S
+      says lent long =
+          judges lent long ∙ ap (λ ds. firstRefusal (judgeRows b ds) saysYes) (decoded-is b a)
+          ∙ judge-right-on (accepted-laws s acc) (drawn b (valuation b a)) .1 S
 
   -- what it hands out is what the assignment draws: lend it N zeros
   pub handed : {ds : List ℕ} → DecodesTo s a ds → drawn (boardOf s) (valuation (boardOf s) a) ≡ ds

@@ -59,7 +59,8 @@ unfolding place
 place-outcome v u [] m n e = absurd (List·Memᴰ·not-nil m)
 place-outcome v u (z ∷ vs) m n e = by (same v z) (same u z) (List·Memᴰ·cases-cons m) (List·Memᴰ·cases-cons n) (place-outcome v u vs) e
   where
-    by : (c : Dec (v ≡ z)) (d : Dec (u ≡ z)) → (v ≡ z) ⊎ (v ∈ vs) → (u ≡ z) ⊎ (u ∈ vs) → (v ∈ vs → u ∈ vs → place v vs ≡ place u vs → v ≡ u) → placeStep c (place v vs) ≡ placeStep d (place u vs) → v ≡ u
+    by : (c : Dec (v ≡ z)) (d : Dec (u ≡ z)) → (v ≡ z) ⊎ (v ∈ vs) → (u ≡ z) ⊎ (u ∈ vs) → (v ∈ vs → u ∈ vs → place v vs ≡ place u vs → v ≡ u)
+        → placeStep c (place v vs) ≡ placeStep d (place u vs) → v ≡ u
     by (yes p) (yes q) i j go e = p ∙ sym q
     by (yes p) (no q) i j go e = absurd (omega arith)
     by (no p) (yes q) i j go e = absurd (omega arith)
@@ -97,7 +98,8 @@ module _ (b : Board) (law : Laws b) (D : Drawing) (sol : Solution b D) where
 
   pub told-sent : Sent (b .size) (b .next) (white b (D .black)) first (openCount b) (λ x d. told (E x d)) (λ x k. told (Q x k) ≡ true)
   told-sent =
-      walk-sent (law .wired) leads whole (openCount b) (λ x. place (Z x) (blacks b)) (λ x h. let l = place-below (Z x) (in-blacks x h) in omega (arith, length-map (opens b) (λ x. Z x)))
+      walk-sent (law .wired) leads whole (openCount b) (λ x. place (Z x) (blacks b))
+      (λ x h. let l = place-below (Z x) (in-blacks x h) in omega (arith, length-map (opens b) (λ x. Z x)))
       (λ x y h k e. z-cell x y (place-outcome (Z x) (Z y) (blacks b) (in-blacks x h) (in-blacks y k) e))
 
   pub told-drawn : (x : ℕ) (d : Direction) → D .link x d ≡ drawnLink b told x d
@@ -107,7 +109,8 @@ module _ (b : Board) (law : Laws b) (D : Drawing) (sol : Solution b D) where
   told-white = ahead-white (law .wired) leads whole
 
   -- any valuation that makes the clauses true and draws this
-  module _ (w : Variable → Bool) (proper : Proper b w) (holds : Holds w (clauses b)) (blacks : (x : ℕ) → w (Z x) ≡ D .black x) (links : (x : ℕ) (d : Direction) → D .link x d ≡ drawnLink b w x d) where
+  module _ (w : Variable → Bool) (proper : Proper b w) (holds : Holds w (clauses b)) (blacks : (x : ℕ) → w (Z x) ≡ D .black x)
+      (links : (x : ℕ) (d : Direction) → D .link x d ≡ drawnLink b w x d) where
     black-path : (λ x. w (Z x)) ≡ D .black
     black-path = fun-ext blacks
 
@@ -117,17 +120,25 @@ module _ (b : Board) (law : Laws b) (D : Drawing) (sol : Solution b D) where
         ap (λ x. w (S x)) (least-one leads (subst (λ f. Least (white b f) (b .size) s) black-path (start-first b law w proper holds s h))) ∙ h
 
     w-sent : Sent (b .size) (b .next) (white b (D .black)) first (openCount b) (λ x d. w (E x d)) (λ x k. w (Q x k) ≡ true)
-    w-sent = subst (λ f. Sent (b .size) (b .next) (white b f) first (openCount b) (λ x d. w (E x d)) (λ x k. w (Q x k) ≡ true)) black-path (sent b law w proper holds first start-at-first)
+    w-sent =
+        subst (λ f. Sent (b .size) (b .next) (white b f) first (openCount b) (λ x d. w (E x d)) (λ x k. w (Q x k) ≡ true)) black-path
+        (sent b law w proper holds first start-at-first)
 
     pub settled : (v : Variable) → Known b v → w v ≡ told v
     settled (Z x) h = blacks x
-    settled (S x) h = same-tests (w (S x)) (eqb x first) (λ p. eq-eqb x first (start-is b law w proper holds first x start-at-first p)) (λ p. ap (λ z. w (S z)) (eqb-true x first p) ∙ start-at-first)
+    settled (S x) h =
+        same-tests (w (S x)) (eqb x first) (λ p. eq-eqb x first (start-is b law w proper holds first x start-at-first p))
+        (λ p. ap (λ z. w (S z)) (eqb-true x first p) ∙ start-at-first)
     settled (E x d) h = settled-goes (law .wired) leads whole w-sent links x d
     settled (Q x k) h = by (D .black x) refl
       where
         by : (t : Bool) → D .black x ≡ t → w (Q x k) ≡ told (Q x k)
-        by false e = let c = settled-count (law .wired) leads whole w-sent links x k (law .open-stays x (h .0)) (white-of b (D .black) x (h .0) e) in same-tests (w (Q x k)) (told (Q x k)) (c .0) (c .1)
-        by true e = black-nowhere b law w proper holds x k (h .0) (h .1) (blacks x ∙ e) ∙ sym (off (told (Q x k)) (λ p. clash e (of-white b (D .black) x (told-white x k p) .1)))
+        by false e =
+            let c = settled-count (law .wired) leads whole w-sent links x k (law .open-stays x (h .0)) (white-of b (D .black) x (h .0) e) in
+            same-tests (w (Q x k)) (told (Q x k)) (c .0) (c .1)
+        by true e =
+            black-nowhere b law w proper holds x k (h .0) (h .1) (blacks x ∙ e)
+            ∙ sym (off (told (Q x k)) (λ p. clash e (of-white b (D .black) x (told-white x k p) .1)))
     settled (T a j t) (c, m, e, h, k) = subst (λ a. w (T a j t) ≡ told (T a j t)) e (
         counted b law w proper holds c m j t h k
         ∙ ap (λ f. eqb (blacksNearest f (c .line) j) t) black-path

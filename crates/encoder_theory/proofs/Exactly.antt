@@ -31,11 +31,13 @@ module _ (b : Board) (law : Laws b) where
   draws-solution a e h = solution-bytes b (drawingOf b (valuation b a)) law (sound b law (valuation b a) (proper b a e) (satisfies b a .0 h))
 
   -- of that drawing's bytes, T(j,t) of a clue tells whether t of the j cells of its line nearest the edge are black
-  pub draws-counts : (a : List Bool) → Assignment (variableCount b) a → Satisfies a (clauseList b) → (c : Clue) → c ∈ b .clues → (j t : ℕ) → j ≤ length (c .line) → t ≤ c .number
+  pub draws-counts : (a : List Bool) → Assignment (variableCount b) a → Satisfies a (clauseList b) → (c : Clue) → c ∈ b .clues → (j t : ℕ)
+      → j ≤ length (c .line) → t ≤ c .number
       → valuation b a (T (c .cell) j t) ≡ eqb (blacksNearest (blackAt (drawn b (valuation b a))) (c .line) j) t
   draws-counts a e h c m j t l k =
       counted b law (valuation b a) (proper b a e) (satisfies b a .0 h) c m j t l k
-      ∙ ap (λ (D : Drawing). eqb (blacksNearest (D .black) (c .line) j) t) (sym (drawing-shown b (drawingOf b (valuation b a)) law (sound b law (valuation b a) (proper b a e) (satisfies b a .0 h))))
+      ∙ ap (λ (D : Drawing). eqb (blacksNearest (D .black) (c .line) j) t)
+      (sym (drawing-shown b (drawingOf b (valuation b a)) law (sound b law (valuation b a) (proper b a e) (satisfies b a .0 h))))
 
   module _ (ds : List ℕ) (S : SolutionBytes b ds) where
     abbrev D : Drawing
@@ -62,7 +64,8 @@ module _ (b : Board) (law : Laws b) where
       where
         by : (t : Bool) → b .isOpen x ≡ t → valuation b the (Z x) ≡ D .black x
         by true e = reads (Z x) e
-        by false e = off (valuation b the (Z x)) (λ h. clash (proper b the the-long (Z x) h) e) ∙ sym (off (D .black x) (λ h. clash (S .solution .only-open x h) e))
+        by false e =
+            off (valuation b the (Z x)) (λ h. clash (proper b the the-long (Z x) h) e) ∙ sym (off (D .black x) (λ h. clash (S .solution .only-open x h) e))
 
     the-way : (x : ℕ) (d : Direction) → valuation b the (E x d) ≡ w (E x d)
     the-way x d = same-tests (valuation b the (E x d)) (w (E x d)) (λ h. sym (reads (E x d) (proper b the the-long (E x d) h)) ∙ h) back
@@ -80,7 +83,11 @@ module _ (b : Board) (law : Laws b) where
 
     pub the-only : (a : List Bool) → Assignment (variableCount b) a → Satisfies a (clauseList b) → drawn b (valuation b a) ≡ ds → a ≡ the
     the-only a e h q =
-        same-assignment b law a the e the-long (λ v m. settled b law D (S .solution) u p k (λ x. ap (λ (d : Drawing). d .black x) (sym same)) (λ x d. ap (λ (z : Drawing). z .link x d) same) v (of-variables b v m) ∙ sym (valuation-of b w v m))
+        same-assignment b law a the e the-long
+        (λ v m.
+        settled b law D (S .solution) u p k (λ x. ap (λ (d : Drawing). d .black x) (sym same)) (λ x d. ap (λ (z : Drawing). z .link x d) same) v
+        (of-variables b v m)
+        ∙ sym (valuation-of b w v m))
       where
         u : Variable → Bool
         u = valuation b a

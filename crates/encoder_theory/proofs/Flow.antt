@@ -47,7 +47,8 @@ module _ {size : ℕ} {go : Direction → ℕ → ℕ} {link : ℕ → Direction
         comes : goes (at k .cell) (at k .way) ≡ true → goes (go (opposite (at k .way)) j) (opposite (opposite (at k .way))) ≡ true
         comes h = rw (R .back _ _ (walk-good R u good k), opposite-opposite (at k .way)) h
 
-        by : goes (at k .cell) (at k .way) ≡ true → (goes j (at (suc k) .way) ≡ true) ⊎ (goes (go (at (suc k) .way) j) (opposite (at (suc k) .way)) ≡ true) → goes j (at (suc k) .way) ≡ true
+        by : goes (at k .cell) (at k .way) ≡ true → (goes j (at (suc k) .way) ≡ true) ⊎ (goes (go (at (suc k) .way) j) (opposite (at (suc k) .way)) ≡ true)
+            → goes j (at (suc k) .way) ≡ true
         by h (inl g) = g
         by h (inr g) = absurd (R .apart j (opposite (at k .way)) came (G .in-one j _ _ (walk-good R u good (suc k)) came g (comes h)))
 

@@ -27,7 +27,8 @@ pub record Oriented (size : ℕ) (next : Direction → ℕ → Option ℕ) (whit
   pub one-way : (x : ℕ) (d : Direction) (y : ℕ) → next d x ≡ some y → goes x d ≡ true → goes y (opposite d) ≡ true → ⊥
 
 -- Q x k: s is k links ahead of x; k stays below a bound
-pub record Counted (size : ℕ) (next : Direction → ℕ → Option ℕ) (white : ℕ → Bool) (goes : ℕ → Direction → Bool) (s bound : ℕ) (Q : ℕ → ℕ → Type 0) : Type 0 where
+pub record Counted (size : ℕ) (next : Direction → ℕ → Option ℕ) (white : ℕ → Bool) (goes : ℕ → Direction → Bool) (s bound : ℕ)
+    (Q : ℕ → ℕ → Type 0) : Type 0 where
   pub has : (x : ℕ) → x < size → white x ≡ true → (k : ℕ) × (k < bound) × Q x k
   pub begins : Q s 0
   pub ends : (x : ℕ) → Q x 0 → x ≡ s
@@ -66,7 +67,8 @@ module _ (next : Direction → ℕ → Option ℕ) (goes : ℕ → Direction →
   pub link-in : (x : ℕ) (d : Direction) (y : ℕ) → next d x ≡ some y → goes y (opposite d) ≡ true → linkOf next goes x d ≡ true
   link-in x d y e h = or-right (goes x d) (there (λ y. goes y (opposite d)) (next d x)) (ap (there (λ y. goes y (opposite d))) e ∙ h)
 
-module _ {size : ℕ} {next : Direction → ℕ → Option ℕ} {white : ℕ → Bool} {goes : ℕ → Direction → Bool} (B : Wired size next) (O : Oriented size next white goes) where
+module _ {size : ℕ} {next : Direction → ℕ → Option ℕ} {white : ℕ → Bool} {goes : ℕ → Direction → Bool} (B : Wired size next)
+    (O : Oriented size next white goes) where
   abbrev link : ℕ → Direction → Bool
   link = linkOf next goes
 
@@ -80,15 +82,19 @@ module _ {size : ℕ} {next : Direction → ℕ → Option ℕ} {white : ℕ →
       }
     where
       matched : (x : ℕ) (d : Direction) → (goes x d ≡ true) ⊎ Comes next goes x d → (y : ℕ) × (next d x ≡ some y) × (link y (opposite d) ≡ true)
-      matched x d (inl g) = let w = O .leads x d g in (w .0, w .1, link-in next goes (w .0) (opposite d) x (B .back d x (w .0) (w .1)) (rw (opposite-opposite d) g))
+      matched x d (inl g) =
+          let w = O .leads x d g in (w .0, w .1, link-in next goes (w .0) (opposite d) x (B .back d x (w .0) (w .1)) (rw (opposite-opposite d) g))
       matched x d (inr w) = (w .0, w .1, link-out next goes (w .0) (opposite d) (w .2))
 
       at-white : (x : ℕ) (d : Direction) → (goes x d ≡ true) ⊎ Comes next goes x d → white x ≡ true
       at-white x d (inl g) = O .leads x d g .2
-      at-white x d (inr w) = let v = O .leads (w .0) (opposite d) (w .2) in ap white (Option·some-injective x (v .0) (sym (B .back d x (w .0) (w .1)) ∙ v .1)) ∙ v .3
+      at-white x d (inr w) =
+          let v = O .leads (w .0) (opposite d) (w .2) in ap white (Option·some-injective x (v .0) (sym (B .back d x (w .0) (w .1)) ∙ v .1)) ∙ v .3
 
       two : (x : ℕ) → x < size → white x ≡ true → degree (link x) ≡ 2
-      two x h w = degree-is-two (link x) (a .0) (b .0) apart (link-out next goes x (a .0) (a .1)) (link-in next goes x (b .0) (b .1) (b .2) (b .3)) (λ c q. only c (link-cases next goes x c q))
+      two x h w =
+          degree-is-two (link x) (a .0) (b .0) apart (link-out next goes x (a .0) (a .1)) (link-in next goes x (b .0) (b .1) (b .2) (b .3))
+          (λ c q. only c (link-cases next goes x c q))
         where
           a : (d : Direction) × (goes x d ≡ true)
           a = O .out x h w
@@ -131,4 +137,9 @@ module _ {size : ℕ} {next : Direction → ℕ → Option ℕ} {white : ℕ →
         by x d (inr w) = inr (rw (go-is next d x (w .0) (w .1)) (w .2))
 
     pub distance : {s bound : ℕ} {Q : ℕ → ℕ → Type 0} → Counted size next white goes s bound Q → Distance (go next) goes s Q
-    distance N = record { ends = N .ends; noneBlack = N .noneBlack; falls = λ x d k g q. N .falls x d (go next d x) k g (far B L x d (drawn x d ∙ link-out next goes x d g)) q }
+    distance N =
+        record {
+          ends = N .ends;
+          noneBlack = N .noneBlack;
+          falls = λ x d k g q. N .falls x d (go next d x) k g (far B L x d (drawn x d ∙ link-out next goes x d g)) q;
+        }

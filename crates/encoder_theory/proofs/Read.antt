@@ -20,7 +20,9 @@ use Rattle.rules.proofs.Boards.{Laws}
 use Rattle.rules_theory.proofs.Directions.{opposite-opposite, opposite-injective}
 use Rattle.answers.specs.Lists.{upTo}
 use Rattle.encoder.specs.Variables.{Variable, Z, S, E, Q, directions, opens, openCount, neighbours, out, outgoing, distancesAt}
-use Rattle.encoder.specs.Clauses.{plus, minus, eastSouth, touch, touchingAt, clueClauses, back, incoming, bothWhite, oneWay, linkParts, linksAt, lower, blackBefore, startParts, startAt, noDistance, notAhead, nearer, fromOne, nearerEach, distanceParts, distanceAt, families, clauses}
+use Rattle.encoder.specs.Clauses.{plus, minus, eastSouth, touch, touchingAt, clueClauses, back, incoming, bothWhite, oneWay, linkParts, linksAt, lower}
+use Rattle.encoder.specs.Clauses.{blackBefore, startParts, startAt, noDistance, notAhead, nearer, fromOne, nearerEach, distanceParts, distanceAt, families}
+use Rattle.encoder.specs.Clauses.{clauses}
 use Rattle.answers.proofs.Elements.{each-at, map-at, joined-all, in-from, in-upTo, of-upTo, in-keep}
 use Rattle.encoder.proofs.Neighbours.{in-opens, in-directions, of-neighbours, in-neighbours}
 use Rattle.encoder.proofs.Distinct.{e-way}
@@ -50,7 +52,8 @@ least-one {x = x} {y = y} h k = by (decLt x y) (decLt y x)
     by (no l) (no m) = omega arith
 
 -- what holds of each cell and its east and south neighbour, and then of the neighbour and the cell, holds in every direction
-either-way : {b : Board} → Laws b → (P : Direction → ℕ → ℕ → Type 0) → ((d : Direction) → d ∈ eastSouth → (x y : ℕ) → b .next d x ≡ some y → P d x y) → ((d : Direction) (x y : ℕ) → P (opposite d) y x → P d x y)
+either-way : {b : Board} → Laws b → (P : Direction → ℕ → ℕ → Type 0) → ((d : Direction) → d ∈ eastSouth → (x y : ℕ) → b .next d x ≡ some y → P d x y)
+    → ((d : Direction) (x y : ℕ) → P (opposite d) y x → P d x y)
     → (d : Direction) (x y : ℕ) → b .next d x ≡ some y → P d x y
 either-way law P f turned north x y e = turned north x y (f south (List·Memᴰ·tail (List·Memᴰ·head refl)) y x (law .wired .back north x y e))
 either-way law P f turned east x y e = f east (List·Memᴰ·head refl) x y e
@@ -85,13 +88,17 @@ module _ (b : Board) (law : Laws b) (w : Variable → Bool) (proper : Proper b w
   clue-at c m = each-at (Sat w) (clueClauses (b .isOpen)) (all-families .1 .0) m
 
   -- an open neighbour in its list
-  beside : (x : ℕ) (d : Direction) (y : ℕ) (ds : List Direction) → d ∈ ds → b .next d x ≡ some y → b .isOpen y ≡ true → record { way = d; cell = y } ∈ neighbours b x ds
+  beside : (x : ℕ) (d : Direction) (y : ℕ) (ds : List Direction) → d ∈ ds → b .next d x ≡ some y → b .isOpen y ≡ true
+      → record { way = d; cell = y } ∈ neighbours b x ds
   beside x d y ds m e h = in-neighbours b x ds (record { way = d; cell = y }) m (record { leads = e; opened = h })
 
   -- 1. Touching
   touch-at : (d : Direction) → d ∈ eastSouth → (x y : ℕ) → b .next d x ≡ some y → w (Z x) ≡ true → w (Z y) ≡ true → ⊥
   touch-at d m x y e h k =
-      not-both w (Z x) (Z y) (map-at (Sat w) (touch x) (each-at (Sat w) (touchingAt b) (all-families .0) (in-opens b law (proper (Z x) h))) (beside x d y eastSouth m e (proper (Z y) k))) h k
+      not-both w (Z x) (Z y)
+      (map-at (Sat w) (touch x) (each-at (Sat w) (touchingAt b) (all-families .0) (in-opens b law (proper (Z x) h)))
+      (beside x d y eastSouth m e (proper (Z y) k)))
+      h k
 
   pub untouched : (d : Direction) (x y : ℕ) → b .next d x ≡ some y → w (Z x) ≡ true → w (Z y) ≡ true → ⊥
   untouched = either-way law (λ d x y. w (Z x) ≡ true → w (Z y) ≡ true → ⊥) touch-at (λ d x y f h k. f k h)
@@ -100,8 +107,12 @@ module _ (b : Board) (law : Laws b) (w : Variable → Bool) (proper : Proper b w
   leads : (x : ℕ) (d : Direction) → goes x d ≡ true → (y : ℕ) × (b .next d x ≡ some y) × (bright x ≡ true) × (bright y ≡ true)
   leads x d h =
       let (o, (y, e, p)) = proper (E x d) h in
-      let c = each-at (Sat w) (bothWhite x) (links-at x o .0) (beside x d y directions (in-directions d) e p) in
-      (y, e, white-of b black x o (off (w (Z x)) (not-both w (E x d) (Z x) (c .0) h)), white-of b black y p (off (w (Z y)) (not-both w (E x d) (Z y) (c .1 .0) h)))
+      let c = each-at (Sat w) (bothWhite x) (links-at x o .0) (beside x d y directions (in-directions d) e p) in (
+        y,
+        e,
+        white-of b black x o (off (w (Z x)) (not-both w (E x d) (Z x) (c .0) h)),
+        white-of b black y p (off (w (Z y)) (not-both w (E x d) (Z y) (c .1 .0) h)),
+      )
 
   way-out : (x : ℕ) → bright x ≡ true → (d : Direction) × (goes x d ≡ true)
   way-out x h =
@@ -131,17 +142,21 @@ module _ (b : Board) (law : Laws b) (w : Variable → Bool) (proper : Proper b w
   in-in x d y e h = Memᴰ·map back (beside x d y directions (in-directions d) e (proper (E y (opposite d)) h .0))
 
   in-one : (x : ℕ) (d e : Direction) (y z : ℕ) → b .next d x ≡ some y → goes y (opposite d) ≡ true → b .next e x ≡ some z → goes z (opposite e) ≡ true → d ≡ e
-  in-one x d e y z p h q k = opposite-injective d e (e-way y z (opposite d) (opposite e) (at-most-one w (links-at x (end-open x d y p h) .1 .1 .1 .1 .0) (in-in x d y p h) (in-in x e z q k) h k))
+  in-one x d e y z p h q k =
+      opposite-injective d e
+      (e-way y z (opposite d) (opposite e) (at-most-one w (links-at x (end-open x d y p h) .1 .1 .1 .1 .0) (in-in x d y p h) (in-in x e z q k) h k))
 
   one-way-at : (d : Direction) → d ∈ eastSouth → (x y : ℕ) → b .next d x ≡ some y → goes x d ≡ true → goes y (opposite d) ≡ true → ⊥
   one-way-at d m x y e h k =
-      not-both w (E x d) (E y (opposite d)) (map-at (Sat w) (oneWay x) (links-at x (proper (E x d) h .0) .1 .1 .1 .1 .1 .0) (beside x d y eastSouth m e (proper (E y (opposite d)) k .0))) h k
+      not-both w (E x d) (E y (opposite d))
+      (map-at (Sat w) (oneWay x) (links-at x (proper (E x d) h .0) .1 .1 .1 .1 .1 .0) (beside x d y eastSouth m e (proper (E y (opposite d)) k .0))) h k
 
   one-way : (d : Direction) (x y : ℕ) → b .next d x ≡ some y → goes x d ≡ true → goes y (opposite d) ≡ true → ⊥
   one-way = either-way law (λ d x y. goes x d ≡ true → goes y (opposite d) ≡ true → ⊥) one-way-at (λ d x y f h k. f k (rw (opposite-opposite d) h))
 
   oriented : Oriented (b .size) (b .next) bright goes
-  oriented = record { leads = leads; out = λ x l h. way-out x h; out-one = out-one; into = λ x l h. way-in x h; in-one = in-one; one-way = λ x d y. one-way d x y }
+  oriented =
+      record { leads = leads; out = λ x l h. way-out x h; out-one = out-one; into = λ x l h. way-in x h; in-one = in-one; one-way = λ x d y. one-way d x y }
 
   -- 4. Start: there is one, it is the first white cell, and the loop leaves it eastward
   pub some-start : (s : ℕ) × (w (S s) ≡ true)
@@ -154,7 +169,11 @@ module _ (b : Board) (law : Laws b) (w : Variable → Bool) (proper : Proper b w
   start-first s h =
       let o = proper (S s) h in
       let p = start-at s o in
-      record { below = law .open-stays s o; holds = white-of b black s o (off (w (Z s)) (not-both w (S s) (Z s) (p .0 .0) h)); first = λ k l. before k l (p .1 .0) }
+      record {
+        below = law .open-stays s o;
+        holds = white-of b black s o (off (w (Z s)) (not-both w (S s) (Z s) (p .0 .0) h));
+        first = λ k l. before k l (p .1 .0);
+      }
     where
       before : (k : ℕ) → k < s → Holds w (map (blackBefore s) (lower b s)) → bright k ≡ false
       before k l p = by (b .isOpen k) refl
@@ -175,7 +194,8 @@ module _ (b : Board) (law : Laws b) (w : Variable → Bool) (proper : Proper b w
 
   -- 5. Distance
   counted : (s : ℕ) → w (S s) ≡ true → Counted (b .size) (b .next) bright goes s (openCount b) (λ x k. w (Q x k) ≡ true)
-  counted s h = record { has = has; begins = implies w (S s) (Q s 0) (distance-at s (proper (S s) h) .1 .1 .0 .0) h; ends = ends; noneBlack = noneBlack; falls = falls }
+  counted s h =
+      record { has = has; begins = implies w (S s) (Q s 0) (distance-at s (proper (S s) h) .1 .1 .0 .0) h; ends = ends; noneBlack = noneBlack; falls = falls }
     where
       has : (x : ℕ) → x < b .size → bright x ≡ true → (k : ℕ) × (k < openCount b) × (w (Q x k) ≡ true)
       has x l e =
@@ -204,7 +224,8 @@ module _ (b : Board) (law : Laws b) (w : Variable → Bool) (proper : Proper b w
           let r : b .isOpen y ≡ true = ap (b .isOpen) (Option·some-injective y z (sym e ∙ f)) ∙ p in
           let i : suc k - 1 ≡ k = omega arith in
           let c = map-at (Sat w) (nearer x (record { way = d; cell = y })) (each-at (Sat w) (nearerEach b x) (distance-at x o .1 .1 .1 .1 .0) (beside x d y directions (in-directions d) e r)) (in-one x k q) in
-          ap (λ n. w (Q y n)) (sym i) ∙ implies w (Q x (suc k)) (Q y (suc k - 1)) (next-minus w (E x d) (minus (Q x (suc k)) ∷ plus (Q y (suc k - 1)) ∷ []) c g) q
+          ap (λ n. w (Q y n)) (sym i)
+          ∙ implies w (Q x (suc k)) (Q y (suc k - 1)) (next-minus w (E x d) (minus (Q x (suc k)) ∷ plus (Q y (suc k - 1)) ∷ []) c g) q
 
   -- a black cell has no distance
   pub black-nowhere : (x k : ℕ) → b .isOpen x ≡ true → k < openCount b → w (Z x) ≡ true → w (Q x k) ≡ false

@@ -62,7 +62,8 @@ pub record Whole (size : ℕ) (next : Direction → ℕ → Option ℕ) (white :
   pub links : Links size next white link
   pub all : (x : ℕ) → x < size → white x ≡ true → Reach next link s x
 
-module _ {size : ℕ} {next : Direction → ℕ → Option ℕ} {white : ℕ → Bool} {link : ℕ → Direction → Bool} (B : Wired size next) {s : ℕ} (F : Least white size s) (A : Whole size next white link s) where
+module _ {size : ℕ} {next : Direction → ℕ → Option ℕ} {white : ℕ → Bool} {link : ℕ → Direction → Bool} (B : Wired size next) {s : ℕ} (F : Least white size s)
+    (A : Whole size next white link s) where
   abbrev L : Links size next white link
   L = A .links
 
@@ -92,7 +93,8 @@ module _ {size : ℕ} {next : Direction → ℕ → Option ℕ} {white : ℕ →
       (w .0, w .1, eqb-true _ _ (p .0), same-true _ _ (p .1))
 
   goes-at : (k x : ℕ) (d : Direction) → k < steps → at k .cell ≡ x → at k .way ≡ d → runs x d ≡ true
-  goes-at k x d h e f = true-any (λ k. eqb (at k .cell) x && same (at k .way) d) steps k h (both-and (eqb (at k .cell) x) (same (at k .way) d) (eq-eqb _ _ e) (true-same _ _ f))
+  goes-at k x d h e f =
+      true-any (λ k. eqb (at k .cell) x && same (at k .way) d) steps k h (both-and (eqb (at k .cell) x) (same (at k .way) d) (eq-eqb _ _ e) (true-same _ _ f))
 
   abbrev ahead : ℕ → ℕ → Bool
   ahead = aheadOf next link s steps
@@ -104,7 +106,9 @@ module _ {size : ℕ} {next : Direction → ℕ → Option ℕ} {white : ℕ →
       (w .0, w .1, eqb-true _ _ (p .0), eqb-true _ _ (p .1))
 
   ahead-at : (a x k : ℕ) → a < steps → at (suc a) .cell ≡ x → k + suc a ≡ steps → ahead x k ≡ true
-  ahead-at a x k h e f = true-any (λ a. eqb (at (suc a) .cell) x && eqb (k + suc a) steps) steps a h (both-and (eqb (at (suc a) .cell) x) (eqb (k + suc a) steps) (eq-eqb _ _ e) (eq-eqb _ _ f))
+  ahead-at a x k h e f =
+      true-any (λ a. eqb (at (suc a) .cell) x && eqb (k + suc a) steps) steps a h
+      (both-and (eqb (at (suc a) .cell) x) (eqb (k + suc a) steps) (eq-eqb _ _ e) (eq-eqb _ _ f))
 
   -- a cell of which the start is ahead is on the loop
   pub ahead-white : (x k : ℕ) → aheadOf next link s steps x k ≡ true → white x ≡ true
@@ -159,8 +163,12 @@ module _ {size : ℕ} {next : Direction → ℕ → Option ℕ} {white : ℕ →
     where
       leads : (x : ℕ) (d : Direction) → runs x d ≡ true → (y : ℕ) × (next d x ≡ some y) × (white x ≡ true) × (white y ≡ true)
       leads x d h =
-          let v = goes-from x d h in
-          (at (suc (v .0)) .cell, (λ t. next (sym (v .3) t) (sym (v .2) t)) ∙ pass-steps B L F (v .0), ap white (sym (v .2)) ∙ pass-white B L F (v .0), pass-white B L F (suc (v .0)))
+          let v = goes-from x d h in (
+            at (suc (v .0)) .cell,
+            (λ t. next (sym (v .3) t) (sym (v .2) t)) ∙ pass-steps B L F (v .0),
+            ap white (sym (v .2)) ∙ pass-white B L F (v .0),
+            pass-white B L F (suc (v .0)),
+          )
 
       out-one : (x : ℕ) (d e : Direction) → runs x d ≡ true → runs x e ≡ true → d ≡ e
       out-one x d e h k =
@@ -170,8 +178,12 @@ module _ {size : ℕ} {next : Direction → ℕ → Option ℕ} {white : ℕ →
 
       into : (x : ℕ) → x < size → white x ≡ true → (d : Direction) × (y : ℕ) × (next d x ≡ some y) × (runs y (opposite d) ≡ true)
       into x h w =
-          let v = from-one x h w in
-          (opposite (at (v .0) .way), at (v .0) .cell, ap (next (opposite (at (v .0) .way))) (sym (v .2)) ∙ back-step (v .0), goes-at (v .0) _ _ (v .1) refl (sym (opposite-opposite (at (v .0) .way))))
+          let v = from-one x h w in (
+            opposite (at (v .0) .way),
+            at (v .0) .cell,
+            ap (next (opposite (at (v .0) .way))) (sym (v .2)) ∙ back-step (v .0),
+            goes-at (v .0) _ _ (v .1) refl (sym (opposite-opposite (at (v .0) .way))),
+          )
 
       in-one : (x : ℕ) (d e : Direction) (y z : ℕ) → next d x ≡ some y → runs y (opposite d) ≡ true → next e x ≡ some z → runs z (opposite e) ≡ true → d ≡ e
       in-one x d e y z p h q k =
@@ -180,7 +192,8 @@ module _ {size : ℕ} {next : Direction → ℕ → Option ℕ} {white : ℕ →
           let a : at (suc (v .0)) .cell ≡ x = onward (v .0) y x (opposite d) (v .2) (v .3) (B .back d x y p) in
           let b : at (suc (w .0)) .cell ≡ x = onward (w .0) z x (opposite e) (w .2) (w .3) (B .back e x z q) in
           let c : at (suc (v .0)) ≡ at (suc (w .0)) = one-state (suc (v .0)) (suc (w .0)) (a ∙ sym b) in
-          opposite-injective d e (sym (v .3) ∙ opposite-injective _ _ (sym (came-by (v .0)) ∙ (λ t. other (link (c t .cell)) (c t .way)) ∙ came-by (w .0)) ∙ w .3)
+          opposite-injective d e
+          (sym (v .3) ∙ opposite-injective _ _ (sym (came-by (v .0)) ∙ (λ t. other (link (c t .cell)) (c t .way)) ∙ came-by (w .0)) ∙ w .3)
 
       one-way : (x : ℕ) (d : Direction) (y : ℕ) → next d x ≡ some y → runs x d ≡ true → runs y (opposite d) ≡ true → ⊥
       one-way x d y p h k =
@@ -203,7 +216,8 @@ module _ {size : ℕ} {next : Direction → ℕ → Option ℕ} {white : ℕ →
           by : (d ≡ at (suc (v .0)) .way) ⊎ (d ≡ other (link (at (suc (v .0)) .cell)) (at (suc (v .0)) .way)) → linkOf next runs x d ≡ true
           by (inr q) =
               let r : d ≡ opposite (at (v .0) .way) = q ∙ came-by (v .0) in
-              link-in next runs x d (at (v .0) .cell) ((λ t. next (r t) (sym (v .2) t)) ∙ back-step (v .0)) (goes-at (v .0) _ (opposite d) (v .1) refl (sym (opposite-opposite (at (v .0) .way)) ∙ ap opposite (sym r)))
+              link-in next runs x d (at (v .0) .cell) ((λ t. next (r t) (sym (v .2) t)) ∙ back-step (v .0))
+              (goes-at (v .0) _ (opposite d) (v .1) refl (sym (opposite-opposite (at (v .0) .way)) ∙ ap opposite (sym r)))
           by (inl q) =
               let u = on-loop x (RR .inside x d h) (L .at-white x d h) in
               let c : at (u .0) ≡ at (suc (v .0)) = one-state (u .0) (suc (v .0)) (u .2 ∙ sym (v .2)) in
@@ -252,7 +266,8 @@ module _ {size : ℕ} {next : Direction → ℕ → Option ℕ} {white : ℕ →
           ahead-at (suc (v .0)) y k (omega arith) (onward (suc (v .0)) x y d (v .2) (ap (λ (z : State). z .way) (sym c) ∙ u .3) p) (omega arith)
 
   -- the bound: any number of values that tell the white cells apart
-  pub walk-sent : (bound : ℕ) (rank : ℕ → ℕ) → ((x : ℕ) → white x ≡ true → rank x < bound) → ((x y : ℕ) → white x ≡ true → white y ≡ true → rank x ≡ rank y → x ≡ y)
+  pub walk-sent : (bound : ℕ) (rank : ℕ → ℕ) → ((x : ℕ) → white x ≡ true → rank x < bound)
+      → ((x y : ℕ) → white x ≡ true → white y ≡ true → rank x ≡ rank y → x ≡ y)
       → Sent size next white s bound (goesOf next link s steps) (λ x k. aheadOf next link s steps x k ≡ true)
   walk-sent bound rank low tell = record { oriented = walk-oriented; eastward = walk-east; counted = walk-counted bound short }
     where
@@ -261,7 +276,8 @@ module _ {size : ℕ} {next : Direction → ℕ → Option ℕ} {white : ℕ →
 
   -- 2. There is no other that draws these links
 
-  module _ {bound : ℕ} {goes : ℕ → Direction → Bool} {Q : ℕ → ℕ → Type 0} (N : Sent size next white s bound goes Q) (drawn : (x : ℕ) (d : Direction) → link x d ≡ linkOf next goes x d) where
+  module _ {bound : ℕ} {goes : ℕ → Direction → Bool} {Q : ℕ → ℕ → Type 0} (N : Sent size next white s bound goes Q)
+      (drawn : (x : ℕ) (d : Direction) → link x d ≡ linkOf next goes x d) where
     abbrev G : Flow (go next) link goes
     G = flow B (N .oriented) L drawn
 
@@ -280,7 +296,8 @@ module _ {size : ℕ} {next : Direction → ℕ → Option ℕ} {white : ℕ →
     count-is : (x k : ℕ) → x < size → white x ≡ true → Q x k → ahead x k ≡ true
     count-is x k h w q =
         let v = from-one x h w in
-        ahead-at (v .0) x k (v .1) (v .2) (distance-is RR (start s) on G (N .eastward) W (distance B (N .oriented) L drawn (N .counted)) k (v .0) (v .1) (rw (v .2) q))
+        ahead-at (v .0) x k (v .1) (v .2)
+        (distance-is RR (start s) on G (N .eastward) W (distance B (N .oriented) L drawn (N .counted)) k (v .0) (v .1) (rw (v .2) q))
 
     pub settled-count : (x k : ℕ) → x < size → white x ≡ true → Q x k ↔ aheadOf next link s steps x k ≡ true
     settled-count x k h w = (count-is x k h w, back)

@@ -37,8 +37,11 @@ module _ (b : Board) (law : Laws b) (w : Variable → Bool) (proper : Proper b w
   blacks-open c = open-black (b .isOpen) (λ x. w (Z x)) (λ x. proper (Z x))
 
   -- T(j,t) of a clue holds if t of the j cells of its line nearest the edge are black, and not otherwise
-  pub counted : (c : Clue) → c ∈ b .clues → (j t : ℕ) → j ≤ length (c .line) → t ≤ c .number → w (T (c .cell) j t) ≡ eqb (blacksNearest (λ x. w (Z x)) (c .line) j) t
-  counted c m j t h k = counts w (b .isOpen) (c .cell) (c .number) (c .line) (clue-at b law w proper holds c m) j t h k ∙ ap (λ f. eqb (blacksNearest f (c .line) j) t) (blacks-open c)
+  pub counted : (c : Clue) → c ∈ b .clues → (j t : ℕ) → j ≤ length (c .line) → t ≤ c .number
+      → w (T (c .cell) j t) ≡ eqb (blacksNearest (λ x. w (Z x)) (c .line) j) t
+  counted c m j t h k =
+      counts w (b .isOpen) (c .cell) (c .number) (c .line) (clue-at b law w proper holds c m) j t h k
+      ∙ ap (λ f. eqb (blacksNearest f (c .line) j) t) (blacks-open c)
 
   pub sound : Solution b (drawingOf b w)
   sound =
@@ -49,7 +52,9 @@ module _ (b : Board) (law : Laws b) (w : Variable → Bool) (proper : Proper b w
         only-open = λ x h. proper (Z x) h;
         untouched = untouched b law w proper holds;
         met = all-in (λ (c : Clue). howMany (λ x. w (Z x)) (c .line) ≡ c .number) (b .clues)
-            (λ c m. ap (λ f. howMany f (c .line)) (sym (blacks-open c)) ∙ clue-met w (b .isOpen) (c .cell) (c .number) (c .line) (clue-at b law w proper holds c m));
+            (λ c m.
+            ap (λ f. howMany f (c .line)) (sym (blacks-open c))
+            ∙ clue-met w (b .isOpen) (c .cell) (c .number) (c .line) (clue-at b law w proper holds c m));
         links = oriented-links (law .wired) (N .oriented);
         whole = (s, first .below, first .holds, all-reached (law .wired) (N .oriented) (N .counted));
       }

@@ -45,19 +45,23 @@ comes-from-one s acc ds S =
     let long = exactly.the-long (boardOf s) law ds S in (
       exactly.the (boardOf s) law ds S,
       record { gives = long; satisfies = exactly.the-satisfies (boardOf s) law ds S },
-      subst (DecodesTo s (exactly.the (boardOf s) law ds S)) draws (decodes s acc (exactly.the (boardOf s) law ds S) long (subst (SolutionBytes (boardOf s)) (sym draws) S)),
+      subst (DecodesTo s (exactly.the (boardOf s) law ds S)) draws
+          (decodes s acc (exactly.the (boardOf s) law ds S) long (subst (SolutionBytes (boardOf s)) (sym draws) S)),
     )
 
 -- .. and from no other: two of them that decode to the same drawing are the same.
-pub comes-from-only-one : (s : List ℕ) → IsAccepted s → (ds : List ℕ) (a c : List Bool) → Satisfying s a → DecodesTo s a ds → Satisfying s c → DecodesTo s c ds → a ≡ c
+pub comes-from-only-one : (s : List ℕ) → IsAccepted s → (ds : List ℕ) (a c : List Bool) → Satisfying s a → DecodesTo s a ds → Satisfying s c → DecodesTo s c ds
+    → a ≡ c
 comes-from-only-one s acc ds a c h d k e =
     let law = accepted-laws s acc in
     let p = handed s acc a (h .gives) d in
     let S : SolutionBytes (boardOf s) ds = subst (SolutionBytes (boardOf s)) p (exactly.draws-solution (boardOf s) law a (h .gives) (h .satisfies)) in
-    exactly.the-only (boardOf s) law ds S a (h .gives) (h .satisfies) p ∙ sym (exactly.the-only (boardOf s) law ds S c (k .gives) (k .satisfies) (handed s acc c (k .gives) e))
+    exactly.the-only (boardOf s) law ds S a (h .gives) (h .satisfies) p
+    ∙ sym (exactly.the-only (boardOf s) law ds S c (k .gives) (k .satisfies) (handed s acc c (k .gives) e))
 
--- 3. V is at most 16,777,216 and the list gets no 16 for that V: search and writer never turn a grid's clauses down. First of any small board ..
-pub never-refused-on : {b : Board} → Laws b → Small b → (variableCount b ≤ mostVariables) × (tooManyVariables (variableCount b) ≡ false) × (wrongList (variableCount b) (clauseList b) ≡ none)
+-- 3. V is at most 16,777,216 and the list gets no 16 for that V: search and writer never refuse a grid's clauses. First of any small board ..
+pub never-refused-on : {b : Board} → Laws b → Small b
+    → (variableCount b ≤ mostVariables) × (tooManyVariables (variableCount b) ≡ false) × (wrongList (variableCount b) (clauseList b) ≡ none)
 never-refused-on {b} law small = let h = bounds.few-variables small in (h, le-ltb mostVariables (variableCount b) h, bounds.list-right b law)
 
 -- .. as is that of each grid with sides to 45 and numbers to 44 ..
@@ -65,17 +69,21 @@ pub small-board : (p : Puzzle) → p .grid .rows ≤ 45 → p .grid .columns ≤
 small-board = sizes.small-board
 
 -- .. and so of an accepted record.
-pub never-refused : (s : List ℕ) → IsAccepted s → (variableCount (boardOf s) ≤ mostVariables) × (tooManyVariables (variableCount (boardOf s)) ≡ false) × (wrongList (variableCount (boardOf s)) (clauseList (boardOf s)) ≡ none)
+pub never-refused : (s : List ℕ) → IsAccepted s
+    → (variableCount (boardOf s) ≤ mostVariables) × (tooManyVariables (variableCount (boardOf s)) ≡ false)
+    × (wrongList (variableCount (boardOf s)) (clauseList (boardOf s)) ≡ none)
 never-refused s acc = never-refused-on (accepted-laws s acc) (sizes.accepted-small s acc)
 
 -- The number of clauses that the encoder tells is the number of those that its list has.
 pub clauses-outcome : (b : Board) → clauseCount (clauseList b) ≡ length (clauses b)
 clauses-outcome = bounds.count-clauses
 
--- 4. T and the judge's count of a line, side by side (document 02, E3). Of an assignment that satisfies the clauses and the drawing that it decodes to, and a clue
+-- 4. T and the judge's count of a line, side by side (document 02, E3). Of an assignment that satisfies the clauses and the drawing that it decodes to, and a
+-- clue
 -- in cell x with its direction and number: T(j,t) holds exactly if the judge, counting its line from the edge, has t black cells after j cells.
 pub side-by-side : (s : List ℕ) → IsAccepted s → (a : List Bool) → Satisfying s a → (ds : List ℕ) → DecodesTo s a ds
-    → (x : ℕ) (d : Direction) (n : ℕ) → x < size (sides s) → getD (puzzle (sides s) s .cells) x Open ≡ Clued d n → (j t : ℕ) → j ≤ length (line (puzzle (sides s) s) d x) → t ≤ n
+    → (x : ℕ) (d : Direction) (n : ℕ) → x < size (sides s) → getD (puzzle (sides s) s .cells) x Open ≡ Clued d n → (j t : ℕ)
+    → j ≤ length (line (puzzle (sides s) s) d x) → t ≤ n
     → valuation (boardOf s) a (T x j t) ≡ true ↔ blacksNearest (blackAt ds) (line (puzzle (sides s) s) d x) j ≡ t
 side-by-side s acc a h ds dec x d n inside is j t l k = (λ p. eqb-true _ t (sym e ∙ p), λ p. e ∙ eq-eqb _ t p)
   where
@@ -83,4 +91,6 @@ side-by-side s acc a h ds dec x d n inside is j t l k = (λ p. eqb-true _ t (sym
     clue = let f = held-filled (accepted-fits s acc) in clue-in (puzzle (sides s) s) x (omega arith) is
 
     e : valuation (boardOf s) a (T x j t) ≡ eqb (blacksNearest (blackAt ds) (line (puzzle (sides s) s) d x) j) t
-    e = exactly.draws-counts (boardOf s) (accepted-laws s acc) a (h .gives) (h .satisfies) _ clue j t l k ∙ ap (λ ds. eqb (blacksNearest (blackAt ds) (line (puzzle (sides s) s) d x) j) t) (handed s acc a (h .gives) dec)
+    e =
+        exactly.draws-counts (boardOf s) (accepted-laws s acc) a (h .gives) (h .satisfies) _ clue j t l k
+        ∙ ap (λ ds. eqb (blacksNearest (blackAt ds) (line (puzzle (sides s) s) d x) j) t) (handed s acc a (h .gives) dec)

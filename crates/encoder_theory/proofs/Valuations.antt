@@ -125,8 +125,10 @@ write-back (u ∷ us) (x ∷ a) h e =
     ∙ write-back us a (h .1) (suc-inj e)))
 
 -- two assignments with the same values of all variables are one
-pub same-assignment : (b : Board) → Laws b → (a c : List Bool) → Assignment (variableCount b) a → Assignment (variableCount b) c → ((v : Variable) → v ∈ variables b → valuation b a v ≡ valuation b c v) → a ≡ c
-same-assignment b law a c e f k = sym (write-back (variables b) a apart e) ∙ map-same (valuation b a) (valuation b c) (variables b) k ∙ write-back (variables b) c apart f
+pub same-assignment : (b : Board) → Laws b → (a c : List Bool) → Assignment (variableCount b) a → Assignment (variableCount b) c
+    → ((v : Variable) → v ∈ variables b → valuation b a v ≡ valuation b c v) → a ≡ c
+same-assignment b law a c e f k =
+    sym (write-back (variables b) a apart e) ∙ map-same (valuation b a) (valuation b c) (variables b) k ∙ write-back (variables b) c apart f
   where
     apart : Apart (variables b)
     apart = variables-apart b law
@@ -163,4 +165,5 @@ value-below (x ∷ a) zero h = omega arith
 value-below (x ∷ a) (suc n) h = let l : n < length a = value-below a n h in omega arith
 
 pub proper : (b : Board) (a : List Bool) → Assignment (variableCount b) a → Proper b (valuation b a)
-proper b a e v h = let l : place v (variables b) < length a = value-below a (place v (variables b)) h in of-variables b v (place-in v (variables b) (omega arith))
+proper b a e v h =
+    let l : place v (variables b) < length a = value-below a (place v (variables b)) h in of-variables b v (place-in v (variables b) (omega arith))

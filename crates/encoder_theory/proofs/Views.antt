@@ -65,8 +65,10 @@ module _ (w : Variable → Bool) where
   -- at most one of a list is true
   pub at-most-one : {vs : List Variable} {a c : Variable} → Holds w (pairs vs) → a ∈ vs → c ∈ vs → w a ≡ true → w c ≡ true → a ≡ c
   at-most-one h (List·Memᴰ·head e) (List·Memᴰ·head f) p q = e ∙ sym f
-  at-most-one {c = c} h (List·Memᴰ·head {x = v} {xs = vs} e) (List·Memᴰ·tail n) p q = absurd (not-both v c (map-at (Sat w) (notBoth v) (all-left (Sat w) (map (notBoth v) vs) (pairs vs) h) n) (ap w (sym e) ∙ p) q)
-  at-most-one {a = a} h (List·Memᴰ·tail {x = v} {xs = vs} m) (List·Memᴰ·head f) p q = absurd (not-both v a (map-at (Sat w) (notBoth v) (all-left (Sat w) (map (notBoth v) vs) (pairs vs) h) m) (ap w (sym f) ∙ q) p)
+  at-most-one {c = c} h (List·Memᴰ·head {x = v} {xs = vs} e) (List·Memᴰ·tail n) p q =
+      absurd (not-both v c (map-at (Sat w) (notBoth v) (all-left (Sat w) (map (notBoth v) vs) (pairs vs) h) n) (ap w (sym e) ∙ p) q)
+  at-most-one {a = a} h (List·Memᴰ·tail {x = v} {xs = vs} m) (List·Memᴰ·head f) p q =
+      absurd (not-both v a (map-at (Sat w) (notBoth v) (all-left (Sat w) (map (notBoth v) vs) (pairs vs) h) m) (ap w (sym f) ∙ q) p)
   at-most-one h (List·Memᴰ·tail {x = v} {xs = vs} m) (List·Memᴰ·tail n) p q = at-most-one (all-right (Sat w) (map (notBoth v) vs) (pairs vs) h) m n p q
 
   pub one-at-most : (vs : List Variable) → Apart vs → ((a c : Variable) → a ∈ vs → c ∈ vs → w a ≡ true → w c ≡ true → a ≡ c) → Holds w (pairs vs)

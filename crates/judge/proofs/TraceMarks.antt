@@ -26,7 +26,8 @@ use Rattle.rules.proofs.Steps.{gone-on}
 pub record Tracing (g : Grid) (ds : List ℕ) (s : ℕ) (seen₀ seen : List ℕ) (x : ℕ) (d : Direction) (left : ℕ) : Type 0 where
   pub on : OnBoard g x
   pub long : length seen ≡ length seen₀
-  pub rest : onesAt (around (go (neighbour g)) (onto (linkAt ds)) s left (record { cell = x; way = d })) seen ≡ onesAt (loopCells (size g) (neighbour g) (linkAt ds) s) seen₀
+  pub rest : onesAt (around (go (neighbour g)) (onto (linkAt ds)) s left (record { cell = x; way = d })) seen
+      ≡ onesAt (loopCells (size g) (neighbour g) (linkAt ds) s) seen₀
 
 pub trace-start : {g : Grid} {s n : ℕ} (ds seen : List ℕ) → OnBoard g s → n ≡ size g → Tracing g ds s seen seen s east n
 trace-start {g} {s} ds seen o e =

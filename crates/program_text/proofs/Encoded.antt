@@ -55,7 +55,7 @@ module _ (s : List ℕ) where
       by c false h = absurd (n (ap (λ (t : Outcome). t .number) (left s c room counts) ∙ (rw h)))
 
 module _ {s : List ℕ} {t : Outcome} {new : List ℤ} (w : Encodes s t new) where
-  -- turned down
+  -- refused
   pub refused-line : (text : List ℕ) → (t .number ≡ 0 → ⊥) → refusedLine (t .number) ≡ printed (programNumber s) text
   refused-line text n =
       let e : t .number ≡ encoderAnswer s zeros .number = ap (λ (t : Outcome). t .number) (w .outcome) in

@@ -25,7 +25,8 @@ use Rattle.rules.specs.declared.Parsed.the-variants.{Accepted, Refused}
 use Rattle.rules.specs.Board.{boardOf}
 use Rattle.rules.proofs.Boards.{Laws, Filled, laws}
 use Rattle.rules.proofs.Outcomes.{record-numbers}
-use Rattle.rules.specs.Record.{directionOf, readCell, cellOf, word, sides, size, cellByte, puzzle, isSide, wrongLength, wrongKind, wrongSide, wrongSize, wrongCell, Sides, RecordFits, recordRows, recordAnswer, IsAccepted, recordRefusalOutcome, parsedOutcome}
+use Rattle.rules.specs.Record.{directionOf, readCell, cellOf, word, sides, size, cellByte, puzzle, isSide, wrongLength, wrongKind, wrongSide, wrongSize}
+use Rattle.rules.specs.Record.{wrongCell, Sides, RecordFits, recordRows, recordAnswer, IsAccepted, recordRefusalOutcome, parsedOutcome}
 
 -- the bytes of clues, once for every direction
 pub clue-byte : (d b : ℕ) → 1 ≤ d → d ≤ 4 → 16 * d ≤ b → b < 16 * d + 16 → Is (Clue (directionOf d) (b - 16 * d)) ≡ readCell b

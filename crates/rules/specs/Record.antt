@@ -125,7 +125,7 @@ recordRows s =
 abbrev pub recordAnswer : List ℕ → Outcome
 recordAnswer s = firstRefusal (recordRows s) (answer (sides s .rows) (sides s .columns) 0)
 
--- a grid is accepted if the record reader doesn't turn it down
+-- a grid is accepted if the record reader doesn't refuse it
 abbrev pub IsAccepted : List ℕ → Type 0
 IsAccepted s = recordAnswer s .number ≡ 0
 

@@ -27,7 +27,7 @@ pub struct Grid {
     pub columns: usize,
 }
 
-// Why a record is turned down: 1 to 5 of document 01's table.
+// Why a record is refused: 1 to 5 of document 01's table.
 pub enum RecordRefusal {
     Length,
     Kind,

@@ -114,7 +114,8 @@ module _ (p : Direction → Bool) (two : degree p ≡ 2) (d : Direction) (h : p 
       (λ q. inr (third-picked (next1 d) (next2 d) (next3 d) (p (next1 d)) (p (next2 d)) (p (next3 d)) one-more q))
 
 -- two different directions and no third: the degree is 2
-module _ (p : Direction → Bool) (a b : Direction) (ab : a ≡ b → ⊥) (ha : p a ≡ true) (hb : p b ≡ true) (only : (c : Direction) → p c ≡ true → (c ≡ a) ⊎ (c ≡ b)) where
+module _ (p : Direction → Bool) (a b : Direction) (ab : a ≡ b → ⊥) (ha : p a ≡ true) (hb : p b ≡ true)
+    (only : (c : Direction) → p c ≡ true → (c ≡ a) ⊎ (c ≡ b)) where
   bit-is : (c : Direction) → bit (p c) ≡ bit (same a c) + bit (same b c)
   bit-is c = by (p c) (same a c) (same b c) refl refl refl
     where

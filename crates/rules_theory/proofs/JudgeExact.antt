@@ -20,7 +20,8 @@ use Rattle.answers.specs.Lists.{howMany, All}
 use Rattle.rules.specs.Directions.{opposite, degree}
 use Rattle.rules.specs.Board.{Clue, Board}
 use Rattle.rules.specs.Drawing.{Links, Reach, byteLink, linkAt, blackAt, Allowed, SolutionBytes}
-use Rattle.rules.specs.Judge.{there, touchesAt, unmatchedLink, unmatchedLinkAt, whiteAt, offLoopAt, foundClue, unmetClue, fromFirst, wrongDrawing, wrongByte, touching, clueNotMet, linkUnmatched, notTwoLinks, notOneLoop, judgeRows}
+use Rattle.rules.specs.Judge.{there, touchesAt, unmatchedLink, unmatchedLinkAt, whiteAt, offLoopAt, foundClue, unmetClue, fromFirst, wrongDrawing, wrongByte}
+use Rattle.rules.specs.Judge.{touching, clueNotMet, linkUnmatched, notTwoLinks, notOneLoop, judgeRows}
 use Rattle.rules.proofs.Boards.{Laws}
 use Rattle.rules_theory.proofs.Directions.{all-four}
 use Rattle.rules_theory.proofs.Whole.{lead, lead-reaches, reaches}
@@ -61,7 +62,7 @@ module _ {b : Board} (law : Laws b) (ds : List ℕ) where
         (λ x h. allowed-byte (b .isOpen x) (getD ds x 0) .1 (a x h)),
   )
 
-  -- 11: black beside black. Who looks east and south from each cell has looked north and west too
+  -- 11: black beside black. East and south of each cell cover north and west too
   abbrev Untouched : Type 0
   Untouched = (d : Direction) (x y : ℕ) → b .next d x ≡ some y → blackAt ds x ≡ true → blackAt ds y ≡ true → ⊥
 

@@ -34,7 +34,8 @@ two-left true false h p q = absurd (omega (arith, ap bit p, ap bit q))
 two-left false true h p q = absurd (omega (arith, ap bit p, ap bit q))
 two-left false false h p q = absurd (omega (arith, ap bit p, ap bit q))
 
-module _ {size : ℕ} {next : Direction → ℕ → Option ℕ} {white : ℕ → Bool} {link : ℕ → Direction → Bool} (B : Wired size next) (L : Links size next white link) where
+module _ {size : ℕ} {next : Direction → ℕ → Option ℕ} {white : ℕ → Bool} {link : ℕ → Direction → Bool} (B : Wired size next)
+    (L : Links size next white link) where
   -- where a link leads
   pub far : (x : ℕ) (d : Direction) → link x d ≡ true → next d x ≡ some (go next d x)
   far x d h = let w = L .matched x d h in w .1 ∙ ap some (sym (go-is next d x (w .0) (w .1)))

@@ -46,7 +46,7 @@ judge-right s a ds = (λ e. right .0 (sym passed ∙ e), λ S. passed ∙ right 
     right : firstRefusal (judgeRows (boardOf s) ds) saysYes ≡ saysYes ↔ SolutionBytes (boardOf s) ds
     right = judge-right-on (accepted-laws s a) ds
 
-    -- the record's rows turn nothing down
+    -- the record's rows refuse nothing
     passed : judgeAnswer s ds ≡ firstRefusal (judgeRows (boardOf s) ds) saysYes
     passed = refusals-append (recordRows s) (judgeRows (boardOf s) ds) saysYes ∙ clear-answered (recordRows s) _ (records.accepted-clear s a)
 
@@ -71,6 +71,6 @@ module _ {b : Board} (law : Laws b) {D : Drawing} (sol : Solution b D) where
     pub walk-steps : (m : ℕ) × Looped (b .size) (b .next) (D .link) s m
     walk-steps = whole.looped (law .wired) (sol .links) first
 
--- Document 01's numbers and values tell the answers apart: two verdicts that are told the same are the same, and two readings of a record likewise.
+-- Document 01's numbers and values tell the answers apart: two verdicts with the same outcome are the same, and so are two readings of a record.
 pub outcome-one-to-one : ((v w : Verdict) → verdictOutcome v ≡ verdictOutcome w → v ≡ w) × ((p q : Parsed) → parsedOutcome p ≡ parsedOutcome q → p ≡ q)
 outcome-one-to-one = (one-to-one verdicts, one-to-one readings)

@@ -19,7 +19,8 @@ use Rattle.rules_theory.proofs.Round.{Round}
 use Rattle.rules_theory.proofs.Around.{around-is, round-in, in-round}
 use Rattle.rules_theory.proofs.Loop.{ring, loop, pass-linked, pass-steps, pass-white, pass-last, pass-last-step, reach-on, on-reach}
 
-module _ {size : ℕ} {next : Direction → ℕ → Option ℕ} {white : ℕ → Bool} {link : ℕ → Direction → Bool} (B : Wired size next) (L : Links size next white link) where
+module _ {size : ℕ} {next : Direction → ℕ → Option ℕ} {white : ℕ → Bool} {link : ℕ → Direction → Bool} (B : Wired size next)
+    (L : Links size next white link) where
   further : {s x y : ℕ} → Reach next link s x → Reach next link x y → Reach next link s y
   further {s = s} p (here e) = subst (Reach next link s) (sym e) p
   further p (along q h e) = along (further p q) h e
@@ -65,8 +66,12 @@ module _ {size : ℕ} {next : Direction → ℕ → Option ℕ} {white : ℕ →
           rest = listing cell 1 n;
           begins = around-is W;
           none-twice = listing-apart cell 0 (suc n) (suc n) (omega arith) (W .fresh);
-          the-whites = λ x. (λ h. let w = listing-from cell 0 (suc n) h in rw (← (w .3)) (passes-white (w .0)), λ h. rw (← (around-is W)) (round-in W (reach-on B L F W (all x (h .0) (h .1)))));
-          linked = listing-chain cell (Linked next link) (λ k. (_, pass-linked B L F k, pass-steps B L F k)) n 0 (suc n) s (omega arith) (ap (λ (v : State). v .cell) (W .closed));
+          the-whites =
+              λ x.
+              (λ h. let w = listing-from cell 0 (suc n) h in rw (← (w .3)) (passes-white (w .0)), λ h. rw (← (around-is W)) (round-in W (reach-on B L F W (all x (h .0) (h .1)))));
+          linked =
+              listing-chain cell (Linked next link) (λ k. (_, pass-linked B L F k, pass-steps B L F k)) n 0 (suc n) s (omega arith)
+              (ap (λ (v : State). v .cell) (W .closed));
         }
 
     pub looped : (m : ℕ) × Looped size next link s m

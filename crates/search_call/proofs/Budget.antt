@@ -33,18 +33,27 @@ pub record Going (ls : List ℤ) (budget : ℕ) (ts₀ : List ℤ) (ms₀ : List
   pub running : Packed (length ms₀) ts ms used
   pub rest : counted n (run (length ms₀) ls (budget - n) (packedTrail ts ms used)) ≡ run (length ms₀) ls budget (packedTrail ts₀ ms₀ first)
 
-pub go-start : {ls : List ℤ} {budget : ℕ} {ts : List ℤ} {ms : List ℕ} {first : ℕ} → Packed (length ms) ts ms first → ListFits (length ms) ls → Going ls budget ts ms first ts ms first 0
+pub go-start : {ls : List ℤ} {budget : ℕ} {ts : List ℤ} {ms : List ℕ} {first : ℕ} → Packed (length ms) ts ms first → ListFits (length ms) ls
+    → Going ls budget ts ms first ts ms first 0
 go-start {ls} {budget} {ts} {ms} {first} r k =
     let d : Done = run (length ms) ls budget (packedTrail ts ms first) in
     let z : 0 + d .steps ≡ d .steps = omega arith in
-    record { early = omega arith; listed = k; running = r; rest = ap (λ (b : ℕ). counted 0 (run (length ms) ls b (packedTrail ts ms first))) (omega arith) ∙ ap (λ (n : ℕ). ends (d .ending) n (d .trail)) z }
+    record {
+      early = omega arith;
+      listed = k;
+      running = r;
+      rest = ap (λ (b : ℕ). counted 0 (run (length ms) ls b (packedTrail ts ms first))) (omega arith) ∙ ap (λ (n : ℕ). ends (d .ending) n (d .trail)) z;
+    }
 
-module _ {ls : List ℤ} {budget : ℕ} {ts₀ : List ℤ} {ms₀ : List ℕ} {first : ℕ} {ts : List ℤ} {ms : List ℕ} {used n : ℕ} (g : Going ls budget ts₀ ms₀ first ts ms used n) where
+module _ {ls : List ℤ} {budget : ℕ} {ts₀ : List ℤ} {ms₀ : List ℕ} {first : ℕ} {ts : List ℤ} {ms : List ℕ} {used n : ℕ}
+    (g : Going ls budget ts₀ ms₀ first ts ms used n) where
   abbrev whole : Done
   whole = run (length ms₀) ls budget (packedTrail ts₀ ms₀ first)
 
   pub go-standing : Standing ls ts ms used
-  go-standing = let e = sym (g .running .bytes) in record { running = subst (λ (v : ℕ). Packed v ts ms used) e (g .running); listed = subst (λ (v : ℕ). ListFits v ls) e (g .listed) }
+  go-standing =
+      let e = sym (g .running .bytes) in
+      record { running = subst (λ (v : ℕ). Packed v ts ms used) e (g .running); listed = subst (λ (v : ℕ). ListFits v ls) e (g .listed) }
 
   -- an answer, with the trail as it is in us, ns
   answers : {us : List ℤ} {ns : List ℕ} {m : ℕ} (x : Answer) → Packed (length ms₀) us ns used → packedTrail us ns used ≡ packedTrail ts ms used

@@ -50,7 +50,7 @@ pub enum Answer {
     Refused(SearchRefusal),
 }
 
-// Whether a list and a trail are accepted, or how they are turned down.
+// Whether a list and a trail are accepted, or how they are refused.
 pub enum Checked {
     Accepted,
     Refused(SearchRefusal),

@@ -22,7 +22,8 @@ unfolding trailOf variableValue usedBefore
 used-before ts ms zero x = refl
 used-before ts ms (suc n) x = by (eqb (variableAt ts n) x) (getD ts n (pos 0)) (used-before ts ms n x)
   where
-    by : (b : Bool) (l : ℤ) → not (isUnassigned (variableValue (trailOf (slices ts ms) n) x)) ≡ usedBefore ts n x → not (isUnassigned (cond b (made l) (variableValue (trailOf (slices ts ms) n) x))) ≡ b || usedBefore ts n x
+    by : (b : Bool) (l : ℤ) → not (isUnassigned (variableValue (trailOf (slices ts ms) n) x)) ≡ usedBefore ts n x
+        → not (isUnassigned (cond b (made l) (variableValue (trailOf (slices ts ms) n) x))) ≡ b || usedBefore ts n x
     by true (pos m) e = refl
     by true (negsuc m) e = refl
     by false l e = e
@@ -58,7 +59,8 @@ faulty-inside v ts ms {used} {n} u = record { low = λ i h. some (getD ts i (pos
     some (negsuc m) z = omega arith
 
 -- an entry is wrong by itself, or for the entries before it
-pub wrong-entries : (v : ℕ) (ts : List ℤ) (ms : List ℕ) {used n m : ℕ} → Until (faultyAt v ts ms) used n → Until (usedAt ts) n m → Until (wrongEntryAt v (slices ts ms)) used m
+pub wrong-entries : (v : ℕ) (ts : List ℤ) (ms : List ℕ) {used n m : ℕ} → Until (faultyAt v ts ms) used n → Until (usedAt ts) n m
+    → Until (wrongEntryAt v (slices ts ms)) used m
 wrong-entries v ts ms a b = until-same (until-both a b) (λ i h. by i)
   where
     swap : (a b c : Bool) → a || c || b ≡ a || b || c

@@ -19,14 +19,16 @@ module _ (ts : List ℤ) where
   few-entries h = record { within = omega arith; none-yet = λ k l. let z : k ≡ 0 = omega arith in rw z; stops = λ l. absurd (omega arith) }
 
   pub windows-start : {n : ℕ} → Until (againAt ts 1 1) n n
-  windows-start = record { within = omega arith; none-yet = λ k l. by (variableAt ts k) (usedAt ts k) (decLt (variableAt ts k) 1); stops = λ l. absurd (omega arith) }
+  windows-start =
+      record { within = omega arith; none-yet = λ k l. by (variableAt ts k) (usedAt ts k) (decLt (variableAt ts k) 1); stops = λ l. absurd (omega arith) }
     where
       by : (x : ℕ) (u : Bool) → Dec (x < 1) → leb 1 x && ltb x 1 && u ≡ false
       by x u (yes h) = rw (lt-leb 1 x h)
       by x u (no h) = rw (le-leb 1 x (omega arith), le-ltb x 1 (omega arith))
 
   -- a window more
-  pub windows-on : {n₀ n m : ℕ} (low high : ℕ) → Until (againAt ts 1 low) n₀ n → 1 ≤ low → low ≤ high → Until (againAt ts low high) n m → Until (againAt ts 1 high) n₀ m
+  pub windows-on : {n₀ n m : ℕ} (low high : ℕ) → Until (againAt ts 1 low) n₀ n → 1 ≤ low → low ≤ high → Until (againAt ts low high) n m
+      → Until (againAt ts 1 high) n₀ m
   windows-on low high u a b w = until-same (until-both u w) (λ i h. by (variableAt ts i) (usedAt ts i) (decLt (variableAt ts i) low))
     where
       by : (x : ℕ) (u : Bool) → Dec (x < low) → (leb 1 x && ltb x low && u) || (leb low x && ltb x high && u) ≡ leb 1 x && ltb x high && u

@@ -34,7 +34,8 @@ length-most (l ∷ r) = by (closes l) (length-most r)
     by false h = omega arith
 
 -- what is left of the clause is passed over
-passed-over : (look : ℕ → List ℤ → Option ℕ) (i : ℕ) (r : List ℤ) → firstClause look true (i + clauseLength r) (drop (clauseLength r) r) ≡ firstClause look false i r
+passed-over : (look : ℕ → List ℤ → Option ℕ) (i : ℕ) (r : List ℤ)
+    → firstClause look true (i + clauseLength r) (drop (clauseLength r) r) ≡ firstClause look false i r
 unfolding firstClause clauseLength
 passed-over look i [] = refl
 passed-over look i (l ∷ r) = by (closes l) (passed-over look (suc i) r)
@@ -67,7 +68,12 @@ module _ {ls : List ℤ} {i j : ℕ} (p : Passing ls i j) where
 
     pub pass-on : closes (getD ls j (pos 0)) ≡ false → Passing ls i (j + 1)
     unfolding clauseLength
-    pass-on z = record { seen = omega arith; rest = rw add-one (let e : suc j + clauseLength (drop (suc j) ls) ≡ j + suc (clauseLength (drop (suc j) ls)) = omega arith in e ∙ (rw z at pass-here)) }
+    pass-on z =
+        record {
+          seen = omega arith;
+          rest =
+              rw add-one (let e : suc j + clauseLength (drop (suc j) ls) ≡ j + suc (clauseLength (drop (suc j) ls)) = omega arith in e ∙ (rw z at pass-here));
+        }
 
 -- 2. Failed clauses
 
@@ -95,7 +101,8 @@ module _ {w : Values} {ls : List ℤ} {start i : ℕ} (f : Failing w ls start i)
   fail-none h = rw (drop-of-length-le ls h) at (f .rest)
 
   module _ (h : i < length ls) where
-    here : found (everyLiteral (fails w) (getD ls i (pos 0) ∷ drop (suc i) ls)) start (firstClause (failedAt w) false i (getD ls i (pos 0) ∷ drop (suc i) ls)) ≡ failedClause w ls
+    here : found (everyLiteral (fails w) (getD ls i (pos 0) ∷ drop (suc i) ls)) start (firstClause (failedAt w) false i (getD ls i (pos 0) ∷ drop (suc i) ls))
+        ≡ failedClause w ls
     here = rw (drop-cons ls i (pos 0) h) at (f .rest)
 
     pub fail-found : closes (getD ls i (pos 0)) ≡ true → some start ≡ failedClause w ls
@@ -118,7 +125,9 @@ module _ {w : Values} {ls : List ℤ} {start i : ℕ} (f : Failing w ls start i)
           let past : firstClause (failedAt w) false (suc i) rest ≡ failedClause w ls = (rw (z, k) at here) in
           record {
             seen = omega arith;
-            rest = rw q (begin w (suc i + clauseLength rest) (drop (suc i + clauseLength rest) ls) ∙ ap (firstClause (failedAt w) true (suc i + clauseLength rest)) (sym (drop-drop (clauseLength rest) (suc i) ls)) ∙ passed-over (failedAt w) (suc i) rest ∙ past);
+            rest =
+                rw q
+                (begin w (suc i + clauseLength rest) (drop (suc i + clauseLength rest) ls) ∙ ap (firstClause (failedAt w) true (suc i + clauseLength rest)) (sym (drop-drop (clauseLength rest) (suc i) ls)) ∙ passed-over (failedAt w) (suc i) rest ∙ past);
           }
 
 -- 3. Forced literals
@@ -169,13 +178,15 @@ module _ {w : Values} {ls : List ℤ} {i : ℕ} {c : Clause} (f : Forcing w ls i
     unfolding firstClause everyLiteral forcedAt
     force-next z e = record { seen = omega arith; rest = rw add-one (fresh w (suc i) (drop (suc i) ls) ∙ by c e here-forced) }
       where
-        by : (c : Clause) → closed c ≡ Nowhere → forcedRest w c i (getD ls i (pos 0) ∷ drop (suc i) ls) ≡ forcedPlace w ls → firstClause (forcedAt w) true (suc i) (drop (suc i) ls) ≡ forcedPlace w ls
+        by : (c : Clause) → closed c ≡ Nowhere → forcedRest w c i (getD ls i (pos 0) ∷ drop (suc i) ls) ≡ forcedPlace w ls
+            → firstClause (forcedAt w) true (suc i) (drop (suc i) ls) ≡ forcedPlace w ls
         by Fails e r = rw z at r
         by (Forces k p) e r = let z : _≡_ {A = ℕ} 0 1 = cc in absurd (omega arith)
         by Passed e r = rw z at r
 
 -- a literal more: what it is to the clause is what its value says
-module _ {ms : List ℕ} {ls : List ℤ} {i k n : ℕ} {c : Clause} (f : Forcing (packedValues ms) ls i c) (h : i < length ls) (r : Read ms (getD ls i (pos 0)) k n) where
+module _ {ms : List ℕ} {ls : List ℤ} {i k n : ℕ} {c : Clause} (f : Forcing (packedValues ms) ls i c) (h : i < length ls)
+    (r : Read ms (getD ls i (pos 0)) k n) where
   abbrev literal : ℤ
   literal = getD ls i (pos 0)
 
@@ -183,24 +194,30 @@ module _ {ms : List ℕ} {ls : List ℤ} {i k n : ℕ} {c : Clause} (f : Forcing
   after = drop (suc i) ls
 
   -- all false before it
-  on-fails : (a b : Bool) → orElse (byValue (cond a False (cond b True Unassigned)) (found (everyLiteral (failsBut (packedValues ms) literal) after) i none) (forcedAt (packedValues ms) (suc i) after)) (firstClause (forcedAt (packedValues ms)) false (suc i) after) ≡ forcedPlace (packedValues ms) ls
+  on-fails : (a b : Bool)
+      → orElse (byValue (cond a False (cond b True Unassigned)) (found (everyLiteral (failsBut (packedValues ms) literal) after) i none) (forcedAt (packedValues ms) (suc i) after)) (firstClause (forcedAt (packedValues ms)) false (suc i) after)
+      ≡ forcedPlace (packedValues ms) ls
       → forcedRest (packedValues ms) (cond a Fails (cond b Passed (Forces k i))) (suc i) after ≡ forcedPlace (packedValues ms) ls
   on-fails true b e = e
   on-fails false true e = e
   on-fails false false e = rw (r .code) e
 
   -- one unassigned before it, perhaps the same
-  on-forces : (q p : ℕ) (a b : Bool) → orElse (found ((a || b) && everyLiteral (λ l. eqb (codeOf l) q || fails (packedValues ms) l) after) p none) (firstClause (forcedAt (packedValues ms)) false (suc i) after) ≡ forcedPlace (packedValues ms) ls
+  on-forces : (q p : ℕ) (a b : Bool)
+      → orElse (found ((a || b) && everyLiteral (λ l. eqb (codeOf l) q || fails (packedValues ms) l) after) p none) (firstClause (forcedAt (packedValues ms)) false (suc i) after)
+      ≡ forcedPlace (packedValues ms) ls
       → forcedRest (packedValues ms) (cond a (Forces q p) (cond b (Forces q p) Passed)) (suc i) after ≡ forcedPlace (packedValues ms) ls
   on-forces q p true b e = e
   on-forces q p false true e = e
   on-forces q p false false e = e
 
-  turn : (c : Clause) → forcedRest (packedValues ms) c i (literal ∷ after) ≡ forcedPlace (packedValues ms) ls → forcedRest (packedValues ms) (met c k n i) (suc i) after ≡ forcedPlace (packedValues ms) ls
+  turn : (c : Clause) → forcedRest (packedValues ms) c i (literal ∷ after) ≡ forcedPlace (packedValues ms) ls
+      → forcedRest (packedValues ms) (met c k n i) (suc i) after ≡ forcedPlace (packedValues ms) ls
   unfolding firstClause everyLiteral forcedAt
   turn Fails e = on-fails (eqb n (2 - k % 2)) (eqb n (1 + k % 2)) (rw (code-not literal (r .code) (r .some), read-value literal r) at e)
   turn (Forces q p) e =
-      rw (← fails-is literal r, ap (λ x. eqb x q) (r .code)) (on-forces q p (eqb (codeOf literal) q) (fails (packedValues ms) literal) (rw (code-not literal (r .code) (r .some)) at e))
+      rw (← fails-is literal r, ap (λ x. eqb x q) (r .code))
+      (on-forces q p (eqb (codeOf literal) q) (fails (packedValues ms) literal) (rw (code-not literal (r .code) (r .some)) at e))
   turn Passed e = rw (code-not literal (r .code) (r .some)) at e
 
   pub force-on : Forcing (packedValues ms) ls (i + 1) (met c k n i)

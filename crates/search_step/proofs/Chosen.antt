@@ -38,10 +38,14 @@ module _ {ls ts : List ℤ} {ms : List ℕ} {used : ℕ} (s : Standing ls ts ms 
 
   pub choice-allowed : {e : Entry} → step (length ms) ls t ≡ appends e t → Allows ts ms used e
   choice-allowed {e} q =
-      moved-legal (stepped t (choice-laws (length ms) ls (variableValue t) (s .listed .closed)) (proper-clauses (length ms) ls (s .listed .within .each)) (s .running .legal)) q
+      moved-legal
+      (stepped t (choice-laws (length ms) ls (variableValue t) (s .listed .closed)) (proper-clauses (length ms) ls (s .listed .within .each))
+      (s .running .legal))
+      q
 
   -- what comes of an answer to a choice
-  pub by-choice : {next : Trail → Next} {r : Answered} {us : List ℤ} {ns : List ℕ} → step (length ms) ls t ≡ next t → Steps ts ms used next r us ns → Steps ts ms used (step (length ms) ls) r us ns
+  pub by-choice : {next : Trail → Next} {r : Answered} {us : List ℤ} {ns : List ℕ} → step (length ms) ls t ≡ next t → Steps ts ms used next r us ns
+      → Steps ts ms used (step (length ms) ls) r us ns
   by-choice q h = record { says = h .says ∙ sym q; running = h .running; stays = h .stays }
 
   -- the choices, by the values above the marks

@@ -1,3 +1,3 @@
--- Laws of a step in code. Appending: an entry more, and undoing. Choosing: one step.
+-- Laws of a step in code. Append: an entry more, and undoing. Chosen: one step.
 pub mod Append
 pub mod Chosen

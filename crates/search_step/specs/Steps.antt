@@ -44,7 +44,7 @@ Allows ts ms used e = Legal (length ms) (e ∷ packedTrail ts ms used)
 abbrev pub appends : Entry → Trail → Next
 appends e t = Moved (e ∷ t)
 
--- from the buffers ts, ms with a used count, what comes next is answered and held by us, ns
+-- from the buffers ts, ms with a used count: the answer of a step, and the buffers us, ns that it leaves
 pub record Steps (ts : List ℤ) (ms : List ℕ) (used : ℕ) (next : Trail → Next) (r : Stepped) (us : List ℤ) (ns : List ℕ) : Type 0 where
   pub says : nextOf r us ns ≡ next (packedTrail ts ms used)
   pub running : Packed (length ms) us ns (usedAfter r used)

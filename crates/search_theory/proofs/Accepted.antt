@@ -91,7 +91,8 @@ module _ {x : Call} {s : Search} (ok : IsTaken x s) where
   taken-legal = read-legal (s .variables) (s .slices) (s .used) (first-none (wrongEntryAt (s .variables) (s .slices)) (s .used) (rows .1 .1 .0))
 
   -- the same list with another legal trail, in slices of V elements
-  pub taken-other : (r : Slices) (n : ℕ) → HasLength (s .variables) r → n ≤ s .variables → Legal (s .variables) (trailOf r n) → IsTaken Searching (onSlices s r n)
+  pub taken-other : (r : Slices) (n : ℕ) → HasLength (s .variables) r → n ≤ s .variables → Legal (s .variables) (trailOf r n)
+      → IsTaken Searching (onSlices s r n)
   taken-other r n long h l =
       let lengths = right-lengths r (record { few = taken-sized .few; long = long; inside = h }) in
       record { clear = (ap cause lengths, (rows .1 .0, (none-first _ n (legal-read (s .variables) r n l), tt))) }

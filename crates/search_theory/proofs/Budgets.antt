@@ -42,10 +42,12 @@ module _ {s : Search} where
   unfolding following
   ended-adds {x = Searching} a b ok n = run-adds (s .variables) (s .list) b a (begins s) ∙ ended-on (s .variables) (s .list) b (runs Searching s a) n
   ended-adds {x = Following} zero b ok n = absurd (n refl)
-  ended-adds {x = Following} (suc a) b ok n = following-adds (s .variables) (s .list) b a (begins s) ∙ ended-on (s .variables) (s .list) b (runs Following s (suc a)) n
+  ended-adds {x = Following} (suc a) b ok n =
+      following-adds (s .variables) (s .list) b a (begins s) ∙ ended-on (s .variables) (s .list) b (runs Following s (suc a)) n
 
   -- the call that goes on after a halted one takes what that one left
-  takes-on : {x : Call} (a : ℕ) → IsTaken x s → runs x s a .ending ≡ Halted → IsTaken (goesOn x (runs x s a .steps)) (resumed s (handsDone (s .variables) (runs x s a)))
+  takes-on : {x : Call} (a : ℕ) → IsTaken x s → runs x s a .ending ≡ Halted
+      → IsTaken (goesOn x (runs x s a .steps)) (resumed s (handsDone (s .variables) (runs x s a)))
   unfolding following
   takes-on {x = Searching} a ok e = taken-image ok (runs Searching s a .trail) (comes ok a .legal)
   -- `next` that was halted before a step is called again
@@ -57,7 +59,8 @@ module _ {s : Search} where
       )
   takes-on {x = Following} (suc a) ok e =
       let d : Done = runs Following s (suc a) in
-      subst (λ n. IsTaken (goesOn Following n) (resumed s (handsDone (s .variables) d))) (sym (halted-count (suc a) ok e)) (taken-image ok (d .trail) (comes ok (suc a) .legal))
+      subst (λ n. IsTaken (goesOn Following n) (resumed s (handsDone (s .variables) d))) (sym (halted-count (suc a) ok e))
+      (taken-image ok (d .trail) (comes ok (suc a) .legal))
 
 -- For every call that is taken:
 module _ {x : Call} {s : Search} (ok : IsTaken x s) (a : ℕ) where

@@ -13,7 +13,8 @@ use mathlib.Core.List.{List, [], _∷_}
 use Rattle.answers.specs.Lists.{tally, All}
 use Rattle.answers.proofs.Bools.{clash}
 use Rattle.cnf.specs.Clauses.{Assignment, value}
-use Rattle.search.specs.Trail.{Trail, Value, True, False, Unassigned, isTrue, isFalse, isUnassigned, opposite, made, variableValue, Agrees, valuesFrom, valuesOf}
+use Rattle.search.specs.Trail.{Trail, Value, True, False, Unassigned, isTrue, isFalse, isUnassigned, opposite, made, variableValue, Agrees, valuesFrom}
+use Rattle.search.specs.Trail.{valuesOf}
 use Rattle.search.specs.Step.{fails}
 use Rattle.search_theory.specs.Openings.{OneAssignment}
 use Rattle.search_theory.proofs.Lists.{Proper, all-map}
@@ -141,7 +142,8 @@ own v [] l = tt
 own v (e ∷ t) l =
     ((l .0 .proper, rw (eq-eqb (natAbs (e .literal)) (natAbs (e .literal)) refl)), all-map (λ x h. (h .0, later (x .literal) (h .1))) t (own v t (l .1)))
   where
-    later : (k : ℤ) → variableValue t (natAbs k) ≡ made k → cond (eqb (natAbs (e .literal)) (natAbs k)) (made (e .literal)) (variableValue t (natAbs k)) ≡ made k
+    later : (k : ℤ) → variableValue t (natAbs k) ≡ made k
+        → cond (eqb (natAbs (e .literal)) (natAbs k)) (made (e .literal)) (variableValue t (natAbs k)) ≡ made k
     later k h = by (eqb (natAbs (e .literal)) (natAbs k)) refl
       where
         by : (b : Bool) → eqb (natAbs (e .literal)) (natAbs k) ≡ b → cond b (made (e .literal)) (variableValue t (natAbs k)) ≡ made k

@@ -15,7 +15,8 @@ use Rattle.cnf.specs.Clauses.{Satisfies}
 use Rattle.search.specs.Trail.{image, variableValue}
 use Rattle.search.specs.Step.{failedClause}
 use Rattle.search.specs.Run.{Ending, Done, endingNumber, doneOutcome}
-use Rattle.search.specs.Call.{Search, Handed, isFound, Call, Searching, Following, rowsOf, begins, IsTaken, runs, tells, hands, handsDone, Says, endsAt, resumed, given}
+use Rattle.search.specs.Call.{Search, Handed, isFound, Call, Searching, Following, rowsOf, begins, IsTaken, runs, tells, hands, handsDone, Says, endsAt}
+use Rattle.search.specs.Call.{resumed, given}
 use Rattle.search.proofs.Trails.{length-trail, read-image}
 use Rattle.search.proofs.Endings.{same-ending}
 use Rattle.search_theory.specs.Openings.{OneAssignment}
@@ -75,7 +76,9 @@ module _ {s : Search} where
       takes : IsTaken Searching s → s .used ≡ s .variables → Satisfies (given s) (s .list) → IsTaken Following s
       takes ok e h =
           let (c17, (c16, (c18, c))) = ok .clear in
-          record { clear = (c17, (c16, (c18, (rw (eq-eqb (s .used) (s .variables) e) (ap cause (by (failedClause (variableValue (begins s)) (s .list)) refl)), tt)))) }
+          record {
+            clear = (c17, (c16, (c18, (rw (eq-eqb (s .used) (s .variables) e) (ap cause (by (failedClause (variableValue (begins s)) (s .list)) refl)), tt))));
+          }
         where
           by : (o : Option ℕ) → failedClause (variableValue (begins s)) (s .list) ≡ o → isFound o ≡ false
           by none q = refl

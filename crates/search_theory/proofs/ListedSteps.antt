@@ -6,10 +6,12 @@ use mathlib.Core.Path.{_≡_, refl}
 use mathlib.Core.Option.{Option, none, some}
 use mathlib.Core.List.{List}
 use Rattle.search.specs.Trail.{Trail, variableValue}
-use Rattle.search.specs.Step.{failedClause, forcedPlace, lowestUnassigned, undo, Next, Moved, AnsweredFound, AnsweredNone, undone, onFailed, onForced, onUnassigned, step}
+use Rattle.search.specs.Step.{failedClause, forcedPlace, lowestUnassigned, undo, Next, Moved, AnsweredFound, AnsweredNone, undone, onFailed, onForced}
+use Rattle.search.specs.Step.{onUnassigned, step}
 use Rattle.search.specs.Run.{Done, oneMore, after, run, following}
 use Rattle.search.specs.Call.{Search, Call, Searching, Following, begins, comesTo, IsTaken, runs, hands}
-use Rattle.search_theory.specs.ListedSteps.{ListedStep, undoes, gives-up, forces, chooses, finds, stays, moves, SearchComesTo, found, none-left, halted, NextComesTo, keeps, drops-last, drops, ComesTo, Stepped}
+use Rattle.search_theory.specs.ListedSteps.{ListedStep, undoes, gives-up, forces, chooses, finds, stays, moves, SearchComesTo, found, none-left, halted}
+use Rattle.search_theory.specs.ListedSteps.{NextComesTo, keeps, drops-last, drops, ComesTo, Stepped}
 use Rattle.search_theory.proofs.Handed.{hands-done}
 
 module _ (v : ℕ) (ls : List ℤ) where

@@ -13,7 +13,8 @@ use Rattle.answers.specs.Lists.{All, Some}
 use Rattle.answers.proofs.Bools.{clash}
 use Rattle.cnf.specs.Clauses.{split, value, Satisfies}
 use Rattle.search.specs.Trail.{Entry, entry, Trail, Value, True, False, Unassigned, opposite, isUnassigned, variableValue, literalValue, Agrees, Open, valuesOf}
-use Rattle.search.specs.Step.{failedClause, forcedPlace, lowestUnassigned, undo, Next, Moved, AnsweredFound, AnsweredNone, undone, onFailed, onForced, onUnassigned, step}
+use Rattle.search.specs.Step.{failedClause, forcedPlace, lowestUnassigned, undo, Next, Moved, AnsweredFound, AnsweredNone, undone, onFailed, onForced}
+use Rattle.search.specs.Step.{onUnassigned, step}
 use Rattle.search_theory.proofs.Lists.{Proper, all-zip, some-zip, meet}
 use Rattle.search_theory.proofs.Values.{literal-false}
 use Rattle.search_theory.proofs.Legal.{Right, Legal, AllAssigned, unassigned}

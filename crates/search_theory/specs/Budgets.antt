@@ -18,7 +18,7 @@ goesOn Following (suc n) = Searching
 abbrev pub inAll : Handed → Handed → Handed
 inAll h on = record { outcome = answer (on .outcome .first) (steps h + steps on) (on .outcome .third); slices = on .slices }
 
--- not turned down, and "halted"
+-- not refused, and "halted"
 abbrev pub isHalted : Outcome → Bool
 isHalted t = eqb (t .number) 0 && eqb (t .first) (endingNumber Halted)
 

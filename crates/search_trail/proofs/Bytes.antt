@@ -25,7 +25,8 @@ pub bare-value : (ms : List ℕ) (k n : ℕ) → bareMarks (withValue ms k n) �
 bare-value ms k n = map-set-same (λ m. m % 2) ms (k / 2 - 1) _ 0 (omega arith)
 
 -- and is that of the code's variable alone
-pub packed-value : {ms : List ℕ} {k : ℕ} (n : ℕ) → HasByte ms k → (j : ℕ) → packedValues (withValue ms k n) j ≡ cond (eqb (k / 2) j) (valueOf n) (packedValues ms j)
+pub packed-value : {ms : List ℕ} {k : ℕ} (n : ℕ) → HasByte ms k → (j : ℕ)
+    → packedValues (withValue ms k n) j ≡ cond (eqb (k / 2) j) (valueOf n) (packedValues ms j)
 packed-value {ms} {k} n b zero = let p = b .positive in rw (ne-eqb (k / 2) 0 (λ e. omega arith))
 packed-value {ms} {k} n b (suc j) = by (ℕ-discrete j (k / 2 - 1))
   where
@@ -36,7 +37,8 @@ packed-value {ms} {k} n b (suc j) = by (ℕ-discrete j (k / 2 - 1))
     by (yes e) =
         let p = b .positive in
         let i = b .inside in
-        let s : getD (set ms (k / 2 - 1) new) j 0 / 2 ≡ n = ap (λ x. getD (set ms (k / 2 - 1) new) x 0 / 2) e ∙ ap (λ x. x / 2) (getD-set-same ms (k / 2 - 1) new 0 (omega arith)) ∙ omega arith in
+        let s : getD (set ms (k / 2 - 1) new) j 0 / 2 ≡ n = ap (λ x. getD (set ms (k / 2 - 1) new) x 0 / 2) e
+        ∙ ap (λ x. x / 2) (getD-set-same ms (k / 2 - 1) new 0 (omega arith)) ∙ omega arith in
         rw (eq-eqb (k / 2) (suc j) (omega arith)) (ap valueOf s)
     by (no e) =
         rw (ne-eqb (k / 2) (suc j) (λ q. e (omega arith))) (ap (λ x. valueOf (x / 2)) (getD-set-other ms (k / 2 - 1) j new 0 e))

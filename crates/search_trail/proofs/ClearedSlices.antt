@@ -44,22 +44,31 @@ module _ {A : Type 0} {d : A} {ys xs₀ xs : List A} {used i : ℕ} (c : Clearin
       by j l (no q) = getD-set-other xs i j x d q ∙ c .done j (omega arith)
 
   pub clear-end : length xs₀ ≤ i → length ys ≡ length xs₀ → used ≤ length ys → xs ≡ take used ys ++ replicate (length xs₀ - used) d
-  clear-end h e u = ext-getD d xs (take used ys ++ replicate (length xs₀ - used) d) long (λ j l. c .done j (let n = c .long in omega arith) ∙ by j (let n = c .long in omega arith) (decLt j used))
+  clear-end h e u =
+      ext-getD d xs (take used ys ++ replicate (length xs₀ - used) d) long
+      (λ j l. c .done j (let n = c .long in omega arith) ∙ by j (let n = c .long in omega arith) (decLt j used))
     where
       front : length (take used ys) ≡ used
       front = length-take-le used ys u
 
       long : length xs ≡ length (take used ys ++ replicate (length xs₀ - used) d)
-      long = let a = length-append (take used ys) (replicate (length xs₀ - used) d) in let b = length-replicate (length xs₀ - used) d in let n = c .long in omega (arith, front)
+      long =
+          let a = length-append (take used ys) (replicate (length xs₀ - used) d) in
+          let b = length-replicate (length xs₀ - used) d in let n = c .long in omega (arith, front)
 
       by : (j : ℕ) → j < length xs₀ → Dec (j < used) → kept d ys used j ≡ getD (take used ys ++ replicate (length xs₀ - used) d) j d
-      by j l (yes q) = rw (lt-ltb j used q) (sym (List·getD-append (take used ys) (replicate (length xs₀ - used) d) d j (omega (arith, front)) ∙ getD-take used ys j d q))
+      by j l (yes q) =
+          rw (lt-ltb j used q) (sym (List·getD-append (take used ys) (replicate (length xs₀ - used) d) d j (omega (arith, front)) ∙ getD-take used ys j d q))
       by j l (no q) =
           let s : j ≡ length (take used ys) + (j - used) = omega (arith, front) in
-          rw (le-ltb j used (omega arith)) (sym (ap (λ (x : ℕ). getD (take used ys ++ replicate (length xs₀ - used) d) x d) s ∙ getD-append-add (take used ys) (replicate (length xs₀ - used) d) (j - used) d ∙ getD-replicate (length xs₀ - used) (j - used) d d (omega arith)))
+          rw (le-ltb j used (omega arith))
+          (sym
+          (ap (λ (x : ℕ). getD (take used ys ++ replicate (length xs₀ - used) d) x d) s
+          ∙ getD-append-add (take used ys) (replicate (length xs₀ - used) d) (j - used) d ∙ getD-replicate (length xs₀ - used) (j - used) d d (omega arith)))
 
 -- a byte of the marks, of which the mark is kept
-pub clear-byte : {ms₀ ms : List ℕ} {used i x : ℕ} → Clearing 0 (bareMarks ms₀) used ms₀ ms i → i < length ms₀ → x ≡ clearedByte (getD ms i 0) i used → Clearing 0 (bareMarks ms₀) used ms₀ (set ms i x) (i + 1)
+pub clear-byte : {ms₀ ms : List ℕ} {used i x : ℕ} → Clearing 0 (bareMarks ms₀) used ms₀ ms i → i < length ms₀ → x ≡ clearedByte (getD ms i 0) i used
+    → Clearing 0 (bareMarks ms₀) used ms₀ (set ms i x) (i + 1)
 clear-byte {ms₀} {ms} {used} {i} c h e =
     let s : getD ms i 0 % 2 ≡ getD (bareMarks ms₀) i 0 = ap (λ b. b % 2) (c .rest i (omega arith)) ∙ sym (low-at ms₀ i) in
     clear-on c h (e ∙ ap (λ b. cond (ltb i used) b 0) s)

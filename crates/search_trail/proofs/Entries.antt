@@ -41,11 +41,13 @@ module _ (v : ℕ) (s : Slices) where
 
 -- values with an entry more, or less
 module _ {ms : List ℕ} (e : Entry) (t : Trail) (b : HasByte ms (codeOf (e .literal))) where
-  pub values-more : ((n : ℕ) → packedValues ms n ≡ variableValue t n) → (n : ℕ) → packedValues (withValue ms (codeOf (e .literal)) (1 + codeOf (e .literal) % 2)) n ≡ variableValue (e ∷ t) n
+  pub values-more : ((n : ℕ) → packedValues ms n ≡ variableValue t n) → (n : ℕ)
+      → packedValues (withValue ms (codeOf (e .literal)) (1 + codeOf (e .literal) % 2)) n ≡ variableValue (e ∷ t) n
   unfolding variableValue
   values-more h n = packed-value (1 + codeOf (e .literal) % 2) b n ∙ rw (code-variable (e .literal), number-made (e .literal), h n)
 
-  pub values-less : ((n : ℕ) → packedValues ms n ≡ variableValue (e ∷ t) n) → variableValue t (natAbs (e .literal)) ≡ Unassigned → (n : ℕ) → packedValues (withValue ms (codeOf (e .literal)) 0) n ≡ variableValue t n
+  pub values-less : ((n : ℕ) → packedValues ms n ≡ variableValue (e ∷ t) n) → variableValue t (natAbs (e .literal)) ≡ Unassigned → (n : ℕ)
+      → packedValues (withValue ms (codeOf (e .literal)) 0) n ≡ variableValue t n
   unfolding variableValue
   values-less h f n = packed-value 0 b n ∙ rw (code-variable (e .literal), h n) (by (eqb (natAbs (e .literal)) n) refl)
     where
@@ -59,7 +61,9 @@ module _ {v : ℕ} {ts : List ℤ} {ms : List ℕ} {i : ℕ} (r : Packed v ts ms
 
   -- another literal in the first unused entry
   pub set-trail : (l : ℤ) → packedTrail ts ms i ≡ packedTrail (set ts i l) ms i
-  set-trail l = same-trail (slices ts (bareMarks ms)) (slices (set ts i l) (bareMarks ms)) i (λ j h. ap (λ (x : ℤ). entry x (getD (bareMarks ms) j 0)) (sym (getD-set-other ts i j l (pos 0) (λ e. omega arith))))
+  set-trail l =
+      same-trail (slices ts (bareMarks ms)) (slices (set ts i l) (bareMarks ms)) i
+      (λ j h. ap (λ (x : ℤ). entry x (getD (bareMarks ms) j 0)) (sym (getD-set-other ts i j l (pos 0) (λ e. omega arith))))
 
   pub running-set : (l : ℤ) → Packed v (set ts i l) ms i
   running-set l =
@@ -89,7 +93,8 @@ module _ {v : ℕ} {ts : List ℤ} {ms : List ℕ} {i : ℕ} (r : Packed v ts ms
         same : (j : ℕ) → j < i → entryAt (slices ts (bareMarks (assigned ts ms i m))) j ≡ entryAt (slices ts (bareMarks ms)) j
         same j l =
             ap (entry (getD ts j (pos 0)))
-            (low-others (madeTrue ts ms i) i m j (λ e. omega arith) ∙ ap (λ (ns : List ℕ). getD ns j 0) (bare-value ms (codeOf (getD ts i (pos 0))) (1 + codeOf (getD ts i (pos 0)) % 2)))
+            (low-others (madeTrue ts ms i) i m j (λ e. omega arith)
+            ∙ ap (λ (ns : List ℕ). getD ns j 0) (bare-value ms (codeOf (getD ts i (pos 0))) (1 + codeOf (getD ts i (pos 0)) % 2)))
 
     pub assign-packed : Right v (packedTrail ts ms i) new → Packed v ts (assigned ts ms i m) (i + 1)
     assign-packed w =
@@ -98,7 +103,11 @@ module _ {v : ℕ} {ts : List ℤ} {ms : List ℕ} {i : ℕ} (r : Packed v ts ms
           literals = r .literals;
           bytes = simp length-set (r .bytes);
           legal = subst (Legal v) (sym entered-trail) (w, r .legal);
-          values = λ n. packed-marked (madeTrue ts ms i) i m (simp length-set (let e = r .bytes in omega arith)) k n ∙ values-more new (packedTrail ts ms i) (proper-byte (getD ts i (pos 0)) (w .proper) (r .bytes)) (r .values) n ∙ ap (λ (t : Trail). variableValue t n) (sym entered-trail);
+          values =
+              λ n.
+              packed-marked (madeTrue ts ms i) i m (simp length-set (let e = r .bytes in omega arith)) k n
+              ∙ values-more new (packedTrail ts ms i) (proper-byte (getD ts i (pos 0)) (w .proper) (r .bytes)) (r .values) n
+              ∙ ap (λ (t : Trail). variableValue t n) (sym entered-trail);
         })
 
 -- the values change and the marks stay: ms₀ has become ms, which holds the values of the first i entries
@@ -157,7 +166,10 @@ module _ {v : ℕ} {ts : List ℤ} {ms₀ ms : List ℕ} {i : ℕ} (g : Valuing 
             literals = g .running .literals;
             bytes = simp length-set (g .running .bytes);
             legal = rw e (legal-before v (slices ts (bareMarks ms)) i (g .running .legal) (i - 1) (omega arith));
-            values = λ x. rw e (values-less (entryAt (slices ts (bareMarks ms)) (i - 1)) (packedTrail ts ms (i - 1)) byte (λ n. g .running .values n ∙ ap (λ (j : ℕ). variableValue (packedTrail ts ms j) n) back) (was .free) x);
+            values =
+                λ x.
+                rw e
+                (values-less (entryAt (slices ts (bareMarks ms)) (i - 1)) (packedTrail ts ms (i - 1)) byte (λ n. g .running .values n ∙ ap (λ (j : ℕ). variableValue (packedTrail ts ms j) n) back) (was .free) x);
           };
           same = e ∙ g .same;
         }

@@ -1,4 +1,5 @@
--- Laws of the buffers of a search. Bytes: marks and values in one byte. Entries: a trail with an entry more or less. Clearing: the end.
+-- Laws of the buffers of a search. Bytes: marks and values in one byte. Entries: a trail with an entry more or less. ClearedSlices: what is written when a
+-- search ends.
 pub mod Bytes
 pub mod Entries
 pub mod ClearedSlices

@@ -63,9 +63,12 @@ unsolved-number (TooShort n) e = omega arith
 same-refusal : (s : List ℕ) → solverAnswer s budget lent .number ≡ programNumber s
 same-refusal s =
     same-number s (roomRows (boardOf s) lent) (doneOutcome (searched (boardOf s)))
-    (λ c. by (ltb mostElements (length (clauseList (boardOf s)))) refl (ltb mostHeld (variableCount (boardOf s))) refl (le-ltb mostCells (size (sides s)) (accepted-fits s (clear-accepted s c) .sides .few)))
+    (λ c.
+    by (ltb mostElements (length (clauseList (boardOf s)))) refl (ltb mostHeld (variableCount (boardOf s))) refl
+    (le-ltb mostCells (size (sides s)) (accepted-fits s (clear-accepted s c) .sides .few)))
   where
-    by : (l : Bool) → ltb mostElements (length (clauseList (boardOf s))) ≡ l → (v : Bool) → ltb mostHeld (variableCount (boardOf s)) ≡ v → ltb mostCells (size (sides s)) ≡ false
+    by : (l : Bool) → ltb mostElements (length (clauseList (boardOf s))) ≡ l → (v : Bool) → ltb mostHeld (variableCount (boardOf s)) ≡ v
+        → ltb mostCells (size (sides s)) ≡ false
         → firstRefusal (roomRows (boardOf s) lent) (doneOutcome (searched (boardOf s))) .number ≡ limited (needsMore (boardOf s))
     by true h v k n = rw h
     by false h true k n = rw (h, k)
@@ -117,7 +120,8 @@ module _ {s : List ℕ} {r : Solved} {drawing : List ℕ} (w : Solves s r drawin
     drawn : drawing ≡ filled (lent .drawing) (cells s)
     drawn =
         w .left ∙
-        ap (λ n. cond (eqb n 0) (written (boardOf s) (searched (boardOf s)) lent) lent .drawing) (sym (ap (λ (t : Outcome). t .number) (w .outcome)) ∙ answered q k) ∙
+        ap (λ n. cond (eqb n 0) (written (boardOf s) (searched (boardOf s)) lent) lent .drawing)
+        (sym (ap (λ (t : Outcome). t .number) (w .outcome)) ∙ answered q k) ∙
         ap (λ x. atFound x (lent .drawing) (filled (lent .drawing) (cells s))) (sym (ending q k))
 
     -- over the grid that was read

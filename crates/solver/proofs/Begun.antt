@@ -29,7 +29,8 @@ use Rattle.answers.proofs.Elements.{all-map, apart-on}
 use Rattle.encoder_theory.proofs.Theorems.{decodes-to-solution, comes-from-one, never-refused}
 use Rattle.search.specs.Trail.{Trail, slices, Open, trailOf, valuesOf}
 use Rattle.search.specs.Run.{Ending, Found, None, Halted, Done, run, endingNumber, doneOutcome}
-use Rattle.search.specs.Call.{Search, Handed, wrongEntryAt, Searching, Following, begins, IsTaken, runs, hands, handsDone, handsTaken, bySearch, byNext, Says, endsAt, resumed, given}
+use Rattle.search.specs.Call.{Search, Handed, wrongEntryAt, Searching, Following, begins, IsTaken, runs, hands, handsDone, handsTaken, bySearch, byNext, Says}
+use Rattle.search.specs.Call.{endsAt, resumed, given}
 use Rattle.search_theory.specs.Openings.{OpenAt}
 use Rattle.search_theory.specs.Listing.{Lists, ListsAll}
 use Rattle.search_theory.proofs.Accepted.{Sized, right-lengths}
@@ -130,7 +131,8 @@ module _ (s : List ℕ) (c : Search) (b : BegunOn s c) (first : ℕ) (f : Says (
   on-taken = found-next (begun-taken s c b) first f
 
   given-satisfying : Satisfying s (given on)
-  given-satisfying = record { gives = given-one on-taken .assignment ∙ b .variables; satisfies = subst (Satisfies (given on)) (b .list) (given-satisfies on-taken) }
+  given-satisfying =
+      record { gives = given-one on-taken .assignment ∙ b .variables; satisfies = subst (Satisfies (given on)) (b .list) (given-satisfies on-taken) }
 
   pub next-hands : (budget : ℕ) → byNext on budget ≡ handsDone (c .variables) (runs Following on budget)
   next-hands budget = hands-done on-taken budget

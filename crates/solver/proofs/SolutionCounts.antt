@@ -1,4 +1,4 @@
--- What the dealer is told of a grid is right: it has no solution, one, or several. Read `count-exactly`. Assumes nothing.
+-- The count of a grid's solutions is right: none, one, or several. Read `count-exactly`. Assumes nothing.
 use Prim.Native.Nat.{ℕ, _-_}
 use mathlib.Core.Path.{_≡_, refl, sym, _∙_, ap, subst}
 use mathlib.Core.Bool.{Bool, true, false}
@@ -87,7 +87,8 @@ agree s Unknown x h k u w = absurd (u refl)
 
 module _ (s : List ℕ) (acc : IsAccepted s) (budget : ℕ) (settled : solutionCountOf (boardOf s) budget ≡ Unknown → ⊥) where
   outcome-exactly : (x : SolutionCount) → isSettled x ≡ true → solutionCountOf (boardOf s) budget ≡ x ↔ Tells s x
-  outcome-exactly x w = (λ e. subst (Tells s) e (outcome-many s acc budget), λ h. agree s (solutionCountOf (boardOf s) budget) x (outcome-many s acc budget) h settled w)
+  outcome-exactly x w =
+      (λ e. subst (Tells s) e (outcome-many s acc budget), λ h. agree s (solutionCountOf (boardOf s) budget) x (outcome-many s acc budget) h settled w)
 
   -- Unless halted, "none" is told exactly if the grid has no solution, "one" exactly if it has one, "several" exactly if it has two that differ.
   pub count-exactly : (solutionCountOf (boardOf s) budget ≡ NoSolution ↔ ((ds : List ℕ) → SolutionBytes (boardOf s) ds → ⊥))

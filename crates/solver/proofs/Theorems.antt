@@ -22,13 +22,13 @@ use Rattle.solver.specs.SolverCall.{Lent, solved, trailBytes, solverRows
 use Rattle.solver.proofs.Begun as begun
 
 module _ (s : List ℕ) (budget : ℕ) (lent : Lent) where
-  -- A call is turned down by its rows in order, and every lent buffer then stays as it was.
+  -- A call is refused by its rows in order, and every lent buffer then stays as it was.
   pub turned-down : ByRows (1 ∷ 2 ∷ 3 ∷ 4 ∷ 5 ∷ 6 ∷ 6 ∷ 6 ∷ 6 ∷ 6 ∷ []) (solverRows s lent) (solverAnswer s budget lent) (solverLeaves s budget lent ≡ lent)
   turned-down =
       by-rows (doneOutcome (solved (boardOf s) budget)) refl _ (solverRows s lent) refl refl
       (untouched (solverAnswer s budget lent) lent (written (boardOf s) (solved (boardOf s) budget) lent))
 
-  -- Unless turned down:
+  -- Unless refused:
   module _ (answered : solverAnswer s budget lent .number ≡ 0) where
     clear : Clear (solverRows s lent)
     clear = answered-clear (solverRows s lent) (doneOutcome (solved (boardOf s) budget)) refl answered
@@ -48,7 +48,8 @@ module _ (s : List ℕ) (budget : ℕ) (lent : Lent) where
     none-exactly = rw says (begun.solved-none s accepted budget)
 
     -- and at "found" the first N bytes of the drawing that it leaves are a solution.
-    pub found-solution : solverAnswer s budget lent .first ≡ endingNumber Found → SolutionBytes (boardOf s) (take (boardOf s .size) (solverLeaves s budget lent .drawing))
+    pub found-solution : solverAnswer s budget lent .first ≡ endingNumber Found
+        → SolutionBytes (boardOf s) (take (boardOf s .size) (solverLeaves s budget lent .drawing))
     found-solution e =
         let found = same-ending (solved (boardOf s) budget .ending) Found (sym (ap (λ (t : Outcome). t .first) says) ∙ e) in
         let S = begun.solved-drawing s accepted budget found in

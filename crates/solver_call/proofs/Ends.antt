@@ -68,7 +68,9 @@ module _ (s : List ℕ) (budget : ℕ) (lent : Lent) where
 
     -- the call is left to the rows after the reader's
     goes : firstRefusal (roomRows (boardOf s) lent) (doneOutcome done) ≡ solverAnswer s budget lent
-    goes = sym (refusals-append (recordRows s) (roomRows (boardOf s) lent) (doneOutcome done) ∙ clear-answered (recordRows s) _ (accepted-clear s (is-accepted s q e)))
+    goes =
+        sym
+        (refusals-append (recordRows s) (roomRows (boardOf s) lent) (doneOutcome done) ∙ clear-answered (recordRows s) _ (accepted-clear s (is-accepted s q e)))
 
     pub ends-short : {n : ℕ} → room ≡ Short n → CallEnds (refusal 6 n) lent
     ends-short w = turned (λ z. omega arith) (by-room w (doneOutcome done) ∙ goes)
@@ -77,7 +79,7 @@ module _ (s : List ℕ) (budget : ℕ) (lent : Lent) where
       clear : Clear (roomRows (boardOf s) lent)
       clear = answered-clear (roomRows (boardOf s) lent) (doneOutcome done) refl (sym (ap (λ (t : Outcome). t .number) (by-room w (doneOutcome done))))
 
-      -- so the encoder is not turned down
+      -- so the encoder is not refused
       encoded : ls ≡ filled (lent .list) (clauseList (boardOf s))
       encoded = wrote ∙ ap (λ t. unlessRefused t (lent .list) (filled (lent .list) (clauseList (boardOf s)))) outcome
         where
@@ -87,7 +89,8 @@ module _ (s : List ℕ) (budget : ℕ) (lent : Lent) where
           outcome : encoderAnswer s (lent .list) ≡ t
           outcome =
               let rows = row 6 (tooShort (length (lent .list)) (length (clauseList (boardOf s)))) ∷ [] in
-              refusals-append (recordRows s) rows t ∙ clear-answered (recordRows s) _ (accepted-clear s (is-accepted s q e)) ∙ clear-answered rows t (clear .0, tt)
+              refusals-append (recordRows s) rows t ∙ clear-answered (recordRows s) _ (accepted-clear s (is-accepted s q e))
+              ∙ clear-answered rows t (clear .0, tt)
 
       pub fits : Fits g s needed ls (lent .slices .trail) (lent .slices .marks) (lent .values) (lent .drawing)
       fits =

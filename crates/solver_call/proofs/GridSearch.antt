@@ -113,7 +113,9 @@ module _ {g : Grid} {s : List ℕ} {needed : Needs} {ls ts : List ℤ} {ms vs ds
 
   grid-leaves : (values lent : List ℕ) → gridLeaves g values lent ≡ decoderLeaves s values lent
   grid-leaves values lent =
-      λ i. unlessRefused (goes-on s refl (fits .read) (λ g. gridRows g s values lent) saysYes i) lent (decoded (gridBoard (read-sides s refl (fits .read) i) s) values)
+      λ i.
+      unlessRefused (goes-on s refl (fits .read) (λ g. gridRows g s values lent) saysYes i) lent
+      (decoded (gridBoard (read-sides s refl (fits .read) i) s) values)
 
   -- after the search
   module _ (e : End) {us : List ℤ} {ns : List ℕ}
@@ -130,7 +132,9 @@ module _ {g : Grid} {s : List ℕ} {needed : Needs} {ls ts : List ℤ} {ms vs ds
 
     left : slices (us ++ drop m ts) (ns ++ drop m ms) ≡ filledSlices (slices ts ms) (image v (done .trail))
     left =
-        (λ i. slices (part-filled ts us us-long (fits .trail) (ap (λ (h : Handed). h .slices .trail) hands) i) (part-filled ms ns ns-long (fits .marks) (ap (λ (h : Handed). h .slices .marks) hands) i))
+        (λ i.
+        slices (part-filled ts us us-long (fits .trail) (ap (λ (h : Handed). h .slices .trail) hands) i)
+        (part-filled ms ns ns-long (fits .marks) (ap (λ (h : Handed). h .slices .marks) hands) i))
 
     pub unfound : (e .ending ≡ Found → ⊥) → Ends s budget ts ms vs ds e (us ++ drop m ts) (ns ++ drop m ms) vs ds
     unfound other =
@@ -161,7 +165,8 @@ module _ {g : Grid} {s : List ℕ} {needed : Needs} {ls ts : List ℤ} {ms vs ds
           let given : Gives v us ws = rw (vs-long, part-read ts us us-long (fits .trail)) at w in
           let bytes = given ns recordFits ∙ ap (trailBytes v) reads in
           let yes = begun.decoder-says s accepted budget ends-found (take n ds) ds-long in
-          let drawn = d ∙ grid-leaves (take m (ws ++ drop m vs)) (take n ds) ∙ ap (λ b. decoderLeaves s b (take n ds)) (part-read vs ws ws-long (fits .values) ∙ bytes)
+          let drawn = d ∙ grid-leaves (take m (ws ++ drop m vs)) (take n ds)
+          ∙ ap (λ b. decoderLeaves s b (take n ds)) (part-read vs ws ws-long (fits .values) ∙ bytes)
           ∙ ap (λ t. unlessRefused t (take n ds) (decoded (boardOf s) (trailBytes v (done .trail)))) yes in
           record {
             outcome = outcome;

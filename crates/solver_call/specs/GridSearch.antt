@@ -52,4 +52,5 @@ pub record Ends (s : List ℕ) (budget : ℕ) (ts : List ℤ) (ms vs ds : List �
   pub slices : slices us ns ≡ filledSlices (slices ts ms) (image (variableCount (boardOf s)) (solved (boardOf s) budget .trail))
   pub values : ws ≡ atFound (solved (boardOf s) budget .ending) vs (filled vs (trailBytes (variableCount (boardOf s)) (solved (boardOf s) budget .trail)))
   pub drawing : es
-      ≡ atFound (solved (boardOf s) budget .ending) ds (filled ds (decoded (boardOf s) (trailBytes (variableCount (boardOf s)) (solved (boardOf s) budget .trail))))
+      ≡ atFound (solved (boardOf s) budget .ending) ds
+      (filled ds (decoded (boardOf s) (trailBytes (variableCount (boardOf s)) (solved (boardOf s) budget .trail))))

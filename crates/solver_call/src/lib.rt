@@ -39,7 +39,7 @@ pub enum Room {
     Short(usize),
 }
 
-// Why a call is turned down: the record's refusal, else 6 with the elements needed.
+// Why a call is refused: the record's refusal, else 6 with the elements needed.
 pub enum SolveRefusal {
     Record(RecordRefusal),
     TooShort(usize),

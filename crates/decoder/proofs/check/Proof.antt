@@ -43,13 +43,17 @@ enum-told : tie.Need-enum-told
 enum-told c = search needs
 
 returns-3 : tie.Need-returns-3
-returns-3 c = left-done (left-next (past7 (c .before .before .before)) (ap numbered (found-none (c .enum-told .given .1) (c .before .before .wrong-value .ensures))))
+returns-3 c =
+    left-done (left-next (past7 (c .before .before .before)) (ap numbered (found-none (c .enum-told .given .1) (c .before .before .wrong-value .ensures))))
 
 add-t7 : tie.Need-add-t7
-add-t7 c = omega (arith, first-below (λ i. ltb 1 (getD (c .before .before .before .before .before .before .before .args .values .now) i 0)) (length (c .before .before .before .before .before .before .before .args .values .now)) (found-at (c .before .p .given .1) (c .before .before .before .wrong-value .ensures)))
+add-t7 c =
+    omega (arith, first-below (λ i. ltb 1 (getD (c .before .before .before .before .before .before .before .args .values .now) i 0)) (length (c .before .before .before .before .before .before .before .args .values .now)) (found-at (c .before .p .given .1) (c .before .before .before .wrong-value .ensures)))
 
 returns-4 : tie.Need-returns-4
-returns-4 c = left-turn (past7 (c .before .before .before .before)) (ap some (add-one _) ∙ ap numbered (found-at (c .before .p .given .1) (c .before .before .before .wrong-value .ensures)))
+returns-4 c =
+    left-turn (past7 (c .before .before .before .before))
+    (ap some (add-one _) ∙ ap numbered (found-at (c .before .p .given .1) (c .before .before .before .wrong-value .ensures)))
 
 pub check-spec : {M : Type 1} → statement M
 check-spec =

@@ -31,7 +31,8 @@ abbrev read : tie.After-known-told → tie.After-read
 read c = c .before .before .before
 
 -- the call is left to the rows after the reader's
-goes : (c : tie.After-known-told) → let r = read c in firstRefusal (gridRows (c .before .p .given .0 .0) (s r) (values r) (lent r)) saysYes ≡ decoderAnswer (s r) (values r) (lent r)
+goes : (c : tie.After-known-told)
+    → let r = read c in firstRefusal (gridRows (c .before .p .given .0 .0) (s r) (values r) (lent r)) saysYes ≡ decoderAnswer (s r) (values r) (lent r)
 goes c = let r = read c in goes-on (s r) (c .before .p .given .1) (r .read .ensures) (λ g. gridRows g (s r) (values r) (lent r)) saysYes
 
 read-requires : tie.Need-read-requires
@@ -62,8 +63,10 @@ returns-2 : tie.Need-returns-2
 returns-2 c =
     let k = c .before .before .before .before in
     let r = read k in
-    let e = c .before .before .decode-grid .ensures in
-    (e .0 ∙ goes k, e .1 ∙ (λ i. unlessRefused (goes k i) (lent r) (decoded (gridBoard (read-sides (s r) (k .before .p .given .1) (r .read .ensures) i) (s r)) (values r))))
+    let e = c .before .before .decode-grid .ensures in (
+      e .0 ∙ goes k,
+      e .1 ∙ (λ i. unlessRefused (goes k i) (lent r) (decoded (gridBoard (read-sides (s r) (k .before .p .given .1) (r .read .ensures) i) (s r)) (values r))),
+    )
 
 pub decode-spec : {M : Type 1} → statement M
 decode-spec =

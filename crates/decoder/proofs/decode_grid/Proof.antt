@@ -47,12 +47,17 @@ outcome : (c : tie.After-check) → decodedOutcome (c .check .result) ≡ firstR
 outcome c =
     let s = s2 c in
     c .check .ensures
-    ∙ (λ i. firstRefusal (valueRows (c .before .before .variable-count .ensures i) (c .before .size .ensures i) (s .args .values .now) (length (s .args .drawing .now))) saysYes)
+    ∙
+    (λ i.
+    firstRefusal
+    (valueRows (c .before .before .variable-count .ensures i) (c .before .size .ensures i) (s .args .values .now) (length (s .args .drawing .now)))
+    saysYes)
 
 clear : (c : tie.After-enum-told) → Clear (rows (s3 c))
 clear c =
     let s = s3 c in
-    values-clear (variableCount (b s)) (size (s .args .g)) (s .args .values .now) (length (s .args .drawing .now)) (ap decodedOutcome (c .enum-told .given .1)) (outcome (c .before .before))
+    values-clear (variableCount (b s)) (size (s .args .g)) (s .args .values .now) (length (s .args .drawing .now)) (ap decodedOutcome (c .enum-told .given .1))
+    (outcome (c .before .before))
 
 lengths : (c : tie.After-enum-told) → (length (s3 c .args .values .now) ≡ variableCount (b (s3 c))) × (length (s3 c .args .drawing .now) ≡ size (s3 c .args .g))
 lengths c = let s = s3 c in lengths-right (variableCount (b s)) (size (s .args .g)) (s .args .values .now) (length (s .args .drawing .now)) (clear c)
@@ -87,7 +92,8 @@ returns c =
     let k = c .before .before in
     let s = s2 k in
     let e = ap decodedOutcome (c .enum-told2 .given .1) in
-    ends-refused (rows s ++ judges s) (s .args .drawing .now) (picture s) (c .enum-told2 .given .0 .0) e (refused-first (rows s) (judges s) (c .enum-told2 .given .0 .0) e (outcome k))
+    ends-refused (rows s ++ judges s) (s .args .drawing .now) (picture s) (c .enum-told2 .given .0 .0) e
+    (refused-first (rows s) (judges s) (c .enum-told2 .given .0 .0) e (outcome k))
 
 slice-aggregate-judged : tie.Need-slice-aggregate-judged
 slice-aggregate-judged c = search needs

@@ -50,7 +50,8 @@ own-long c = ap length (drawn c) ∙ long (s1 c)
 outcome : (c : tie.After-answer) → decodedOutcome (c .answer .result) ≡ firstRefusal (rows (s2 c)) saysYes
 outcome c =
     let s = s2 c in
-    c .answer .ensures ∙ c .before .judge-rules .ensures ∙ ap (λ ds. firstRefusal (ruleRows (b s) ds) saysYes) (drawn (c .before .before .before)) ∙ rules-left (b s) (picture s) (long s)
+    c .answer .ensures ∙ c .before .judge-rules .ensures ∙ ap (λ ds. firstRefusal (ruleRows (b s) ds) saysYes) (drawn (c .before .before .before))
+    ∙ rules-left (b s) (picture s) (long s)
 
 slice-aggregate-draw : tie.Need-slice-aggregate-draw
 slice-aggregate-draw c = search needs

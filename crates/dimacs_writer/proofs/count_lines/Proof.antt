@@ -27,7 +27,8 @@ width-requires c κs = tt
 
 -- the bytes of the element
 wide : (c : tie.After-width Inv-loop μ-loop)
-    → c .width .result + c .before .code-at .result % 2 + 1 ≡ length (written (getD (c .before .before .before .before .args .list .now) (c .before .before .before .loop .i) (pos 0)))
+    → c .width .result + c .before .code-at .result % 2 + 1
+    ≡ length (written (getD (c .before .before .before .before .args .list .now) (c .before .before .before .loop .i) (pos 0)))
 wide c =
     let at-loop = c .before .before .before in
     let at-start = at-loop .before in

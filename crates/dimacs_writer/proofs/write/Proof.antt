@@ -11,7 +11,8 @@ use Rattle.cnf.specs.Clauses.{clauseCount}
 use Rattle.dimacs.specs.Text.{textOf}
 use Rattle.dimacs_writer.specs.Writer.{counted}
 use Rattle.text.proofs.Decimals.{digits-few}
-use Rattle.dimacs_writer.proofs.WriterRows.{Past, TextFits, too-many, past-variables, list-wrong, text-counted, room-over, room-short, room-right, header-fits, all-written}
+use Rattle.dimacs_writer.proofs.WriterRows.{Past, TextFits, too-many, past-variables, list-wrong, text-counted, room-over, room-short, room-right}
+use Rattle.dimacs_writer.proofs.WriterRows.{header-fits, all-written}
 use borrow.Author.Needs.{needs}
 use Rattle.dimacs_writer.proofs.write.Statement.{statement}
 use Rattle.dimacs_writer.proofs.write.Tie as tie

@@ -32,7 +32,8 @@ same-length c = search needs
 returns-2 : tie.Need-returns-2
 returns-2 c =
     let s = c .before .before .before .before .before .before .before .before .before in
-    ends-listed (s .pre .0) (s .args .list .now) (s .pre .1) (omega (arith, c .before .before .before .before .before .before .before .if1 .left)) (c .before .all-families .ensures)
+    ends-listed (s .pre .0) (s .args .list .now) (s .pre .1) (omega (arith, c .before .before .before .before .before .before .before .if1 .left))
+    (c .before .all-families .ensures)
 
 pub encode-grid-spec : {M : Type 1} → statement M
 encode-grid-spec =

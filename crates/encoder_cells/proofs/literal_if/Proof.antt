@@ -11,13 +11,16 @@ returns : tie.Need-returns
 returns c = absent-wrote (c .before .args .a) (pos (c .before .args .a) ∷ []) (c .if1 .taken) _ _
 
 put-requires : tie.Need-put-requires
-put-requires c κs = put-needs (there-writable (c .before .before .args .a) (pos (c .before .before .args .a) ∷ []) (c .before .if1 .left) (c .before .before .pre))
+put-requires c κs =
+    put-needs (there-writable (c .before .before .args .a) (pos (c .before .before .args .a) ∷ []) (c .before .if1 .left) (c .before .before .pre))
 
 same-length : tie.Need-same-length
 same-length c = search needs
 
 returns-2 : tie.Need-returns-2
-returns-2 c = there-wrote (c .before .before .before .before .args .a) (pos (c .before .before .before .before .args .a) ∷ []) (c .before .before .before .if1 .left) (c .before .put .ensures)
+returns-2 c =
+    there-wrote (c .before .before .before .before .args .a) (pos (c .before .before .before .before .args .a) ∷ []) (c .before .before .before .if1 .left)
+    (c .before .put .ensures)
 
 pub literal-if-spec : {M : Type 1} → statement M
 literal-if-spec = tie.close (tie.spec returns put-requires same-length returns-2)

@@ -27,7 +27,9 @@ same-length : tie.Need-same-length
 same-length c = search needs
 
 returns-2 : tie.Need-returns-2
-returns-2 c = let s = c .before .before .before .before .before in there-wrote (s .args .y .out) (clauses s) (c .before .before .before .if1 .left) (c .before .each-both-imply .ensures)
+returns-2 c =
+    let s = c .before .before .before .before .before in
+    there-wrote (s .args .y .out) (clauses s) (c .before .before .before .if1 .left) (c .before .each-both-imply .ensures)
 
 pub nearer-spec : {M : Type 1} → statement M
 nearer-spec = tie.close (tie.spec returns add-each-both-imply sub-each-both-imply each-both-imply-requires same-length returns-2)

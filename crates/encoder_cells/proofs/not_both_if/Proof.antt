@@ -21,13 +21,18 @@ returns-2 : tie.Need-returns-2
 returns-2 c = let s = c .before .before in there-wrote (s .args .a) (second s) (c .before .if1 .left) (absent-wrote (s .args .b) (clause s) (c .if2 .taken) _ _)
 
 not-both-requires : tie.Need-not-both-requires
-not-both-requires c κs = let s = c .before .before .before in there-writable (s .args .b) (clause s) (c .before .if2 .left) (there-writable (s .args .a) (second s) (c .before .before .if1 .left) (s .pre))
+not-both-requires c κs =
+    let s = c .before .before .before in
+    there-writable (s .args .b) (clause s) (c .before .if2 .left) (there-writable (s .args .a) (second s) (c .before .before .if1 .left) (s .pre))
 
 same-length : tie.Need-same-length
 same-length c = search needs
 
 returns-3 : tie.Need-returns-3
-returns-3 c = let s = c .before .before .before .before .before in there-wrote (s .args .a) (second s) (c .before .before .before .before .if1 .left) (there-wrote (s .args .b) (clause s) (c .before .before .before .if2 .left) (c .before .not-both .ensures))
+returns-3 c =
+    let s = c .before .before .before .before .before in
+    there-wrote (s .args .a) (second s) (c .before .before .before .before .if1 .left)
+    (there-wrote (s .args .b) (clause s) (c .before .before .before .if2 .left) (c .before .not-both .ensures))
 
 pub not-both-if-spec : {M : Type 1} → statement M
 not-both-if-spec = tie.close (tie.spec returns returns-2 not-both-requires same-length returns-3)

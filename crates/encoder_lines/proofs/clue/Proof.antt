@@ -15,14 +15,17 @@ use Rattle.encoder_shapes.proofs.Written.{writable-recast, Progress, begun, par
 use Rattle.encoder_lines.proofs.clue.Statement.{statement}
 use Rattle.encoder_lines.proofs.clue.Tie as tie
 
-line-ends : (c : tie.After-line-end) → let s = c .before .before .before in LineEnd (puzzle (s .args .g) (s .args .«record» .now)) (s .args .d) (s .args .x) (c .line-end .result)
+line-ends : (c : tie.After-line-end)
+    → let s = c .before .before .before in LineEnd (puzzle (s .args .g) (s .args .«record» .now)) (s .args .d) (s .args .x) (c .line-end .result)
 line-ends c = record { cell = c .line-end .ensures .0; cells = c .line-end .ensures .1 }
 
 -- the number of the last T variable
 last : (c : tie.After-line-end) → let s = c .before .before .before in
     s .args .first + c .line-end .result .cells * (s .args .n + 1) + s .args .n
     ≡ s .args .first + length (blacksOf (s .args .g) (s .args .«record» .now) (s .args .d) (s .args .x)) * (s .args .n + 1) + s .args .n
-last c = let s = c .before .before .before in last-is (s .args .g) (s .args .«record» .now) (s .args .d) (s .args .x) (s .args .n) (c .line-end .ensures .1) (s .args .first)
+last c =
+    let s = c .before .before .before in
+    last-is (s .args .g) (s .args .«record» .now) (s .args .d) (s .args .x) (s .args .n) (c .line-end .ensures .1) (s .args .first)
 
 -- the place after the line's end was sought, from those after the calls
 abbrev e1 : tie.After-unit → tie.After-line-end
@@ -64,7 +67,10 @@ first-small : (c : tie.Start) → c .args .first ≤ mostVariables
 first-small c = part-needs (start c) .right .0
 
 last-small : (c : tie.After-line-end) → let s = c .before .before .before in c .line-end .result .cells * (s .args .n + 1) ≤ 576 * 256
-last-small c = let s = c .before .before .before in last-few (s .args .g) (s .args .«record» .now) (s .args .d) (s .args .x) (s .args .n) (c .line-end .ensures .1) (s .pre .1 .0 .recordFits) (s .pre .1 .1 .0) (s .pre .1 .1 .1)
+last-small c =
+    let s = c .before .before .before in
+    last-few (s .args .g) (s .args .«record» .now) (s .args .d) (s .args .x) (s .args .n) (c .line-end .ensures .1) (s .pre .1 .0 .recordFits) (s .pre .1 .1 .0)
+    (s .pre .1 .1 .1)
 
 line-end-requires : tie.Need-line-end-requires
 line-end-requires c κs = record { sides = c .before .before .pre .1 .0 .recordFits .sides; inside = c .before .before .pre .1 .1 .0 }
@@ -79,7 +85,8 @@ each-unit-not-requires : tie.Need-each-unit-not-requires
 each-unit-not-requires c κs = part-needs (p1 (c .before .before))
 
 count-step-each-requires : tie.Need-count-step-each-requires
-count-step-each-requires c κs = (part-needs (p2 (c .before .before)), (s2 (c .before .before) .pre .1 .0, (line-ends (e2 (c .before .before)), s2 (c .before .before) .pre .1 .1)))
+count-step-each-requires c κs =
+    (part-needs (p2 (c .before .before)), (s2 (c .before .before) .pre .1 .0, (line-ends (e2 (c .before .before)), s2 (c .before .before) .pre .1 .1)))
 
 add-unit : tie.Need-add-unit
 add-unit c = omega (arith, s3 (c .before .before) .pre .1 .1 .1)

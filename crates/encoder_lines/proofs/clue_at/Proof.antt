@@ -19,7 +19,8 @@ is-clue : (c : tie.After-count-number) → let s = c .before .before .before .be
     ≡ joined (clueNumbers (c .count-number .result) (k .c .given .0 .1 .0) (blacksOf (s .args .g) (s .args .«record» .now) (k .c .given .0 .0) (s .args .x)))
 is-clue c =
     let s = c .before .before .before .before .before .before .before in
-    clue-some (s .pre .1 .0 .recordFits) (s .args .x) (s .pre .1 .1) (c .before .before .before .before .cell .ensures) (c .before .before .c .given .1) (c .count-number .ensures)
+    clue-some (s .pre .1 .0 .recordFits) (s .args .x) (s .pre .1 .1) (c .before .before .before .before .cell .ensures) (c .before .before .c .given .1)
+    (c .count-number .ensures)
 
 cell-requires : tie.Need-cell-requires
 cell-requires c κs = search needs
@@ -33,7 +34,8 @@ enum-told c = search needs
 returns : tie.Need-returns
 returns c =
     let s = c .before .before .before .before .before in
-    wrote-recast (clue-none (s .pre .1 .0 .recordFits) (s .args .x) (s .pre .1 .1) (c .before .before .cell .ensures) (c .enum-told .given .1)) (wrote-nothing _ _)
+    wrote-recast (clue-none (s .pre .1 .0 .recordFits) (s .args .x) (s .pre .1 .1) (c .before .before .cell .ensures) (c .enum-told .given .1))
+    (wrote-nothing _ _)
 
 count-number-requires : tie.Need-count-number-requires
 count-number-requires c κs = search needs
@@ -42,7 +44,9 @@ cast-clue : tie.Need-cast-clue
 cast-clue c = search needs
 
 clue-requires : tie.Need-clue-requires
-clue-requires c κs = let s = c .before .before .before .before .before .before .before .before in (record { writable = writable-recast (is-clue (c .before)) (s .pre .0) }, (s .pre .1 .0, (s .pre .1 .1, search needs)))
+clue-requires c κs =
+    let s = c .before .before .before .before .before .before .before .before in
+    (record { writable = writable-recast (is-clue (c .before)) (s .pre .0) }, (s .pre .1 .0, (s .pre .1 .1, search needs)))
 
 same-length : tie.Need-same-length
 same-length c = search needs

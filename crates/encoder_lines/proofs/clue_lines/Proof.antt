@@ -27,7 +27,10 @@ loop-holds : tie.Need-loop-holds Inv-loop μ-loop
 loop-holds c = let s = c .before .before .before in write-start (writable-recast (lines-each (s .pre .1 .recordFits) (c .size .ensures)) (s .pre .0))
 
 clue-at-requires : tie.Need-clue-at-requires Inv-loop μ-loop
-clue-at-requires c κs = (write-needs (c .before .before .loop .inv) (c .before .loop-test .taken), (c .before .before .before .before .before .before .pre .1, omega (arith, c .before .before .before .size .ensures)))
+clue-at-requires c κs = (
+  write-needs (c .before .before .loop .inv) (c .before .loop-test .taken),
+  (c .before .before .before .before .before .before .pre .1, omega (arith, c .before .before .before .size .ensures)),
+)
 
 add-k : tie.Need-add-k Inv-loop μ-loop
 add-k c = search needs
@@ -42,7 +45,9 @@ same-length : tie.Need-same-length Inv-loop μ-loop
 same-length c = write-kept (c .before .loop .inv)
 
 returns : tie.Need-returns Inv-loop μ-loop
-returns c = wrote-recast (sym (lines-each (c .before .before .before .before .before .pre .1 .recordFits) (c .before .before .size .ensures))) (write-end (c .before .loop .inv) (c .loop-test .left))
+returns c =
+    wrote-recast (sym (lines-each (c .before .before .before .before .before .pre .1 .recordFits) (c .before .before .size .ensures)))
+    (write-end (c .before .loop .inv) (c .loop-test .left))
 
 pub clue-lines-spec : {M : Type 1} → statement M
 clue-lines-spec =

@@ -1,4 +1,4 @@
--- `encoder_lines::past_below` meets its contract. Assumes nothing.
+-- `encoder_lines::count_step_below` meets its contract. Assumes nothing.
 use native.Mathlib.Omega.{arith}
 use borrow.Author.Needs.{needs}
 use Prim.Native.Nat.{_+_, _-_}
@@ -18,7 +18,8 @@ loop-holds : tie.Need-loop-holds Inv-loop μ-loop
 loop-holds c = write-start (c .pre)
 
 add-count-step-both : tie.Need-add-count-step-both Inv-loop μ-loop
-add-count-step-both c = omega (arith, no-small (c .before .before .before .args .row + (c .before .before .loop .k)) ((write-needs (c .before .before .loop .inv) (c .before .loop-test .taken)) .right .0))
+add-count-step-both c =
+    omega (arith, no-small (c .before .before .before .args .row + (c .before .before .loop .k)) ((write-needs (c .before .before .loop .inv) (c .before .loop-test .taken)) .right .0))
 
 add-count-step-both-2 : tie.Need-add-count-step-both-2 Inv-loop μ-loop
 add-count-step-both-2 c = let h = (write-needs (c .before .before .loop .inv) (c .before .loop-test .taken)) .right .1 .1 .0 in omega arith
@@ -42,4 +43,6 @@ returns : tie.Need-returns Inv-loop μ-loop
 returns c = write-end (c .before .loop .inv) (c .loop-test .left)
 
 pub count-step-below-spec : {M : Type 1} → statement M
-count-step-below-spec = tie.close (tie.spec Inv-loop μ-loop loop-holds add-count-step-both add-count-step-both-2 count-step-both-requires add-k loop-less loop-again same-length returns)
+count-step-below-spec =
+    tie.close
+    (tie.spec Inv-loop μ-loop loop-holds add-count-step-both add-count-step-both-2 count-step-both-requires add-k loop-less loop-again same-length returns)

@@ -1,4 +1,4 @@
--- `encoder_lines::past_clue` meets its contract. Assumes nothing.
+-- `encoder_lines::count_step_clue` meets its contract. Assumes nothing.
 use native.Mathlib.Omega.{arith}
 use borrow.Author.Needs.{needs}
 use Prim.Native.Nat.{_+_, _-_}
@@ -17,7 +17,8 @@ loop-holds : tie.Need-loop-holds Inv-loop μ-loop
 loop-holds c = write-start (c .pre)
 
 add-implies : tie.Need-add-implies Inv-loop μ-loop
-add-implies c = omega (arith, no-small (c .before .before .before .args .row + (c .before .before .loop .k)) ((write-needs (c .before .before .loop .inv) (c .before .loop-test .taken)) .right .0))
+add-implies c =
+    omega (arith, no-small (c .before .before .before .args .row + (c .before .before .loop .k)) ((write-needs (c .before .before .loop .inv) (c .before .loop-test .taken)) .right .0))
 
 add-implies-2 : tie.Need-add-implies-2 Inv-loop μ-loop
 add-implies-2 c = let h = (write-needs (c .before .before .loop .inv) (c .before .loop-test .taken)) .right .1 .0 in omega arith

@@ -20,7 +20,8 @@ abbrev μ-loop : tie.MeasureT-loop
 μ-loop list₀ at g «record» sizes table x d n first cells y₀ row₀ i₀ j₀ list y row i j = cells - j
 
 -- there is a cell left on the line, y is it, and its row begins at a variable's number
-inside : (c : tie.In-loop Inv-loop μ-loop) → let s = c .before .before .before .before in c .before .loop .j < length (line (puzzle (s .args .g) (s .args .«record» .now)) (s .args .d) (s .args .x))
+inside : (c : tie.In-loop Inv-loop μ-loop)
+    → let s = c .before .before .before .before in c .before .loop .j < length (line (puzzle (s .args .g) (s .args .«record» .now)) (s .args .d) (s .args .x))
 inside c = omega (arith, c .before .before .before .before .pre .1 .1 .0 .cells)
 
 there : (c : tie.In-loop Inv-loop μ-loop) → c .before .loop .y < size (c .before .before .before .before .args .g)
@@ -45,7 +46,11 @@ opposite-requires : tie.Need-opposite-requires Inv-loop μ-loop
 opposite-requires c κs = search needs
 
 go-requires : tie.Need-go-requires Inv-loop μ-loop
-go-requires c κs = record { sides = c .before .before .before .before .before .before .before .before .before .pre .1 .0 .recordFits .sides; inside = there (c .before .before .before .before .before) }
+go-requires c κs =
+    record {
+      sides = c .before .before .before .before .before .before .before .before .before .pre .1 .0 .recordFits .sides;
+      inside = there (c .before .before .before .before .before);
+    }
 
 add-row : tie.Need-add-row Inv-loop μ-loop
 add-row c = let r = row-small (c .before .before .before .before .before) in omega arith
@@ -64,7 +69,8 @@ loop-less c = search needs
 loop-again : tie.Need-loop-again Inv-loop μ-loop
 loop-again c =
     let k = c .before .before .before .before .before in
-    line-on (k .before .before .loop .inv) (inside (k .before)) (k .black-number .ensures) (c .before .before .before .count-step-cell .ensures) (c .before .opposite .ensures) (c .go .ensures)
+    line-on (k .before .before .loop .inv) (inside (k .before)) (k .black-number .ensures) (c .before .before .before .count-step-cell .ensures)
+    (c .before .opposite .ensures) (c .go .ensures)
 
 same-length : tie.Need-same-length Inv-loop μ-loop
 same-length c = line-kept (c .before .loop .inv)

@@ -31,7 +31,8 @@ count-step-below-requires : tie.Need-count-step-below-requires
 count-step-below-requires c κs = part-needs (start (c .before))
 
 add-implies-either : tie.Need-add-implies-either
-add-implies-either c = omega (arith, no-small (c .before .before .before .before .args .row + c .before .before .before .before .args .n) (part-needs (p1 (c .before .before)) .right .0))
+add-implies-either c =
+    omega (arith, no-small (c .before .before .before .before .args .row + c .before .before .before .before .args .n) (part-needs (p1 (c .before .before)) .right .0))
 
 add-implies-either-2 : tie.Need-add-implies-either-2
 add-implies-either-2 c = let h = part-needs (p1 (c .before .before)) .right .1 .1 .0 in omega arith

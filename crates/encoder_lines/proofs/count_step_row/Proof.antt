@@ -8,22 +8,28 @@ add-count-step-clue : tie.Need-add-count-step-clue
 add-count-step-clue c = search needs
 
 count-step-clue-requires : tie.Need-count-step-clue-requires
-count-step-clue-requires c κs = let s = c .before .before in row-clue (s .args .z) (s .args .row) (s .args .next) (s .args .n) (c .before .if1 .taken) (s .pre .0)
+count-step-clue-requires c κs =
+    let s = c .before .before in row-clue (s .args .z) (s .args .row) (s .args .next) (s .args .n) (c .before .if1 .taken) (s .pre .0)
 
 same-length : tie.Need-same-length
 same-length c = search needs
 
 returns : tie.Need-returns
-returns c = let s = c .before .before .before .before in wrote-clue (s .args .z) (s .args .row) (s .args .next) (s .args .n) (c .before .before .before .if1 .taken) (c .before .count-step-clue .ensures)
+returns c =
+    let s = c .before .before .before .before in
+    wrote-clue (s .args .z) (s .args .row) (s .args .next) (s .args .n) (c .before .before .before .if1 .taken) (c .before .count-step-clue .ensures)
 
 count-step-open-requires : tie.Need-count-step-open-requires
-count-step-open-requires c κs = let s = c .before .before in row-open (s .args .z) (s .args .row) (s .args .next) (s .args .n) (c .before .if1 .left) (s .pre .0)
+count-step-open-requires c κs =
+    let s = c .before .before in row-open (s .args .z) (s .args .row) (s .args .next) (s .args .n) (c .before .if1 .left) (s .pre .0)
 
 same-length-2 : tie.Need-same-length-2
 same-length-2 c = search needs
 
 returns-2 : tie.Need-returns-2
-returns-2 c = let s = c .before .before .before .before in wrote-open (s .args .z) (s .args .row) (s .args .next) (s .args .n) (c .before .before .before .if1 .left) (c .before .count-step-open .ensures)
+returns-2 c =
+    let s = c .before .before .before .before in
+    wrote-open (s .args .z) (s .args .row) (s .args .next) (s .args .n) (c .before .before .before .if1 .left) (c .before .count-step-open .ensures)
 
 pub count-step-row-spec : {M : Type 1} → statement M
 count-step-row-spec = tie.close (tie.spec add-count-step-clue count-step-clue-requires same-length returns count-step-open-requires same-length-2 returns-2)

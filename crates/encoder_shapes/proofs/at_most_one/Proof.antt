@@ -1,4 +1,4 @@
--- `encoder_shapes::each_pair` meets its contract. Assumes nothing.
+-- `encoder_shapes::at_most_one` meets its contract. Assumes nothing.
 use Prim.Native.Nat.{_-_}
 use native.Mathlib.Omega.{arith}
 use borrow.Author.Needs.{needs}
@@ -50,4 +50,7 @@ returns : tie.Need-returns Inv-loop μ-loop
 returns c = write-end (c .before .loop .inv) (c .loop-test .left)
 
 pub at-most-one-spec : {M : Type 1} → statement M
-at-most-one-spec = tie.close (tie.spec Inv-loop μ-loop loop-holds add-each-not-both add-each-not-both-2 add-each-not-both-3 add-each-not-both-4 sub-each-not-both each-not-both-requires add-k loop-less loop-again same-length returns)
+at-most-one-spec =
+    tie.close
+    (tie.spec Inv-loop μ-loop loop-holds add-each-not-both add-each-not-both-2 add-each-not-both-3 add-each-not-both-4 sub-each-not-both each-not-both-requires
+    add-k loop-less loop-again same-length returns)

@@ -17,7 +17,8 @@ loop-holds : tie.Need-loop-holds Inv-loop μ-loop
 loop-holds c = write-start (c .pre)
 
 add-both-imply : tie.Need-add-both-imply Inv-loop μ-loop
-add-both-imply c = omega (arith, no-small (c .before .before .before .args .b + c .before .before .loop .k) ((write-needs (c .before .before .loop .inv) (c .before .loop-test .taken)) .right .1 .0))
+add-both-imply c =
+    omega (arith, no-small (c .before .before .before .args .b + c .before .before .loop .k) ((write-needs (c .before .before .loop .inv) (c .before .loop-test .taken)) .right .1 .0))
 
 add-both-imply-2 : tie.Need-add-both-imply-2 Inv-loop μ-loop
 add-both-imply-2 c = let h = (write-needs (c .before .before .loop .inv) (c .before .loop-test .taken)) .right .1 .1 .0 in omega arith
@@ -41,4 +42,5 @@ returns : tie.Need-returns Inv-loop μ-loop
 returns c = write-end (c .before .loop .inv) (c .loop-test .left)
 
 pub each-both-imply-spec : {M : Type 1} → statement M
-each-both-imply-spec = tie.close (tie.spec Inv-loop μ-loop loop-holds add-both-imply add-both-imply-2 both-imply-requires add-k loop-less loop-again same-length returns)
+each-both-imply-spec =
+    tie.close (tie.spec Inv-loop μ-loop loop-holds add-both-imply add-both-imply-2 both-imply-requires add-k loop-less loop-again same-length returns)

@@ -1,4 +1,4 @@
--- `encoder_shapes::each_never` meets its contract. Assumes nothing.
+-- `encoder_shapes::each_unit_not` meets its contract. Assumes nothing.
 use Prim.Native.Nat.{_+_, _-_}
 use native.Mathlib.Omega.{arith}
 use borrow.Author.Needs.{needs}
@@ -17,7 +17,8 @@ loop-holds : tie.Need-loop-holds Inv-loop μ-loop
 loop-holds c = write-start (c .pre)
 
 add-unit-not : tie.Need-add-unit-not Inv-loop μ-loop
-add-unit-not c = omega (arith, no-small (c .before .before .before .args .first + c .before .before .loop .k) ((write-needs (c .before .before .loop .inv) (c .before .loop-test .taken)) .right .0))
+add-unit-not c =
+    omega (arith, no-small (c .before .before .before .args .first + c .before .before .loop .k) ((write-needs (c .before .before .loop .inv) (c .before .loop-test .taken)) .right .0))
 
 unit-not-requires : tie.Need-unit-not-requires Inv-loop μ-loop
 unit-not-requires c κs = write-needs (c .before .before .loop .inv) (c .before .loop-test .taken)

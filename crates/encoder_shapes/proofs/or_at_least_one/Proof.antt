@@ -1,4 +1,4 @@
--- `encoder_shapes::any_of` meets its contract. Assumes nothing.
+-- `encoder_shapes::or_at_least_one` meets its contract. Assumes nothing.
 use borrow.Author.Needs.{needs}
 use Rattle.answers.proofs.Lent.{wrote-after}
 use Rattle.encoder_shapes.proofs.Written.{put-needs, writable-next}

@@ -1,4 +1,4 @@
--- `encoder_shapes::unitNot` meets its contract. Assumes nothing.
+-- `encoder_shapes::unit_not` meets its contract. Assumes nothing.
 use borrow.Author.Needs.{needs}
 use Rattle.answers.proofs.Lent.{wrote-after}
 use Rattle.encoder_shapes.proofs.Written.{not-needs, put-needs, writable-next}

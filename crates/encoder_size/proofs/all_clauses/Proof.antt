@@ -55,7 +55,9 @@ loop-less : tie.Need-loop-less Inv-loop μ-loop
 loop-less c = search needs
 
 loop-again : tie.Need-loop-again Inv-loop μ-loop
-loop-again c = adding-on (c .before .before .before .before .before .before .before .before .before .pre .recordFits) (c .before .before .before .before .before .loop .inv) (inside (c .before .before .before .before)) (c .before .before .at-cell .ensures)
+loop-again c =
+    adding-on (c .before .before .before .before .before .before .before .before .before .pre .recordFits)
+    (c .before .before .before .before .before .loop .inv) (inside (c .before .before .before .before)) (c .before .before .at-cell .ensures)
 
 returns : tie.Need-returns Inv-loop μ-loop
 returns c = adding-end (c .before .before .before .before .before .pre .recordFits) (c .before .loop .inv) (omega (arith, c .before .before .size .ensures))

@@ -15,7 +15,13 @@ enum-told : tie.Need-enum-told
 enum-told c = search needs
 
 at-open-requires : tie.Need-at-open-requires
-at-open-requires c κs = (c .before .before .before .before .pre .0, ((c .before .before .before .before .pre .1 .0, sym (c .before .before .cell .ensures) ∙ c .enum-told .given .1), c .before .before .before .before .pre .1 .1))
+at-open-requires c κs = (
+  c .before .before .before .before .pre .0,
+  (
+    (c .before .before .before .before .pre .1 .0, sym (c .before .before .cell .ensures) ∙ c .enum-told .given .1),
+    c .before .before .before .before .pre .1 .1,
+  ),
+)
 
 returns : tie.Need-returns
 returns c = search needs
@@ -24,7 +30,10 @@ cast-at-clue : tie.Need-cast-at-clue
 cast-at-clue c = search needs
 
 at-clue-requires : tie.Need-at-clue-requires
-at-clue-requires c κs = (c .before .before .before .before .before .pre .0, (c .before .before .before .before .before .pre .1 .0, omega arith, sym (c .before .before .before .cell .ensures) ∙ c .before .c .given .1))
+at-clue-requires c κs = (
+  c .before .before .before .before .before .pre .0,
+  (c .before .before .before .before .before .pre .1 .0, omega arith, sym (c .before .before .before .cell .ensures) ∙ c .before .c .given .1),
+)
 
 returns-2 : tie.Need-returns-2
 returns-2 c = search needs

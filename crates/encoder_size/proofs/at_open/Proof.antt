@@ -17,7 +17,8 @@ open-there-requires-2 c κs = search needs
 open-amount-requires : tie.Need-open-amount-requires
 open-amount-requires c κs =
     let p = c .before .before .before .before .pre in
-    open-asks (p .0) (p .1 .0 .0) (p .1 .0 .1) (p .1 .1 .0) (p .1 .1 .1) (c .before .before .links-at .ensures) (c .before .open-there .ensures) (c .open-there2 .ensures)
+    open-asks (p .0) (p .1 .0 .0) (p .1 .0 .1) (p .1 .1 .0) (p .1 .1 .1) (c .before .before .links-at .ensures) (c .before .open-there .ensures)
+    (c .open-there2 .ensures)
 
 add-open-amount : tie.Need-add-open-amount
 add-open-amount c = omega (arith, open-amount-requires c tt)
@@ -26,7 +27,8 @@ returns : tie.Need-returns
 returns c =
     let p = c .before .before .before .before .before .pre in
     let k = c .before in
-    open-counted (p .0) (p .1 .0 .0) (p .1 .0 .1) (p .1 .1 .0) (p .1 .1 .1) (k .before .before .links-at .ensures) (k .before .open-there .ensures) (k .open-there2 .ensures) (c .open-amount .ensures)
+    open-counted (p .0) (p .1 .0 .0) (p .1 .0 .1) (p .1 .1 .0) (p .1 .1 .1) (k .before .before .links-at .ensures) (k .before .open-there .ensures)
+    (k .open-there2 .ensures) (c .open-amount .ensures)
 
 pub at-open-spec : {M : Type 1} → statement M
 at-open-spec =

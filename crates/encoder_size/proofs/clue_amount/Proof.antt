@@ -48,8 +48,14 @@ of-lengths-requires c κs = search needs
 returns : tie.Need-returns
 returns c = (
     let a = c .before .before .before .before .before .args in
-    c .of-lengths .ensures ∙ (λ t. amountOf (a .n + 2) (c .before .before .before .times .ensures .0 t + c .before .before .times2 .ensures .0 t + a .opens) (c .before .times3 .ensures .0 t) 0)
-    ∙ (λ t. amountOf (a .n + 2) ((a .opens + a .clues) * c .before .before .before .before .pair-count .ensures .0 t + a .clues * (a .n + 1) + a .opens) (a .opens * (a .n * 2 + 1)) 0)
+    c .of-lengths .ensures
+    ∙ (λ t.
+    amountOf (a .n + 2) (c .before .before .before .times .ensures .0 t + c .before .before .times2 .ensures .0 t + a .opens)
+    (c .before .times3 .ensures .0 t) 0)
+    ∙
+    (λ t.
+    amountOf (a .n + 2) ((a .opens + a .clues) * c .before .before .before .before .pair-count .ensures .0 t + a .clues * (a .n + 1) + a .opens)
+    (a .opens * (a .n * 2 + 1)) 0)
     )
 
 pub clue-amount-spec : {M : Type 1} → statement M

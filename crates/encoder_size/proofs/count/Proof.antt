@@ -28,7 +28,9 @@ all-clauses-requires c κs =
     tables-filled (s .pre) (replicate tableLength 0) (omega (arith, s .pre .sides .few)) (f .0) (f .1)
 
 returns : tie.Need-returns
-returns c = let s = c .before .before .before .before .before .before .before in counted (gridBoard (s .args .g) (s .args .«record» .now)) (c .all-clauses .ensures) (c .before .before .variable-count .ensures)
+returns c =
+    let s = c .before .before .before .before .before .before .before in
+    counted (gridBoard (s .args .g) (s .args .«record» .now)) (c .all-clauses .ensures) (c .before .before .variable-count .ensures)
 
 pub count-spec : {M : Type 1} → statement M
 count-spec =

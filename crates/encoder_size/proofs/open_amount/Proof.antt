@@ -48,7 +48,10 @@ of-lengths-requires c κs = search needs
 returns : tie.Need-returns
 returns c = (
     let a = c .before .before .before .args in
-    c .of-lengths .ensures ∙ (λ t. amountOf 4 ((a .after + a .neighbours + c .before .before .pair-count .ensures .0 t + a .f + 1) * 2 + a .lower) (c .before .times .ensures .0 t) (a .neighbours * 2 + a .east + a .f))
+    c .of-lengths .ensures
+    ∙ (λ t.
+    amountOf 4 ((a .after + a .neighbours + c .before .before .pair-count .ensures .0 t + a .f + 1) * 2 + a .lower) (c .before .times .ensures .0 t)
+    (a .neighbours * 2 + a .east + a .f))
     )
 
 pub open-amount-spec : {M : Type 1} → statement M

@@ -20,7 +20,8 @@ abbrev μ-loop : tie.MeasureT-loop
 μ-loop g «record» x d cells y₀ count₀ j₀ y count j = cells - j
 
 -- there is a cell left on the line, and y is it
-inside : (c : tie.In-loop Inv-loop μ-loop) → let s = c .before .before .before in c .before .loop .j < length (line (puzzle (s .args .g) (s .args .«record» .now)) (s .args .d) (s .args .x))
+inside : (c : tie.In-loop Inv-loop μ-loop)
+    → let s = c .before .before .before in c .before .loop .j < length (line (puzzle (s .args .g) (s .args .«record» .now)) (s .args .d) (s .args .x))
 inside c = omega (arith, c .before .before .before .pre .1 .0 .cells)
 
 there : (c : tie.In-loop Inv-loop μ-loop) → c .before .loop .y < size (c .before .before .before .args .g)
@@ -55,7 +56,8 @@ loop-less c = search needs
 loop-again : tie.Need-loop-again Inv-loop μ-loop
 loop-again c =
     let k = c .before .before in
-    count-on (k .before .before .before .loop .inv) (inside (k .before .before)) (k .bit .ensures ∙ ap bit (k .before .is-open .ensures)) (c .before .opposite .ensures) (c .go .ensures)
+    count-on (k .before .before .before .loop .inv) (inside (k .before .before)) (k .bit .ensures ∙ ap bit (k .before .is-open .ensures))
+    (c .before .opposite .ensures) (c .go .ensures)
 
 returns : tie.Need-returns Inv-loop μ-loop
 returns c = count-end (c .before .loop .inv) (omega (arith, c .before .before .before .pre .1 .0 .cells))

@@ -19,7 +19,11 @@ same-length : tie.Need-same-length
 same-length c = search needs
 
 returns : tie.Need-returns
-returns c = let e = c .before .before .outcome .ensures ∙ c .before .before .before .before .before .decode .ensures .0 in (c .write .ensures .0 ∙ ap (λ (t : Outcome). t .number) e, (c .write .ensures .1 ∙ ap words e, c .before .before .before .before .before .decode .ensures .1))
+returns c =
+    let e = c .before .before .outcome .ensures ∙ c .before .before .before .before .before .decode .ensures .0 in (
+      c .write .ensures .0 ∙ ap (λ (t : Outcome). t .number) e,
+      (c .write .ensures .1 ∙ ap words e, c .before .before .before .before .before .decode .ensures .1),
+    )
 
 pub yajilin-decode-spec : {M : Type 1} → statement M
 yajilin-decode-spec =

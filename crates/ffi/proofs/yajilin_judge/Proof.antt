@@ -16,7 +16,9 @@ write-requires : tie.Need-write-requires
 write-requires c κs = search needs
 
 returns : tie.Need-returns
-returns c = let e = c .before .before .outcome .ensures ∙ c .before .before .before .judge .ensures in (c .write .ensures .0 ∙ ap (λ (t : Outcome). t .number) e, c .write .ensures .1 ∙ ap words e)
+returns c =
+    let e = c .before .before .outcome .ensures ∙ c .before .before .before .judge .ensures in
+    (c .write .ensures .0 ∙ ap (λ (t : Outcome). t .number) e, c .write .ensures .1 ∙ ap words e)
 
 pub yajilin-judge-spec : {M : Type 1} → statement M
 yajilin-judge-spec = tie.close (tie.spec judge-requires outcome-requires write-requires returns)

@@ -46,7 +46,8 @@ enum-known-p : tie.Need-enum-known-p
 enum-known-p c = search needs
 
 returns-2 : tie.Need-returns-2
-returns-2 c t = left-turn (past-lengths (c .before .before .before .before) t) (found-at (c .before .p .given .1) (c .before .before .before .wrong-list .ensures))
+returns-2 c t =
+    left-turn (past-lengths (c .before .before .before .before) t) (found-at (c .before .p .given .1) (c .before .before .before .wrong-list .ensures))
 
 enum-told : tie.Need-enum-told
 enum-told c = search needs
@@ -63,13 +64,15 @@ enum-known-p-2 : tie.Need-enum-known-p-2
 enum-known-p-2 c = search needs
 
 returns-3 : tie.Need-returns-3
-returns-3 c t = left-turn (past-list (c .before .before .before .before) t) (found-at (c .before .p2 .given .1) (c .before .before .before .first-wrong-entry .ensures))
+returns-3 c t =
+    left-turn (past-list (c .before .before .before .before) t) (found-at (c .before .p2 .given .1) (c .before .before .before .first-wrong-entry .ensures))
 
 enum-told-2 : tie.Need-enum-told-2
 enum-told-2 c = search needs
 
 returns-4 : tie.Need-returns-4
-returns-4 c t = left-done (left-next (past-list (c .before .before .before) t) (found-none (c .enum-told2 .given .1) (c .before .before .first-wrong-entry .ensures)))
+returns-4 c t =
+    left-done (left-next (past-list (c .before .before .before) t) (found-none (c .enum-told2 .given .1) (c .before .before .first-wrong-entry .ensures)))
 
 pub check-spec : {M : Type 1} → statement M
 check-spec =

@@ -55,7 +55,8 @@ returns : tie.Need-returns
 returns c =
     let cleared-trail = c .before .before .before .before .before in
     let ran = cleared-trail .before .before .before .before .before in
-    ended (loaded (ran .before .before .before .before .before)) (ran .run .ensures) (cleared-trail .clear-trail .ensures) (c .before .before .clear-marks2 .ensures)
+    ended (loaded (ran .before .before .before .before .before)) (ran .run .ensures) (cleared-trail .clear-trail .ensures)
+    (c .before .before .clear-marks2 .ensures)
 
 pub searched-spec : {M : Type 1} → statement M
 searched-spec =

@@ -37,11 +37,15 @@ loop-less c = omega arith
 loop-again : tie.Need-loop-again Inv-loop μ-loop
 loop-again c =
     let low : ℕ = c .before .before .loop .low in
-    let i = c .before .before .loop .inv in
-    (omega arith, windows-on (c .before .before .before .before .before .args .trail .now) low (low + 65536) (i .1) (i .0) (omega arith) (c .in-window .ensures))
+    let i = c .before .before .loop .inv in (
+      omega arith,
+      windows-on (c .before .before .before .before .before .args .trail .now) low (low + 65536) (i .1) (i .0) (omega arith) (c .in-window .ensures),
+    )
 
 returns-3 : tie.Need-returns-3 Inv-loop μ-loop
-returns-3 c = windows-all (c .before .before .before .before .args .trail .now) (c .before .loop .low) (c .before .before .before .before .pre .1 .1) (omega arith) (c .before .loop .inv .1)
+returns-3 c =
+    windows-all (c .before .before .before .before .args .trail .now) (c .before .loop .low) (c .before .before .before .before .pre .1 .1) (omega arith)
+    (c .before .loop .inv .1)
 
 pub first-again-spec : {M : Type 1} → statement M
 first-again-spec =

@@ -27,7 +27,9 @@ same-length : tie.Need-same-length Inv-loop μ-loop
 same-length c = search needs
 
 returns : tie.Need-returns Inv-loop μ-loop
-returns c = meeting-found (c .before .before .before .before .before .before .before .loop .inv) (c .before .before .before .before .code-at .ensures) (c .before .before .before .before .before .before .loop-test .taken) (sym (c .before .before .before .meet .ensures .0) ∙ c .if1 .taken)
+returns c =
+    meeting-found (c .before .before .before .before .before .before .before .loop .inv) (c .before .before .before .before .code-at .ensures)
+    (c .before .before .before .before .before .before .loop-test .taken) (sym (c .before .before .before .meet .ensures .0) ∙ c .if1 .taken)
 
 add-i : tie.Need-add-i Inv-loop μ-loop
 add-i c = omega arith
@@ -36,7 +38,10 @@ loop-less : tie.Need-loop-less Inv-loop μ-loop
 loop-less c = omega arith
 
 loop-again : tie.Need-loop-again Inv-loop μ-loop
-loop-again c = meeting-on (c .before .before .before .before .before .before .before .loop .inv) (c .before .before .before .before .code-at .ensures) (c .before .before .before .before .before .before .loop-test .taken) (sym (c .before .before .before .meet .ensures .0) ∙ c .if1 .left) (c .before .before .before .meet .ensures .1)
+loop-again c =
+    meeting-on (c .before .before .before .before .before .before .before .loop .inv) (c .before .before .before .before .code-at .ensures)
+    (c .before .before .before .before .before .before .loop-test .taken) (sym (c .before .before .before .meet .ensures .0) ∙ c .if1 .left)
+    (c .before .before .before .meet .ensures .1)
 
 same-length-2 : tie.Need-same-length-2 Inv-loop μ-loop
 same-length-2 c = search needs

@@ -10,14 +10,23 @@ use Rattle.search_input.proofs.first_wrong_entry.Statement.{statement}
 use Rattle.search_input.proofs.first_wrong_entry.Tie as tie
 
 -- the place at which both functions stop
-both : (c : tie.After-first-again) → Until (wrongEntryAt (c .before .before .before .args .v) (slices (c .before .before .before .args .trail .now) (c .before .before .before .args .marks .now))) (c .before .before .before .args .used) (c .first-again .result)
-both c = wrong-entries (c .before .before .before .args .v) (c .before .before .before .args .trail .now) (c .before .before .before .args .marks .now) (c .before .first-faulty .ensures) (c .first-again .ensures)
+both : (c : tie.After-first-again)
+    → Until (wrongEntryAt (c .before .before .before .args .v) (slices (c .before .before .before .args .trail .now) (c .before .before .before .args .marks .now))) (c .before .before .before .args .used) (c .first-again .result)
+both c =
+    wrong-entries (c .before .before .before .args .v) (c .before .before .before .args .trail .now) (c .before .before .before .args .marks .now)
+    (c .before .first-faulty .ensures) (c .first-again .ensures)
 
 first-faulty-requires : tie.Need-first-faulty-requires
 first-faulty-requires c κs = search needs
 
 first-again-requires : tie.Need-first-again-requires
-first-again-requires c κs = (c .before .before .pre .0, (let w = c .first-faulty .ensures .within in omega arith, faulty-inside (c .before .before .args .v) (c .before .before .args .trail .now) (c .before .before .args .marks .now) (c .first-faulty .ensures)))
+first-again-requires c κs = (
+  c .before .before .pre .0,
+  (
+    let w = c .first-faulty .ensures .within in omega arith,
+    faulty-inside (c .before .before .args .v) (c .before .before .args .trail .now) (c .before .before .args .marks .now) (c .first-faulty .ensures),
+  ),
+)
 
 returns : tie.Need-returns
 returns c = until-found (both (c .before)) (c .if1 .taken)

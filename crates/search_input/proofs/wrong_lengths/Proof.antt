@@ -15,10 +15,12 @@ returns-2 : tie.Need-returns-2
 returns-2 c = rw (sym (c .before .before .too-many-variables .ensures) ∙ c .before .if1 .left, ne-eqb _ _ (c .if2 .taken))
 
 returns-3 : tie.Need-returns-3
-returns-3 c = rw (sym (c .before .before .before .too-many-variables .ensures) ∙ c .before .before .if1 .left, eq-eqb _ _ (c .before .if2 .left), ne-eqb _ _ (c .if3 .taken))
+returns-3 c =
+    rw (sym (c .before .before .before .too-many-variables .ensures) ∙ c .before .before .if1 .left, eq-eqb _ _ (c .before .if2 .left), ne-eqb _ _ (c .if3 .taken))
 
 returns-4 : tie.Need-returns-4
-returns-4 c = rw (sym (c .before .before .before .too-many-variables .ensures) ∙ c .before .before .if1 .left, eq-eqb _ _ (c .before .if2 .left), eq-eqb _ _ (c .if3 .left))
+returns-4 c =
+    rw (sym (c .before .before .before .too-many-variables .ensures) ∙ c .before .before .if1 .left, eq-eqb _ _ (c .before .if2 .left), eq-eqb _ _ (c .if3 .left))
 
 pub wrong-lengths-spec : {M : Type 1} → statement M
 wrong-lengths-spec =

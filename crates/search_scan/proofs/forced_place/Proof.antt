@@ -1,3 +1,4 @@
+-- `search_scan::forced_place` meets its contract. Assumes nothing.
 use lib.IntN.{ℤ, pos}
 use lib.ListN.{getD, length}
 use mathlib.Core.Path.{_∙_, sym, subst}
@@ -21,7 +22,8 @@ abbrev μ-loop : tie.MeasureT-loop
 abbrev lit : tie.After-code-at Inv-loop μ-loop → ℤ
 lit c = getD (c .before .before .before .before .args .list .now) (c .before .before .loop .i) (pos 0)
 
-read : (c : tie.After-number Inv-loop μ-loop) → Read (c .before .before .before .before .before .before .args .marks .now) (lit (c .before .before)) (c .before .before .code-at .result) (c .number .result)
+read : (c : tie.After-number Inv-loop μ-loop)
+    → Read (c .before .before .before .before .before .before .args .marks .now) (lit (c .before .before)) (c .before .before .code-at .result) (c .number .result)
 read c = record { code = c .before .before .code-at .ensures; some = c .before .if1 .left; number = c .number .ensures }
 
 loop-holds : tie.Need-loop-holds Inv-loop μ-loop
@@ -37,7 +39,11 @@ enum-known-forced : tie.Need-enum-known-forced Inv-loop μ-loop
 enum-known-forced c = search needs
 
 returns : tie.Need-returns Inv-loop μ-loop
-returns c = force-found (c .before .before .before .before .before .before .before .loop .inv) (omega arith) (code-zero (lit (c .before .before .before .before .before)) (c .before .before .before .before .before .code-at .ensures) (c .before .before .before .before .if1 .taken)) (sym (c .before .before .before .closed .ensures) ∙ c .before .forced .given .1)
+returns c =
+    force-found (c .before .before .before .before .before .before .before .loop .inv) (omega arith)
+    (code-zero (lit (c .before .before .before .before .before)) (c .before .before .before .before .before .code-at .ensures)
+    (c .before .before .before .before .if1 .taken))
+    (sym (c .before .before .before .closed .ensures) ∙ c .before .forced .given .1)
 
 enum-told : tie.Need-enum-told Inv-loop μ-loop
 enum-told c = search needs
@@ -49,10 +55,16 @@ loop-less : tie.Need-loop-less Inv-loop μ-loop
 loop-less c = omega arith
 
 loop-again : tie.Need-loop-again Inv-loop μ-loop
-loop-again c = force-next (c .before .before .before .before .before .before .loop .inv) (omega arith) (code-zero (lit (c .before .before .before .before)) (c .before .before .before .before .code-at .ensures) (c .before .before .before .if1 .taken)) (sym (c .before .before .closed .ensures) ∙ c .enum-told .given .1)
+loop-again c =
+    force-next (c .before .before .before .before .before .before .loop .inv) (omega arith)
+    (code-zero (lit (c .before .before .before .before)) (c .before .before .before .before .code-at .ensures) (c .before .before .before .if1 .taken))
+    (sym (c .before .before .closed .ensures) ∙ c .enum-told .given .1)
 
 number-requires : tie.Need-number-requires Inv-loop μ-loop
-number-requires c κs = (code-two (lit (c .before)) (c .before .code-at .ensures) (c .if1 .left), code-within (c .before .before .before .before .before .pre) (c .before .before .before .loop .i) (omega arith) (c .before .code-at .ensures))
+number-requires c κs = (
+  code-two (lit (c .before)) (c .before .code-at .ensures) (c .if1 .left),
+  code-within (c .before .before .before .before .before .pre) (c .before .before .before .loop .i) (omega arith) (c .before .code-at .ensures),
+)
 
 met-requires : tie.Need-met-requires Inv-loop μ-loop
 met-requires c κs = search needs
@@ -64,7 +76,8 @@ loop-less-2 : tie.Need-loop-less-2 Inv-loop μ-loop
 loop-less-2 c = omega arith
 
 loop-again-2 : tie.Need-loop-again-2 Inv-loop μ-loop
-loop-again-2 c = subst (Forcing _ _ _) (sym (c .met .ensures)) (force-on (c .before .before .before .before .before .loop .inv) (omega arith) (read (c .before)))
+loop-again-2 c =
+    subst (Forcing _ _ _) (sym (c .met .ensures)) (force-on (c .before .before .before .before .before .loop .inv) (omega arith) (read (c .before)))
 
 returns-2 : tie.Need-returns-2 Inv-loop μ-loop
 returns-2 c = force-none (c .before .loop .inv) (omega arith)

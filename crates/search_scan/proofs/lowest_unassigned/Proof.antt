@@ -1,3 +1,4 @@
+-- `search_scan::lowest_unassigned` meets its contract. Assumes nothing.
 use mathlib.Core.Path.{sym, _∙_, refl}
 -- `search_scan::lowest_unassigned` meets its contract: the loop keeps `Seeking`. Assumes nothing.
 use borrow.Author.Needs.{needs}

@@ -1,6 +1,6 @@
 -- `search_step::append_choice` meets its contract. Assumes nothing.
 use native.Mathlib.Omega.{arith}
-use Rattle.search_step.proofs.Append.{choice-small, choice-wrote, append-room, append-enter, append-steps}
+use Rattle.search_step.proofs.Append.{choice-small, choice-wrote, append-room, append-assign, append-steps}
 use borrow.Author.Needs.{needs}
 use Rattle.search_step.proofs.append_choice.Statement.{statement}
 use Rattle.search_step.proofs.append_choice.Tie as tie
@@ -19,7 +19,7 @@ assign-requires : tie.Need-assign-requires
 assign-requires c κs =
     let put = c .before .before .before in
     let start = put .before .before .before in
-    let h = append-enter (start .pre .0) (start .pre .1) (choice-wrote (start .args .index) (put .put-not .ensures)) in
+    let h = append-assign (start .pre .0) (start .pre .1) (choice-wrote (start .args .index) (put .put-not .ensures)) in
     ((h .0, h .1, omega arith), h .2)
 
 add-t5 : tie.Need-add-t5

@@ -1,6 +1,6 @@
 -- `search_step::append_forced` meets its contract. Assumes nothing.
 use native.Mathlib.Omega.{arith}
-use Rattle.search_step.proofs.Append.{legal-place, append-room, append-inside, append-enter, append-steps}
+use Rattle.search_step.proofs.Append.{legal-place, append-room, append-inside, append-assign, append-steps}
 use borrow.Author.Needs.{needs}
 use Rattle.search_step.proofs.append_forced.Statement.{statement}
 use Rattle.search_step.proofs.append_forced.Tie as tie
@@ -14,7 +14,7 @@ assign-requires : tie.Need-assign-requires
 assign-requires c κs =
     let copied = c .before .before .before in
     let start = copied .before .before .before in
-    let h = append-enter (start .pre .0) (start .pre .1) (copied .copy-at .ensures) in
+    let h = append-assign (start .pre .0) (start .pre .1) (copied .copy-at .ensures) in
     ((h .0, h .1, omega arith), h .2)
 
 add-t13 : tie.Need-add-t13

@@ -1,5 +1,5 @@
 -- `search_step::undo` meets its contract. Assumes nothing.
-use Rattle.search_step.proofs.Append.{append-enter, Backed, Forgot, undo-nothing, back-below, back-inside, back-small, back-allowed, back-steps}
+use Rattle.search_step.proofs.Append.{append-assign, Backed, Forgot, undo-nothing, back-below, back-inside, back-small, back-allowed, back-steps}
 use Prim.Native.Nat.{ℕ}
 use native.Mathlib.Omega.{arith}
 use mathlib.Core.List.{List}
@@ -20,11 +20,12 @@ start2 c = start1 (c .before .before .before .before .before .before)
 back : (c : tie.After-p) → Backed (start1 c .args .trail .now) (start1 c .args .marks .now) (start1 c .args .used) (c .p .given .0 .0)
 back c = record { was = start1 c .pre; last = found-at (c .p .given .1) (c .before .before .last-mark .ensures) }
 
--- and the values from there on are forgotten
+-- and the values from there on are taken away
 abbrev ForgotAt : tie.Start → List ℕ → ℕ → Type 0
 ForgotAt c ns i = Forgot (c .args .trail .now) (c .args .marks .now) ns (c .args .used) i
 
-forgot : (c : tie.After-slice-known2) → ForgotAt (start2 c) (c .before .before .unassign .last .1 .0) (c .before .before .before .before .before .before .p .given .0 .0)
+forgot : (c : tie.After-slice-known2)
+    → ForgotAt (start2 c) (c .before .before .unassign .last .1 .0) (c .before .before .before .before .before .before .p .given .0 .0)
 forgot c =
     record {
       back = back (c .before .before .before .before .before .before);
@@ -58,7 +59,7 @@ negate-at-requires c κs = let b = back (c .before .before .before .before .befo
 assign-requires : tie.Need-assign-requires
 assign-requires c κs =
     let f = forgot (c .before .before .before .before .before) in
-    let h = append-enter (f .running) (back-allowed f) (c .before .before .before .negate-at .ensures) in
+    let h = append-assign (f .running) (back-allowed f) (c .before .before .before .negate-at .ensures) in
     ((h .0, h .1, omega arith), h .2)
 
 add-t19 : tie.Need-add-t19

@@ -1,4 +1,4 @@
--- `search_trail::enter` meets its contract. Assumes nothing.
+-- `search_trail::assign` meets its contract. Assumes nothing.
 use Prim.Native.Nat.{ℕ}
 use native.Mathlib.Omega.{arith}
 use mathlib.Core.Path.{ap}
@@ -27,7 +27,9 @@ same-length : tie.Need-same-length
 same-length c = search needs
 
 returns : tie.Need-returns
-returns c = ap (λ (ms : List ℕ). marked ms (c .before .before .before .before .before .before .args .i) (c .before .before .before .before .before .before .args .mark)) (c .before .before .before .make-true .ensures)
+returns c =
+    ap (λ (ms : List ℕ). marked ms (c .before .before .before .before .before .before .args .i) (c .before .before .before .before .before .before .args .mark))
+    (c .before .before .before .make-true .ensures)
 
 pub assign-spec : {M : Type 1} → statement M
 assign-spec =

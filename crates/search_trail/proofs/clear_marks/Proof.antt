@@ -39,7 +39,9 @@ same-length : tie.Need-same-length Inv-loop μ-loop
 same-length c = c .before .loop .inv .long
 
 returns : tie.Need-returns Inv-loop μ-loop
-returns c = clear-end (c .before .loop .inv) (omega arith) (length-map (c .before .before .before .args .marks .now) _) (simp length-map (c .before .before .before .pre))
+returns c =
+    clear-end (c .before .loop .inv) (omega arith) (length-map (c .before .before .before .args .marks .now) _)
+    (simp length-map (c .before .before .before .pre))
 
 pub clear-marks-spec : {M : Type 1} → statement M
 clear-marks-spec =

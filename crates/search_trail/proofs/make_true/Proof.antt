@@ -22,7 +22,10 @@ same-length : tie.Need-same-length
 same-length c = search needs
 
 returns : tie.Need-returns
-returns c = c .before .before .set-value .ensures ∙ ap (λ (k : ℕ). withValue (c .before .before .before .before .before .before .args .marks .now) k (1 + k % 2)) (c .before .before .before .before .code-at .ensures)
+returns c =
+    c .before .before .set-value .ensures
+    ∙ ap (λ (k : ℕ). withValue (c .before .before .before .before .before .before .args .marks .now) k (1 + k % 2))
+    (c .before .before .before .before .code-at .ensures)
 
 pub make-true-spec : {M : Type 1} → statement M
 make-true-spec =

@@ -40,7 +40,12 @@ loop-less : tie.Need-loop-less Inv-loop μ-loop
 loop-less c = omega arith
 
 loop-again : tie.Need-loop-again Inv-loop μ-loop
-loop-again c = (omega arith, load-on (c .before .before .before .before .before .loop .inv .1) (c .before .before .before .before .before .before .before .args .used) (c .before .before .before .before .before .before .before .pre .1) (c .before .before .before .before .loop-test .taken) (c .before .before .make-true .ensures))
+loop-again c = (
+  omega arith,
+  load-on (c .before .before .before .before .before .loop .inv .1) (c .before .before .before .before .before .before .before .args .used)
+      (c .before .before .before .before .before .before .before .pre .1) (c .before .before .before .before .loop-test .taken)
+      (c .before .before .make-true .ensures),
+)
 
 same-length : tie.Need-same-length Inv-loop μ-loop
 same-length c = c .before .loop .inv .1 .running .bytes

@@ -1,4 +1,4 @@
--- `search_trail::forget` meets its contract: the loop keeps `Valuing`. Assumes nothing.
+-- `search_trail::unassign` meets its contract: the loop keeps `Valuing`. Assumes nothing.
 use Rattle.search_trail.proofs.Entries.{value-end, Valuing, value-start, forget-byte, forget-on, running-used}
 use native.Mathlib.Omega.{arith}
 use Prim.Native.Nat.{_≤_}
@@ -28,7 +28,11 @@ loop-less : tie.Need-loop-less Inv-loop μ-loop
 loop-less c = omega arith
 
 loop-again : tie.Need-loop-again Inv-loop μ-loop
-loop-again c = (omega arith, forget-on (c .before .before .before .before .before .before .loop .inv .1) (omega arith) (c .before .before .before .before .code-at .ensures) (c .before .before .set-value .ensures))
+loop-again c = (
+  omega arith,
+  forget-on (c .before .before .before .before .before .before .loop .inv .1) (omega arith) (c .before .before .before .before .code-at .ensures)
+      (c .before .before .set-value .ensures),
+)
 
 same-length : tie.Need-same-length Inv-loop μ-loop
 same-length c = c .before .loop .inv .1 .running .bytes

@@ -113,8 +113,10 @@ put-cells-requires c κs =
     let told = c .before .before in
     let answered = told .before .before .before in
     let v = solved answered in
-    let is = is-sides (read-at v) in
-    (found-sides (call v) (answered .answer .given .1) (told .enum-told3 .given .1) is, found-inside (call v) (answered .answer .given .1) (told .enum-told3 .given .1) is)
+    let is = is-sides (read-at v) in (
+      found-sides (call v) (answered .answer .given .1) (told .enum-told3 .given .1) is,
+      found-inside (call v) (answered .answer .given .1) (told .enum-told3 .given .1) is,
+    )
 
 enum-told-4 : tie.Need-enum-told-4
 enum-told-4 c = search needs

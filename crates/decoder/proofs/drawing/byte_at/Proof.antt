@@ -36,7 +36,8 @@ is-open-requires : tie.Need-is-open-requires
 is-open-requires c κs = let s = c .before .before .before in (s .pre .0 .tables .recordFits, s .pre .1)
 
 returns : tie.Need-returns
-returns c = let s = c .before .before .before .before .before in byte-clue (b s) (w s) (s .args .x) (sym (c .before .is-open .ensures) ∙ not-true _ (c .if1 .taken))
+returns c =
+    let s = c .before .before .before .before .before in byte-clue (b s) (w s) (s .args .x) (sym (c .before .is-open .ensures) ∙ not-true _ (c .if1 .taken))
 
 link-sum-requires : tie.Need-link-sum-requires
 link-sum-requires c κs = (s1 c .pre .0, open-here c)
@@ -54,13 +55,15 @@ returns-2 : tie.Need-returns-2
 returns-2 c =
     let k = c .before .before in
     let s = s2 k in
-    byte-black (b s) (w s) (s .args .x) (open-here (k .before .before) .opened) (k .before .link-sum .ensures) (value-true (s .pre .0) (Z (s .args .x)) (z-at k) (c .if2 .taken))
+    byte-black (b s) (w s) (s .args .x) (open-here (k .before .before) .opened) (k .before .link-sum .ensures)
+    (value-true (s .pre .0) (Z (s .args .x)) (z-at k) (c .if2 .taken))
 
 returns-3 : tie.Need-returns-3
 returns-3 c =
     let k = c .before .before in
     let s = s2 k in
-    byte-white (b s) (w s) (s .args .x) (open-here (k .before .before) .opened) (k .before .link-sum .ensures) (value-false (s .pre .0) (Z (s .args .x)) (z-at k) (c .if2 .left))
+    byte-white (b s) (w s) (s .args .x) (open-here (k .before .before) .opened) (k .before .link-sum .ensures)
+    (value-false (s .pre .0) (Z (s .args .x)) (z-at k) (c .if2 .left))
 
 pub byte-at-spec : {M : Type 1} → statement M
 byte-at-spec =

@@ -39,7 +39,9 @@ y c = c .before .p .given .0 .0
 
 -- the two cells, seen from either
 pair : (c : tie.After-known-told) → OpenPair (s1 c .args .g) (s1 c .args .«record» .now) (s1 c .args .x) (s1 c .args .d) (y c)
-pair c = let s = s1 c in open-pair (s .pre .0 .tables .recordFits) (s .pre .1) (found-at (c .before .p .given .1) (c .before .before .before .open-neighbour .ensures))
+pair c =
+    let s = s1 c in
+    open-pair (s .pre .0 .tables .recordFits) (s .pre .1) (found-at (c .before .p .given .1) (c .before .before .before .open-neighbour .ensures))
 
 back-pair : (c : tie.After-known-told) → OpenPair (s1 c .args .g) (s1 c .args .«record» .now) (y c) (opposite (s1 c .args .d)) (s1 c .args .x)
 back-pair c = pair-back (s1 c .pre .0 .tables .recordFits) refl (pair c)
@@ -58,7 +60,9 @@ enum-told : tie.Need-enum-told
 enum-told c = search needs
 
 returns : tie.Need-returns
-returns c = let s = c .before .before .before .before .before .before in link-nowhere (s .pre .0) (s .args .x) (s .args .d) (found-none (c .enum-told .given .1) (c .before .before .open-neighbour .ensures))
+returns c =
+    let s = c .before .before .before .before .before .before in
+    link-nowhere (s .pre .0) (s .args .x) (s .args .d) (found-none (c .enum-told .given .1) (c .before .before .open-neighbour .ensures))
 
 link-number-requires : tie.Need-link-number-requires
 link-number-requires c κs = (s1 c .pre .0 .tables, pair c)
@@ -94,14 +98,16 @@ returns-3 c =
     let k = c .before .before in
     let s = s3 k in
     let q = k2 k .before in
-    link-some (b s) (w s) (s .args .x) (y q) (s .args .d) (sym (pair q .leads)) (link-false (s .pre .0) (pair q) (k2 k .link-number .ensures) (k .before .before .if1 .left)) (link-true (s .pre .0) (back-pair q) (into k) (c .if2 .taken))
+    link-some (b s) (w s) (s .args .x) (y q) (s .args .d) (sym (pair q .leads))
+    (link-false (s .pre .0) (pair q) (k2 k .link-number .ensures) (k .before .before .if1 .left)) (link-true (s .pre .0) (back-pair q) (into k) (c .if2 .taken))
 
 returns-4 : tie.Need-returns-4
 returns-4 c =
     let k = c .before .before in
     let s = s3 k in
     let q = k2 k .before in
-    link-some (b s) (w s) (s .args .x) (y q) (s .args .d) (sym (pair q .leads)) (link-false (s .pre .0) (pair q) (k2 k .link-number .ensures) (k .before .before .if1 .left)) (link-false (s .pre .0) (back-pair q) (into k) (c .if2 .left))
+    link-some (b s) (w s) (s .args .x) (y q) (s .args .d) (sym (pair q .leads))
+    (link-false (s .pre .0) (pair q) (k2 k .link-number .ensures) (k .before .before .if1 .left)) (link-false (s .pre .0) (back-pair q) (into k) (c .if2 .left))
 
 pub link-bit-spec : {M : Type 1} → statement M
 link-bit-spec =

@@ -15,15 +15,22 @@ use Rattle.decoder.proofs.drawing.link_sum.Tie as tie
 
 -- where the links are drawn
 abbrev linked : tie.Start → Direction → Bool
-linked c = drawnLink (gridBoard (c .args .g) (c .args .«record» .now)) (valueOf (gridBoard (c .args .g) (c .args .«record» .now)) (c .args .values .now)) (c .args .x)
+linked c =
+    drawnLink (gridBoard (c .args .g) (c .args .«record» .now)) (valueOf (gridBoard (c .args .g) (c .args .«record» .now)) (c .args .values .now)) (c .args .x)
 
 few : (t : Bool) {n : ℕ} → n ≡ bit t → n ≤ 1
 few t e = omega (arith, bit-small t)
 
-small : (c : tie.After-link-bit4) → (c .before .before .before .link-bit .result ≤ 1) × (c .before .before .link-bit2 .result ≤ 1) × (c .before .link-bit3 .result ≤ 1) × (c .link-bit4 .result ≤ 1)
+small : (c : tie.After-link-bit4)
+    → (c .before .before .before .link-bit .result ≤ 1) × (c .before .before .link-bit2 .result ≤ 1) × (c .before .link-bit3 .result ≤ 1)
+    × (c .link-bit4 .result ≤ 1)
 small c =
-    let t = linked (c .before .before .before .before .before .before .before) in
-    (few (t north) (c .before .before .before .link-bit .ensures), few (t east) (c .before .before .link-bit2 .ensures), few (t south) (c .before .link-bit3 .ensures), few (t west) (c .link-bit4 .ensures))
+    let t = linked (c .before .before .before .before .before .before .before) in (
+      few (t north) (c .before .before .before .link-bit .ensures),
+      few (t east) (c .before .before .link-bit2 .ensures),
+      few (t south) (c .before .link-bit3 .ensures),
+      few (t west) (c .link-bit4 .ensures),
+    )
 
 link-bit-requires : tie.Need-link-bit-requires
 link-bit-requires c κs = search needs

@@ -20,7 +20,9 @@ open-here c = record { inside = c .before .before .before .before .pre .1 .1; op
 by-numbers : (c : tie.After-cell-numbers) → let s = c .before .before .before .before .before in
     let b = gridBoard (s .args .g) (s .args .«record» .now) in
     listOf b (atCell b (familyAt (s .args .«family») b) (s .args .x)) ≡ joined (familyParts (s .args .«family») (s .args .sizes .opens) (c .cell-numbers .result))
-by-numbers c = let s = c .before .before .before .before .before in open-list (s .pre .1 .0) (s .args .x) (open-here (c .before)) (c .cell-numbers .ensures) (s .args .«family»)
+by-numbers c =
+    let s = c .before .before .before .before .before in
+    open-list (s .pre .1 .0) (s .args .x) (open-here (c .before)) (c .cell-numbers .ensures) (s .args .«family»)
 
 is-open-requires : tie.Need-is-open-requires
 is-open-requires c κs = let s = c .before .before in (s .pre .1 .0 .recordFits, s .pre .1 .1)
@@ -28,7 +30,8 @@ is-open-requires c κs = let s = c .before .before in (s .pre .1 .0 .recordFits,
 returns : tie.Need-returns
 returns c =
     let s = c .before .before .before .before in
-    wrote-recast (shut-list (s .pre .1 .0) (s .args .x) (s .args .«family») (sym (c .before .is-open .ensures) ∙ not-true _ (c .if1 .taken))) (wrote-nothing _ _)
+    wrote-recast (shut-list (s .pre .1 .0) (s .args .x) (s .args .«family») (sym (c .before .is-open .ensures) ∙ not-true _ (c .if1 .taken)))
+    (wrote-nothing _ _)
 
 cell-numbers-requires : tie.Need-cell-numbers-requires
 cell-numbers-requires c κs = (c .before .before .before .before .pre .1 .0, open-here c)

@@ -39,7 +39,10 @@ loop-holds : tie.Need-loop-holds Inv-loop μ-loop
 loop-holds c = write-start (writable-recast (by-cells c) (c .before .before .before .pre .0))
 
 cell-requires : tie.Need-cell-requires Inv-loop μ-loop
-cell-requires c κs = (write-needs (c .before .before .loop .inv) (c .before .loop-test .taken), (c .before .before .before .before .before .before .pre .1, omega (arith, c .before .before .before .size .ensures)))
+cell-requires c κs = (
+  write-needs (c .before .before .loop .inv) (c .before .loop-test .taken),
+  (c .before .before .before .before .before .before .pre .1, omega (arith, c .before .before .before .size .ensures)),
+)
 
 add-k : tie.Need-add-k Inv-loop μ-loop
 add-k c = search needs

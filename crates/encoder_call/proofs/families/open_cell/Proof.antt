@@ -14,7 +14,8 @@ use Rattle.encoder_call.proofs.families.open_cell.Tie as tie
 parts-of : (c : tie.Start) {w : Family} → c .args .«family» ≡ w → Parts (c .args .at) (familyParts w (c .args .f) (c .args .x))
 parts-of c e = record { writable = writable-recast (ap (λ w. joined (familyParts w (c .args .f) (c .args .x))) e) (c .pre .0 .writable) }
 
-abbrev back : (c : tie.Start) {w : Family} → c .args .«family» ≡ w → joined (familyParts w (c .args .f) (c .args .x)) ≡ joined (familyParts (c .args .«family») (c .args .f) (c .args .x))
+abbrev back : (c : tie.Start) {w : Family} → c .args .«family» ≡ w
+    → joined (familyParts w (c .args .f) (c .args .x)) ≡ joined (familyParts (c .args .«family») (c .args .f) (c .args .x))
 back c e = sym (ap (λ w. joined (familyParts w (c .args .f) (c .args .x))) e)
 
 enum-told : tie.Need-enum-told

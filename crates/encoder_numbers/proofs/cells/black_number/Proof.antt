@@ -20,7 +20,8 @@ sizes-below-requires : tie.Need-sizes-below-requires
 sizes-below-requires c κs = search needs
 
 add-result : tie.Need-add-result
-add-result c = let s = c .before .before .before .before .before .before in let f = few-below (s .pre .0) (s .pre .1) (c .before .sizes-below .ensures) in omega arith
+add-result c =
+    let s = c .before .before .before .before .before .before in let f = few-below (s .pre .0) (s .pre .1) (c .before .sizes-below .ensures) in omega arith
 
 returns-2 : tie.Need-returns-2
 returns-2 c =

@@ -24,20 +24,30 @@ neighbour-numbers-requires-4 : tie.Need-neighbour-numbers-requires-4
 neighbour-numbers-requires-4 c κs = search needs
 
 add-t14 : tie.Need-add-t14
-add-t14 c = let s = c .before .before .before .before .before .before .before .before in let b = few-below (s .pre .0) (s .pre .1 .inside) (c .before .before .before .before .before .sizes-below .ensures) in omega arith
+add-t14 c =
+    let s = c .before .before .before .before .before .before .before .before in
+    let b = few-below (s .pre .0) (s .pre .1 .inside) (c .before .before .before .before .before .sizes-below .ensures) in omega arith
 
 add-t15 : tie.Need-add-t15
-add-t15 c = let s = c .before .before .before .before .before .before .before .before .before in let f = few (s .pre .0) in let b = few-below (s .pre .0) (s .pre .1 .inside) (c .before .before .before .before .before .before .sizes-below .ensures) in omega arith
+add-t15 c =
+    let s = c .before .before .before .before .before .before .before .before .before in
+    let f = few (s .pre .0) in
+    let b = few-below (s .pre .0) (s .pre .1 .inside) (c .before .before .before .before .before .before .sizes-below .ensures) in omega arith
 
 add-t16 : tie.Need-add-t16
-add-t16 c = let s = c .before .before .before .before .before .before .before .before .before in let f = few (s .pre .0) in let b = few-below (s .pre .0) (s .pre .1 .inside) (c .before .before .before .before .before .before .sizes-below .ensures) in omega arith
+add-t16 c =
+    let s = c .before .before .before .before .before .before .before .before .before in
+    let f = few (s .pre .0) in
+    let b = few-below (s .pre .0) (s .pre .1 .inside) (c .before .before .before .before .before .before .sizes-below .ensures) in omega arith
 
 returns : tie.Need-returns
 returns c =
     let s = c .before .before .before .before .before .before .before .before .before in
     let w = c .before in
-    cell-is (s .pre .0) (s .pre .1) (c .before .before .before .before .before .before .sizes-below .ensures) (c .before .before .before .before .before .distance-number .ensures)
-    (w .before .before .before .neighbour-numbers .ensures) (w .before .before .neighbour-numbers2 .ensures) (w .before .neighbour-numbers3 .ensures) (w .neighbour-numbers4 .ensures)
+    cell-is (s .pre .0) (s .pre .1) (c .before .before .before .before .before .before .sizes-below .ensures)
+    (c .before .before .before .before .before .distance-number .ensures)
+    (w .before .before .before .neighbour-numbers .ensures) (w .before .before .neighbour-numbers2 .ensures) (w .before .neighbour-numbers3 .ensures)
+    (w .neighbour-numbers4 .ensures)
 
 pub cell-numbers-spec : {M : Type 1} → statement M
 cell-numbers-spec =

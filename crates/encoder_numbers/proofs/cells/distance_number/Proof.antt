@@ -15,16 +15,24 @@ add-result-2 : tie.Need-add-result-2
 add-result-2 c = let f = few (c .before .before .before .before .before .pre .0) in omega arith
 
 mul-result : tie.Need-mul-result
-mul-result c = let s = c .before .before .before .before .before .before .before in omega (arith, product-few (s .pre .0) (s .pre .1 .inside) (c .before .before .before .before .sizes-below .ensures))
+mul-result c =
+    let s = c .before .before .before .before .before .before .before in
+    omega (arith, product-few (s .pre .0) (s .pre .1 .inside) (c .before .before .before .before .sizes-below .ensures))
 
 add-result-3 : tie.Need-add-result-3
-add-result-3 c = let s = c .before .before .before .before .before .before .before in let f = few (s .pre .0) in omega (arith, product-few (s .pre .0) (s .pre .1 .inside) (c .before .before .before .before .sizes-below .ensures))
+add-result-3 c =
+    let s = c .before .before .before .before .before .before .before in
+    let f = few (s .pre .0) in omega (arith, product-few (s .pre .0) (s .pre .1 .inside) (c .before .before .before .before .sizes-below .ensures))
 
 add-result-4 : tie.Need-add-result-4
-add-result-4 c = let s = c .before .before .before .before .before .before .before in let f = few (s .pre .0) in omega (arith, product-few (s .pre .0) (s .pre .1 .inside) (c .before .before .before .before .sizes-below .ensures))
+add-result-4 c =
+    let s = c .before .before .before .before .before .before .before in
+    let f = few (s .pre .0) in omega (arith, product-few (s .pre .0) (s .pre .1 .inside) (c .before .before .before .before .sizes-below .ensures))
 
 returns : tie.Need-returns
-returns c = let s = c .before .before .before .before .before .before .before in number-q (s .pre .0) (s .pre .1) (c .before .before .before .before .sizes-below .ensures)
+returns c =
+    let s = c .before .before .before .before .before .before .before in
+    number-q (s .pre .0) (s .pre .1) (c .before .before .before .before .sizes-below .ensures)
 
 pub distance-number-spec : {M : Type 1} → statement M
 distance-number-spec =

@@ -40,7 +40,9 @@ add-result-4 c =
     omega (arith, c .before .before .links-before .ensures, earlier-few (gridBoard (s .args .g) (s .args .«record» .now)) (s .args .x) (s .args .d))
 
 returns : tie.Need-returns
-returns c = let s = c .before .before .before .before .before .before in number-e (s .pre .0) (s .pre .1 .here) (c .before .before .before .sizes-below .ensures) (s .pre .1) (c .before .before .links-before .ensures)
+returns c =
+    let s = c .before .before .before .before .before .before in
+    number-e (s .pre .0) (s .pre .1 .here) (c .before .before .before .sizes-below .ensures) (s .pre .1) (c .before .before .links-before .ensures)
 
 pub link-number-spec : {M : Type 1} → statement M
 link-number-spec =

@@ -23,7 +23,8 @@ returns : tie.Need-returns
 returns c =
     let s = c .before .before .before .before .before .before in
     c .no-neighbour .ensures
-    ∙ no-neighbour-is (gridBoard (s .args .g) (s .args .«record» .now)) (s .args .x) (s .args .d) (found-none (c .before .enum-told .given .1) (c .before .before .before .open-neighbour .ensures))
+    ∙ no-neighbour-is (gridBoard (s .args .g) (s .args .«record» .now)) (s .args .x) (s .args .d)
+    (found-none (c .before .enum-told .given .1) (c .before .before .before .open-neighbour .ensures))
 
 numbers-to-requires : tie.Need-numbers-to-requires
 numbers-to-requires c κs =

@@ -23,8 +23,10 @@ distance-number-requires c κs = search needs
 returns : tie.Need-returns
 returns c =
     let s = c .before .before .before .before .before .before .before in
-    pair-is (gridBoard (s .args .g) (s .args .«record» .now)) (s .args .x) (s .args .d) (s .args .y) (s .pre .1 .there .opened) (c .before .before .before .opposite .ensures)
-    (c .before .before .before .before .link-number .ensures) (c .before .before .link-number2 .ensures) (c .before .black-number .ensures) (c .distance-number .ensures)
+    pair-is (gridBoard (s .args .g) (s .args .«record» .now)) (s .args .x) (s .args .d) (s .args .y) (s .pre .1 .there .opened)
+    (c .before .before .before .opposite .ensures)
+    (c .before .before .before .before .link-number .ensures) (c .before .before .link-number2 .ensures) (c .before .black-number .ensures)
+    (c .distance-number .ensures)
 
 pub numbers-to-spec : {M : Type 1} → statement M
 numbers-to-spec =

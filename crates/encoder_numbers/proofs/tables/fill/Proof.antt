@@ -26,7 +26,10 @@ put-row-requires : tie.Need-put-row-requires Inv-loop μ-loop
 put-row-requires c κs = fill-room (c .before .before .loop .inv) (omega arith)
 
 with-cell-requires : tie.Need-with-cell-requires Inv-loop μ-loop
-with-cell-requires c κs = (c .before .before .before .before .before .before .before .before .before .pre .0, (inside (c .before .before .before .before), c .before .before .before .before .before .loop .inv .is))
+with-cell-requires c κs = (
+  c .before .before .before .before .before .before .before .before .before .pre .0,
+  (inside (c .before .before .before .before), c .before .before .before .before .before .loop .inv .is),
+)
 
 add-x : tie.Need-add-x Inv-loop μ-loop
 add-x c = search needs
@@ -35,7 +38,8 @@ loop-less : tie.Need-loop-less Inv-loop μ-loop
 loop-less c = search needs
 
 loop-again : tie.Need-loop-again Inv-loop μ-loop
-loop-again c = fill-on (c .before .before .before .before .before .before .loop .inv) (omega arith) (c .before .before .before .put-row .ensures) (c .with-cell .ensures)
+loop-again c =
+    fill-on (c .before .before .before .before .before .before .loop .inv) (omega arith) (c .before .before .before .put-row .ensures) (c .with-cell .ensures)
 
 same-length : tie.Need-same-length Inv-loop μ-loop
 same-length c = fill-long (c .before .loop .inv)

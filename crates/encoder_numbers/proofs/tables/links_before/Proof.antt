@@ -16,14 +16,20 @@ abbrev b : tie.Start → Board
 b c = gridBoard (c .args .g) (c .args .«record» .now)
 
 -- north and east; north, east and south
-two : (c : tie.After-open-there3) → let s = c .before .before .before .before .before in c .before .open-there2 .result + c .open-there3 .result ≡ length (neighbours (b s) (s .args .x) (north ∷ east ∷ []))
-two c = let s = c .before .before .before .before .before in links-sum (b s) (s .args .x) (north ∷ []) (east ∷ []) (c .before .open-there2 .ensures) (c .open-there3 .ensures)
+two : (c : tie.After-open-there3)
+    → let s = c .before .before .before .before .before in c .before .open-there2 .result + c .open-there3 .result
+    ≡ length (neighbours (b s) (s .args .x) (north ∷ east ∷ []))
+two c =
+    let s = c .before .before .before .before .before in
+    links-sum (b s) (s .args .x) (north ∷ []) (east ∷ []) (c .before .open-there2 .ensures) (c .open-there3 .ensures)
 
 three : (c : tie.After-open-there6) → let s = c .before .before .before .before .before .before in
     c .before .before .open-there4 .result + c .before .open-there5 .result + c .open-there6 .result ≡ length (neighbours (b s) (s .args .x) (north ∷ east ∷ south ∷ []))
 three c =
     let s = c .before .before .before .before .before .before in
-    links-sum (b s) (s .args .x) (north ∷ east ∷ []) (south ∷ []) (links-sum (b s) (s .args .x) (north ∷ []) (east ∷ []) (c .before .before .open-there4 .ensures) (c .before .open-there5 .ensures)) (c .open-there6 .ensures)
+    links-sum (b s) (s .args .x) (north ∷ east ∷ []) (south ∷ [])
+    (links-sum (b s) (s .args .x) (north ∷ []) (east ∷ []) (c .before .before .open-there4 .ensures) (c .before .open-there5 .ensures))
+    (c .open-there6 .ensures)
 
 enum-told : tie.Need-enum-told
 enum-told c = search needs
@@ -44,7 +50,9 @@ open-there-requires-3 : tie.Need-open-there-requires-3
 open-there-requires-3 c κs = search needs
 
 add-result : tie.Need-add-result
-add-result c = let s = c .before .before .before .before .before in omega (arith, one-few (b s) (s .args .x) north (c .before .open-there2 .ensures), one-few (b s) (s .args .x) east (c .open-there3 .ensures))
+add-result c =
+    let s = c .before .before .before .before .before in
+    omega (arith, one-few (b s) (s .args .x) north (c .before .open-there2 .ensures), one-few (b s) (s .args .x) east (c .open-there3 .ensures))
 
 enum-told-4 : tie.Need-enum-told-4
 enum-told-4 c = search needs
@@ -59,7 +67,9 @@ open-there-requires-6 : tie.Need-open-there-requires-6
 open-there-requires-6 c κs = search needs
 
 add-result-2 : tie.Need-add-result-2
-add-result-2 c = let s = c .before .before .before .before .before .before in omega (arith, one-few (b s) (s .args .x) north (c .before .before .open-there4 .ensures), one-few (b s) (s .args .x) east (c .before .open-there5 .ensures))
+add-result-2 c =
+    let s = c .before .before .before .before .before .before in
+    omega (arith, one-few (b s) (s .args .x) north (c .before .before .open-there4 .ensures), one-few (b s) (s .args .x) east (c .before .open-there5 .ensures))
 
 add-result-3 : tie.Need-add-result-3
 add-result-3 c =
@@ -76,7 +86,9 @@ returns-3 : tie.Need-returns-3
 returns-3 c = let s = c .before .before .before .before .before in links-earlier (b s) (s .args .x) south (c .before .before .enum-told3 .given .1) (two c)
 
 returns-4 : tie.Need-returns-4
-returns-4 c = let s = c .before .before .before .before .before .before in links-earlier (b s) (s .args .x) west (c .before .before .before .enum-told4 .given .1) (three c)
+returns-4 c =
+    let s = c .before .before .before .before .before .before in
+    links-earlier (b s) (s .args .x) west (c .before .before .before .enum-told4 .given .1) (three c)
 
 pub links-before-spec : {M : Type 1} → statement M
 links-before-spec =

@@ -17,7 +17,8 @@ abbrev b : tie.Start → Board
 b c = gridBoard (c .args .g) (c .args .«record» .now)
 
 -- the neighbour is there
-there : (c : tie.After-known-told) → let s = c .before .before .before .before .before in some (c .before .p .given .0 .0) ≡ neighbour (s .args .g) (s .args .d) (s .args .x)
+there : (c : tie.After-known-told)
+    → let s = c .before .before .before .before .before in some (c .before .p .given .0 .0) ≡ neighbour (s .args .g) (s .args .d) (s .args .x)
 there c = found-at (c .before .p .given .1) (c .before .before .before .neighbour .ensures)
 
 neighbour-requires : tie.Need-neighbour-requires
@@ -38,10 +39,14 @@ is-open-requires c κs =
     (s .pre .0, wired (s .args .g) .inside (s .args .d) (s .args .x) _ (sym (there c)) .1)
 
 returns-2 : tie.Need-returns-2
-returns-2 c = let k = c .before .before in neighbour-shut (b (k .before .before .before .before .before)) (there k) (sym (c .before .is-open .ensures) ∙ not-true _ (c .if1 .taken))
+returns-2 c =
+    let k = c .before .before in
+    neighbour-shut (b (k .before .before .before .before .before)) (there k) (sym (c .before .is-open .ensures) ∙ not-true _ (c .if1 .taken))
 
 returns-3 : tie.Need-returns-3
-returns-3 c = let k = c .before .before in neighbour-open (b (k .before .before .before .before .before)) (there k) (sym (c .before .is-open .ensures) ∙ not-false _ (c .if1 .left))
+returns-3 c =
+    let k = c .before .before in
+    neighbour-open (b (k .before .before .before .before .before)) (there k) (sym (c .before .is-open .ensures) ∙ not-false _ (c .if1 .left))
 
 pub open-neighbour-spec : {M : Type 1} → statement M
 open-neighbour-spec =

@@ -20,15 +20,25 @@ with-open : (c : tie.After-links-at) → let s = c .before .before .before .befo
     _≡_ {A = Sizes}
     (record { opens = s .args .below .opens + 1; links = s .args .below .links + c .links-at .result; counts = s .args .below .counts })
     (sizesBelow (s .args .g) (s .args .«record» .now) (s .args .x + 1))
-with-open c = let s = c .before .before .before .before .before in sizes-open (s .pre .0) (s .pre .1 .0) (s .pre .1 .1) (c .before .before .before .cell .ensures) (c .before .enum-told .given .1) (c .links-at .ensures)
+with-open c =
+    let s = c .before .before .before .before .before in
+    sizes-open (s .pre .0) (s .pre .1 .0) (s .pre .1 .1) (c .before .before .before .cell .ensures) (c .before .enum-told .given .1) (c .links-at .ensures)
 
 with-clue : (c : tie.After-line-end) → let s = c .before .before .before .before .before .before in
     _≡_ {A = Sizes}
-    (record { opens = s .args .below .opens; links = s .args .below .links; counts = s .args .below .counts + (c .line-end .result .cells + 1) * (c .before .before .c .given .0 .1 .0 + 1) })
+    (record {
+      opens = s .args .below .opens;
+      links = s .args .below .links;
+      counts = s .args .below .counts + (c .line-end .result .cells + 1) * (c .before .before .c .given .0 .1 .0 + 1);
+    })
     (sizesBelow (s .args .g) (s .args .«record» .now) (s .args .x + 1))
-with-clue c = let s = c .before .before .before .before .before .before in sizes-clue (s .pre .0) (s .pre .1 .0) (s .pre .1 .1) (c .before .before .before .before .cell .ensures) (c .before .before .c .given .1) (c .line-end .ensures .1)
+with-clue c =
+    let s = c .before .before .before .before .before .before in
+    sizes-clue (s .pre .0) (s .pre .1 .0) (s .pre .1 .1) (c .before .before .before .before .cell .ensures) (c .before .before .c .given .1)
+    (c .line-end .ensures .1)
 
-few-with : (c : tie.After-line-end) → Few (sizesBelow (c .before .before .before .before .before .before .args .g) (c .before .before .before .before .before .before .args .«record» .now) (c .before .before .before .before .before .before .args .x + 1))
+few-with : (c : tie.After-line-end)
+    → Few (sizesBelow (c .before .before .before .before .before .before .args .g) (c .before .before .before .before .before .before .args .«record» .now) (c .before .before .before .before .before .before .args .x + 1))
 few-with c = let s = c .before .before .before .before .before .before in sizes-few (s .pre .0) (s .args .x + 1) (omega (arith, s .pre .1 .0)) refl
 
 cell-requires : tie.Need-cell-requires
@@ -47,7 +57,10 @@ add-t11 : tie.Need-add-t11
 add-t11 c = let f = few (c .before .before .before .before .before .before) in omega arith
 
 add-t12 : tie.Need-add-t12
-add-t12 c = let s = c .before .before .before .before .before .before .before in let f = few s in omega (arith, c .before .before .links-at .ensures, neighbours-most (gridBoard (s .args .g) (s .args .«record» .now)) (s .args .x) directions)
+add-t12 c =
+    let s = c .before .before .before .before .before .before .before in
+    let f = few s in
+    omega (arith, c .before .before .links-at .ensures, neighbours-most (gridBoard (s .args .g) (s .args .«record» .now)) (s .args .x) directions)
 
 returns : tie.Need-returns
 returns c = with-open (c .before .before)
@@ -56,7 +69,9 @@ line-end-requires : tie.Need-line-end-requires
 line-end-requires c κs = search needs
 
 add-t13 : tie.Need-add-t13
-add-t13 c = let s = c .before .before .before .before .before .before in omega (arith, c .line-end .ensures .1, line-few (s .pre .0) (s .pre .1 .0) (c .before .before .c .given .0 .0))
+add-t13 c =
+    let s = c .before .before .before .before .before .before in
+    omega (arith, c .line-end .ensures .1, line-few (s .pre .0) (s .pre .1 .0) (c .before .before .c .given .0 .0))
 
 cast-t14 : tie.Need-cast-t14
 cast-t14 c = search needs

@@ -11,7 +11,8 @@ use Rattle.answers.specs.Outcome.{answer}
 use Rattle.answers.proofs.First.{found-at, found-none}
 use Rattle.answers.proofs.Rows.{Left, left-all, left-next, left-turn, left-done}
 use Rattle.rules.specs.Record.{sides, isSide, Sides, recordRows}
-use Rattle.rules.proofs.Records.{sides-small, short-record, other-length, right-length, other-kind, right-kind, wrong-rows, wrong-columns, right-sides, other-size, right-size}
+use Rattle.rules.proofs.Records.{sides-small, short-record, other-length, right-length, other-kind, right-kind, wrong-rows, wrong-columns, right-sides}
+use Rattle.rules.proofs.Records.{other-size, right-size}
 use Rattle.rules.proofs.record.read.Statement.{statement}
 use Rattle.rules.proofs.record.read.Tie as tie
 

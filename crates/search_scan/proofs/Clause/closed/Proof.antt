@@ -1,3 +1,4 @@
+-- `search_scan::Clause::closed` meets its contract. Assumes nothing.
 use mathlib.Core.Path.{ap, sym}
 use Rattle.search_scan.specs.Clause.{closed}
 -- `search_scan::Clause::closed` meets its contract. Assumes nothing.

@@ -1,4 +1,4 @@
--- `solver_call::finding::give_values` meets its contract: the loop keeps `TrailBytes`. Assumes nothing.
+-- `solver_call::grid_search::give_values` meets its contract: the loop keeps `TrailBytes`. Assumes nothing.
 use Prim.Native.Nat.{_-_}
 use native.Mathlib.Omega.{arith}
 use borrow.Author.Needs.{needs}
@@ -21,7 +21,8 @@ code-at-requires : tie.Need-code-at-requires Inv-loop μ-loop
 code-at-requires c κs = search needs
 
 sub-x : tie.Need-sub-x Inv-loop μ-loop
-sub-x c = omega (arith, has-byte (c .before .before .loop .inv) (c .before .before .before .before .pre) (c .before .loop-test .taken) (c .code-at .ensures) .positive)
+sub-x c =
+    omega (arith, has-byte (c .before .before .loop .inv) (c .before .before .before .before .pre) (c .before .loop-test .taken) (c .code-at .ensures) .positive)
 
 cast-values : tie.Need-cast-values Inv-loop μ-loop
 cast-values c = search needs
@@ -30,7 +31,9 @@ sub-values : tie.Need-sub-values Inv-loop μ-loop
 sub-values c = search needs
 
 slice-write-values : tie.Need-slice-write-values Inv-loop μ-loop
-slice-write-values c = let b = has-byte (c .before .before .loop .inv) (c .before .before .before .before .pre) (c .before .loop-test .taken) (c .code-at .ensures) in omega (arith, b .positive, b .inside)
+slice-write-values c =
+    let b = has-byte (c .before .before .loop .inv) (c .before .before .before .before .pre) (c .before .loop-test .taken) (c .code-at .ensures) in
+    omega (arith, b .positive, b .inside)
 
 add-i : tie.Need-add-i Inv-loop μ-loop
 add-i c = search needs

@@ -1,4 +1,4 @@
--- `solver_call::room::first_short` meets its contract. Assumes nothing.
+-- `solver_call::rooms::first_short` meets its contract. Assumes nothing.
 use lib.ListN.{drop}
 use mathlib.Core.Path.{sym}
 use mathlib.Core.List.{List}
@@ -17,16 +17,20 @@ rows c = shortRows (c .args .lent) (c .args .needed)
 past-list : (c : tie.Else1) (t : Outcome) → Left (rows (c .before .before .before)) t (drop 1 (rows (c .before .before .before)))
 past-list c t = left-next (left-all (rows (c .before .before .before)) t) (sym (long-enough _ (c .if1 .left)))
 
-past-trail : (c : tie.Else2) (t : Outcome) → Left (rows (c .before .before .before .before .before .before)) t (drop 2 (rows (c .before .before .before .before .before .before)))
+past-trail : (c : tie.Else2) (t : Outcome)
+    → Left (rows (c .before .before .before .before .before .before)) t (drop 2 (rows (c .before .before .before .before .before .before)))
 past-trail c t = left-next (past-list (c .before .before .before) t) (sym (long-enough _ (c .if2 .left)))
 
-past-marks : (c : tie.Else3) (t : Outcome) → Left (rows (c .before .before .before .before .before .before .before .before .before)) t (drop 3 (rows (c .before .before .before .before .before .before .before .before .before)))
+past-marks : (c : tie.Else3) (t : Outcome)
+    → Left (rows (c .before .before .before .before .before .before .before .before .before)) t (drop 3 (rows (c .before .before .before .before .before .before .before .before .before)))
 past-marks c t = left-next (past-trail (c .before .before .before) t) (sym (long-enough _ (c .if3 .left)))
 
-past-values : (c : tie.Else4) (t : Outcome) → Left (rows (c .before .before .before .before .before .before .before .before .before .before .before .before)) t (drop 4 (rows (c .before .before .before .before .before .before .before .before .before .before .before .before)))
+past-values : (c : tie.Else4) (t : Outcome)
+    → Left (rows (c .before .before .before .before .before .before .before .before .before .before .before .before)) t (drop 4 (rows (c .before .before .before .before .before .before .before .before .before .before .before .before)))
 past-values c t = left-next (past-marks (c .before .before .before) t) (sym (long-enough _ (c .if4 .left)))
 
-past-drawing : (c : tie.Else5) (t : Outcome) → Left (rows (c .before .before .before .before .before .before .before .before .before .before .before .before .before .before .before)) t (drop 5 (rows (c .before .before .before .before .before .before .before .before .before .before .before .before .before .before .before)))
+past-drawing : (c : tie.Else5) (t : Outcome)
+    → Left (rows (c .before .before .before .before .before .before .before .before .before .before .before .before .before .before .before)) t (drop 5 (rows (c .before .before .before .before .before .before .before .before .before .before .before .before .before .before .before)))
 past-drawing c t = left-next (past-values (c .before .before .before) t) (sym (long-enough _ (c .if5 .left)))
 
 returns : tie.Need-returns
