@@ -47,6 +47,16 @@ empty-closed (l ∷ ls) h = absurd (omega arith)
 pub code-unclosed : (ls : List ℤ) {k : ℕ} → k ≡ codeOf (getD ls (length ls - 1) (pos 0)) → not (eqb k 0) ≡ unclosed ls
 code-unclosed ls read = ap (λ n. not (eqb n 0)) read ∙ ap not (sym (code-closes (getD ls (length ls - 1) (pos 0))))
 
+-- the end of a list is the end of its tail
+pub unclosed-tail : (l m : ℤ) (ls : List ℤ) → unclosed (l ∷ m ∷ ls) ≡ unclosed (m ∷ ls)
+unclosed-tail l m ls =
+    let e : suc (suc (length ls)) - 1 ≡ suc (suc (length ls) - 1) = omega arith in
+    ap (λ i. not (closes (getD (l ∷ m ∷ ls) i (pos 0)))) e
+
+pub closed-rest : (l : ℤ) (ls : List ℤ) → unclosed (l ∷ ls) ≡ false → unclosed ls ≡ false
+closed-rest l [] h = refl
+closed-rest l (m ∷ ls) h = sym (unclosed-tail l m ls) ∙ h
+
 -- a first search that found a place settles both, else the second does
 module _ (p : Place) (first other : Option ℕ) (e : placed p ≡ first) where
   pub place-first : {i : ℕ} → p ≡ At i → placed p ≡ orElse first other
@@ -62,13 +72,8 @@ split-count [] h = refl
 split-count (pos zero ∷ []) h = refl
 split-count (pos (suc n) ∷ []) h = clash refl h
 split-count (negsuc n ∷ []) h = clash refl h
-split-count (l ∷ m ∷ ls) h = one-more (closes l) (closes m) (split ls) ∙ ap (tally (closes l)) (split-count (m ∷ ls) (sym rest ∙ h))
+split-count (l ∷ m ∷ ls) h = one-more (closes l) (closes m) (split ls) ∙ ap (tally (closes l)) (split-count (m ∷ ls) (sym (unclosed-tail l m ls) ∙ h))
   where
-    rest : unclosed (l ∷ m ∷ ls) ≡ unclosed (m ∷ ls)
-    rest =
-        let e : suc (suc (length ls)) - 1 ≡ suc (suc (length ls) - 1) = omega arith in
-        ap (λ i. not (closes (getD (l ∷ m ∷ ls) i (pos 0)))) e
-
     one-more : (t u : Bool) (cs : List (List ℤ)) → length (splitStep t l (splitStep u m cs)) ≡ tally t (length (splitStep u m cs))
     one-more true u cs = refl
     one-more false true cs = refl

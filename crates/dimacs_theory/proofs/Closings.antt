@@ -8,12 +8,12 @@ use mathlib.Core.Path.{_≡_, refl, sym, _∙_, ap}
 use mathlib.Core.Bool.{Bool, true, false, not}
 use mathlib.Core.Option.{Option, none, some, Option·some-ne-none}
 use mathlib.Core.List.{List, [], _∷_}
-use Rattle.answers.specs.First.{found, firstWhere}
+use Rattle.answers.specs.First.{found, orElse, firstWhere}
 use Rattle.answers.specs.Lists.{tally}
 use Rattle.answers.proofs.First.{first-none, none-first, not-found}
-use Rattle.answers.specs.First.{orElse}
 use Rattle.cnf.specs.Literals.{closes, beyondAt, unclosed, wrongList}
 use Rattle.cnf.specs.Clauses.{clauseCount}
+use Rattle.cnf.proofs.Lists.{unclosed-tail}
 
 -- a list from inside a clause, or from between two, to its end: no literal is beyond v, and the last clause is closed
 pub data Closing (v : ℕ) : Bool → List ℤ → Type 0 where
@@ -30,12 +30,6 @@ closing-counts (more {begun = begun} {l = l} {ls = ls} w c) = by (closes l) begu
     by true false h = omega arith
     by false true h = h
     by false false h = omega arith
-
--- the end of a list is the end of its tail
-unclosed-tail : (l m : ℤ) (ls : List ℤ) → unclosed (l ∷ m ∷ ls) ≡ unclosed (m ∷ ls)
-unclosed-tail l m ls =
-    let e : suc (suc (length ls)) - 1 ≡ suc (suc (length ls) - 1) = omega arith in
-    ap (λ i. not (closes (getD (l ∷ m ∷ ls) i (pos 0)))) e
 
 neither : (first second : Option ℕ) → orElse first second ≡ none → (first ≡ none) × (second ≡ none)
 neither none second e = (refl, e)

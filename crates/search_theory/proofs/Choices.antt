@@ -14,13 +14,13 @@ use mathlib.Core.Bool.{Bool, true, false, not, _&&_, _||_, cond}
 use mathlib.Core.Logic.{_⊎_, inl, inr, ⊎-elim}
 use mathlib.Core.Option.{Option, none, some, Option·some-ne-none}
 use mathlib.Core.List.{List, [], _∷_}
-use Rattle.answers.specs.First.{found}
+use Rattle.answers.specs.First.{found, orElse}
 use Rattle.answers.specs.Lists.{All, Some}
 use Rattle.answers.proofs.Bools.{clash, or-cases, or-left}
 use Rattle.answers.proofs.First.{first-some, first-none, not-found}
-use Rattle.answers.specs.First.{orElse}
 use Rattle.cnf.specs.Literals.{closes, codeOf, unclosed}
 use Rattle.cnf.specs.Clauses.{splitStep, split}
+use Rattle.cnf.proofs.Lists.{closed-rest}
 use Rattle.search.specs.Trail.{Value, True, False, Unassigned, isFalse, isUnassigned, literalValue, Values}
 use Rattle.search.specs.Step.{everyLiteral, firstClause, fails, failedAt, failsBut, byValue, forcedAt, failedClause, forcedPlace, lowestUnassigned}
 use Rattle.search_theory.proofs.Lists.{all-map, nothing, found-some}
@@ -73,13 +73,6 @@ module _ {P Q : List ℤ → Type 0} (l : ℤ) (ls : List ℤ) (z : closes l ≡
 -- a list that is the end of another, less its first element
 tail-drop : (whole : List ℤ) (i : ℕ) (l : ℤ) (ls : List ℤ) → (l ∷ ls) ≡ drop i whole → ls ≡ drop (suc i) whole
 tail-drop whole i l ls e = ap (drop 1) e ∙ drop-drop 1 i whole ∙ ap (λ k. drop k whole) (add-one i)
-
--- a list that ends in 0, less its first element
-closed-rest : (l : ℤ) (ls : List ℤ) → unclosed (l ∷ ls) ≡ false → unclosed ls ≡ false
-closed-rest l [] h = refl
-closed-rest l (m ∷ ls) h =
-    let e : suc (suc (length ls)) - 1 ≡ suc (suc (length ls) - 1) = omega arith in
-    sym (ap (λ i. not (closes (getD (l ∷ m ∷ ls) i (pos 0)))) e) ∙ h
 
 -- the literals up to the 0 are the first clause
 module _ (p : ℤ → Bool) where
