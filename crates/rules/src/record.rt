@@ -25,7 +25,7 @@ pub fn read_cell(b: u8) -> CellByte
         0x20..=0x2f => CellByte::Is(Cell::Clue(Direction::East, b - 0x20)),
         0x30..=0x3f => CellByte::Is(Cell::Clue(Direction::South, b - 0x30)),
         0x40..=0x4f => CellByte::Is(Cell::Clue(Direction::West, b - 0x40)),
-        _ => CellByte::NotAllowed,
+        0x01..=0x0f | 0x50..=0xff => CellByte::NotAllowed,
     }
 }
 
