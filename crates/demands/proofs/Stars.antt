@@ -16,7 +16,8 @@ use Rattle.rules.specs.Solutions.{Solutions}
 use Rattle.rules.specs.Walk.{around, among}
 use Rattle.rules.specs.Judge.{judgeAnswer, saysYes}
 use Rattle.rules_theory.proofs.Theorems.{judge-right}
-use Rattle.rules_theory.proofs.Cases as records
+use Rattle.rules_theory.specs.Cases as records
+use Rattle.rules_theory.proofs.Cases.{reader-cases-hold}
 use Rattle.text.specs.Decimal.{decimalIn}
 use Rattle.dimacs.specs.Text.{lines}
 use Rattle.encoder.specs.Variables.{same, variables, variableCount, place}
@@ -155,5 +156,5 @@ pub stars-hold : All Holds stars
 stars-hold =
     all-append Holds (map grid gridStars) (map refused records.readerCases ++ map list lists.cases) grids-hold
     (all-append Holds (map refused records.readerCases) (map list lists.cases)
-    (at-each (λ (c : records.ReaderCase). recordAnswer (c .bytes)) (λ c. c .says) records.readerCases records.reader-cases-hold)
+    (at-each (λ (c : records.ReaderCase). recordAnswer (c .bytes)) (λ c. c .says) records.readerCases reader-cases-hold)
     (at-each lists.fromEmpty (λ c. c .says) lists.cases lists.cases-hold))

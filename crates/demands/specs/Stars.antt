@@ -10,7 +10,7 @@ use Rattle.answers.specs.Outcome.{answer}
 use Rattle.rules.specs.Record.{recordAnswer, IsAccepted}
 use Rattle.rules.specs.Board.{boardOf}
 use Rattle.rules.specs.Solutions.{Solutions}
-use Rattle.rules_theory.proofs.Cases as records
+use Rattle.rules_theory.specs.Cases as records
 use Rattle.dimacs.specs.Text.{textOf}
 use Rattle.dimacs.specs.Sample.{oneCellText}
 use Rattle.encoder.proofs.Cases as grids

@@ -157,7 +157,8 @@ pub fn judge(record: &[u8], drawing: &[u8]) -> Verdict
 {
     let p = read(record);
     let Parsed::Accepted(g) = p else {
-        return Verdict::No(JudgeRefusal::Record(p.refusal()));
+        let r = p.refusal();
+        return Verdict::No(JudgeRefusal::Record(r));
     };
     judge_grid(g, record, drawing)
 }

@@ -3,10 +3,10 @@ use Prim.Native.Nat.{ℕ, zero, suc, _+_, _≤_, _<_}
 use native.Mathlib.Omega.{arith}
 use lib.Dec.{eqb}
 use lib.ListN.{length, getD}
-use borrow.Author.Tests.{lt-ltb, le-ltb, le-leb, lt-leb, ne-eqb}
+use borrow.Author.Tests.{lt-ltb, le-ltb, le-leb, lt-leb, eq-eqb, ne-eqb}
 use mathlib.Core.Path.{_≡_, refl, sym, _∙_, ap}
 use mathlib.Core.Bool.{Bool, true, false, not}
-use mathlib.Core.Option.{Option}
+use mathlib.Core.Option.{Option, some}
 use mathlib.Core.List.{List, [], _∷_, _++_}
 use Rattle.answers.specs.Lists.{howMany}
 use Rattle.answers.specs.First.{found, firstFrom, firstWhere}
@@ -15,16 +15,17 @@ use Rattle.rules.specs.declared.Direction.the-variants.{North as north, East as
 use Rattle.rules.specs.declared.Cell.{Cell}
 use Rattle.rules.specs.declared.Cell.the-variants.{Open, Clue as Clued}
 use Rattle.rules.specs.declared.Grid.{Grid}
-use Rattle.rules.specs.Directions.{bit}
+use Rattle.rules.specs.Directions.{opposite, bit}
 use Rattle.rules.specs.Record.{Puzzle, size, OnBoard, RecordFits, DrawingFits, puzzle}
-use Rattle.rules.specs.Board.{openCell, openAt, line, clueOf, cluesFrom, board, gridBoard}
-use Rattle.rules.specs.Drawing.{weight, blackAt}
-use Rattle.rules.specs.Judge.{badByte, foundClue, unmetClue}
+use Rattle.rules.specs.Board.{Board, neighbour, openCell, openAt, line, clueOf, cluesFrom, board, gridBoard}
+use Rattle.rules.specs.Drawing.{weight, linkAt, blackAt}
+use Rattle.rules.specs.Judge.{badByte, there, touchesAt, unmatchedLink, foundClue, unmetClue}
 use Rattle.judge_cells.specs.declared.Test.{Test}
 use Rattle.judge_cells.specs.declared.Test.the-variants.{DrawingByte, Touching, ClueNotMet, LinkUnmatched, NotTwoLinks, White}
 use Rattle.judge_cells.specs.Tests.{unmetCell, unmetAt, testAt, firstOf}
 use Rattle.rules.proofs.Boards.{Filled}
 use Rattle.rules.proofs.Records.{held-filled}
+use Rattle.rules.proofs.Steps.{stays-on}
 
 -- bytes of a drawing
 pub clue-or-not : (o : Bool) → o ≡ badByte o 0x20
@@ -54,6 +55,30 @@ module _ {g : Grid} {s : List ℕ} {x : ℕ} (h : RecordFits g s) (inside : x < 
 -- a cell of a grid with its drawing
 pub on-drawn : {g : Grid} {s ds : List ℕ} {x : ℕ} → DrawingFits g s ds → x < size g → OnBoard g x
 on-drawn d h = record { sides = d .recordFits .sides; inside = h }
+
+-- so has the drawing a byte for its neighbour
+pub beside : {g : Grid} {n x y : ℕ} → OnBoard g x → n ≡ size g → (d : Direction) → some y ≡ neighbour g d x → y < n
+beside o l d e = let i = stays-on o d e .inside in omega arith
+
+module _ (b : Board) (ds : List ℕ) (x : ℕ) where
+  -- 11: black beside black to its east or south
+  pub not-black : (getD ds x 0 ≡ 0x10 → ⊥) → false ≡ touchesAt b ds x
+  not-black h = rw (ne-eqb _ _ h)
+
+  module _ (black : getD ds x 0 ≡ 0x10) where
+    pub touches-east : there (blackAt ds) (b .next east x) ≡ true → true ≡ touchesAt b ds x
+    touches-east e = rw (eq-eqb _ _ black, e)
+
+    pub touches-south : {t : Bool} → there (blackAt ds) (b .next east x) ≡ false → t ≡ there (blackAt ds) (b .next south x) → t ≡ touchesAt b ds x
+    touches-south e h = h ∙ rw (eq-eqb _ _ black, e)
+
+  -- 13: a link that is unmatched or off the board
+  module _ (d : Direction) where
+    pub no-link : linkAt ds x d ≡ false → false ≡ unmatchedLink b ds x d
+    no-link e = rw e
+
+    pub matched-back : {t : Bool} → linkAt ds x d ≡ true → t ≡ there (λ y. linkAt ds y (opposite d)) (b .next d x) → not t ≡ unmatchedLink b ds x d
+    matched-back e h = ap not h ∙ rw e
 
 -- the first unmet clue of the board is the first cell that is one
 module _ (p : Puzzle) (ds : List ℕ) where

@@ -6,7 +6,8 @@ ghost use Rattle.answers.specs.First.{placed};
 ghost use Rattle.answers.specs.Lists.{howMany};
 ghost use Rattle.rules.specs.Record.{size, puzzle, OnBoard, RecordFits, DrawingFits};
 ghost use Rattle.rules.specs.Board.{neighbour, line, gridBoard};
-ghost use Rattle.rules.specs.Drawing.{blacksNearest, blackAt};
+ghost use Rattle.rules.specs.Directions.{opposite};
+ghost use Rattle.rules.specs.Drawing.{blacksNearest, blackAt, linkAt};
 ghost use Rattle.rules.specs.Judge.{badByte, there, badByteAt, touchesAt, unmatchedLink, unmatchedLinkAt, whiteAt, notTwoAt};
 ghost use Rattle.judge_cells.specs.Tests.{unmetAt, testAt, firstOf};
 use super::Test;
@@ -138,6 +139,20 @@ fn unmet_at(g: Grid, record: &[u8], drawing: &[u8], x: usize) -> bool
     count != n as usize
 }
 
+// Is there a cell in that direction with a link back?
+fn linked_back(g: Grid, drawing: &[u8], x: usize, d: Direction) -> bool
+    requires { ⌜ OnBoard g x ⌝ }
+    requires { ⌜ length (now drawing) ≡ size g ⌝ }
+    ensures { λ r. ⌜ r ≡ there (λ y. linkAt (now (drawing .entry)) y (opposite d)) (neighbour g d x) ⌝ }
+{
+    let p = neighbour(g, x, d);
+    let Place::At(y) = p else {
+        return false;
+    };
+    let back = opposite(d);
+    linked(drawing[y], back)
+}
+
 // Has x a link in that direction that is unmatched or leads off the board?
 fn unmatched_link(g: Grid, record: &[u8], drawing: &[u8], x: usize, d: Direction) -> bool
     requires { ⌜ DrawingFits g (now «record») (now drawing) ⌝ }
@@ -148,12 +163,7 @@ fn unmatched_link(g: Grid, record: &[u8], drawing: &[u8], x: usize, d: Direction
     if !link {
         return false;
     }
-    let p = neighbour(g, x, d);
-    let Place::At(y) = p else {
-        return true;
-    };
-    let back = opposite(d);
-    let matched = linked(drawing[y], back);
+    let matched = linked_back(g, drawing, x, d);
     !matched
 }
 

@@ -253,6 +253,15 @@ module _ (g : Grid) where
     ahead = λ d x y e. ahead d x y (leads d x y (has d x y e));
   }
 
+-- the clues stand in cell order; so no two in one cell
+abbrev pub InOrder : List Clue → Type 0
+InOrder [] = Unit
+InOrder (c ∷ cs) = ((k : Clue) → k ∈ cs → c .cell < k .cell) × InOrder cs
+
+order-apart : (cs : List Clue) → InOrder cs → ApartBy (λ (c : Clue). c .cell) cs
+order-apart [] h = tt
+order-apart (c ∷ cs) (h, t) = (λ k m e. let l = h k m in omega arith, order-apart cs t)
+
 module _ (p : Puzzle) where
   -- the clues from x on lie at x or after it
   clue-after : (cs : List Cell) (x : ℕ) (c : Clue) → c ∈ cluesFrom p x cs → x ≤ c .cell
@@ -265,13 +274,13 @@ module _ (p : Puzzle) where
       by (inl e) go = let h : c .cell ≡ x = ap (λ (k : Clue). k .cell) e in omega arith
       by (inr k) go = let h : suc x ≤ c .cell = go k in omega arith
 
-  clue-apart : (cs : List Cell) (x : ℕ) → ApartBy (λ (c : Clue). c .cell) (cluesFrom p x cs)
-  clue-apart [] x = tt
-  clue-apart (Open ∷ cs) x = clue-apart cs (suc x)
-  clue-apart (Clued d n ∷ cs) x = (λ c m e. off c e (clue-after cs (suc x) c m), clue-apart cs (suc x))
-    where
-      off : (c : Clue) → x ≡ c .cell → suc x ≤ c .cell → ⊥
-      off c e h = omega arith
+  clue-order : (cs : List Cell) (x : ℕ) → InOrder (cluesFrom p x cs)
+  clue-order [] x = tt
+  clue-order (Open ∷ cs) x = clue-order cs (suc x)
+  clue-order (Clued d n ∷ cs) x = (clue-after cs (suc x), clue-order cs (suc x))
+
+  pub clues-in-order : InOrder (board p .clues)
+  clues-in-order = clue-order (p .cells) 0
 
   pub line-ends : (d : Direction) (x : ℕ) → x < size (p .grid) → neighbour (p .grid) d (getD (line p d x) 0 x) ≡ none
   line-ends d x h = outward-ends (p .grid) d (size (p .grid)) x [] x refl (not-far (p .grid) d x h)
@@ -288,6 +297,6 @@ module _ (p : Puzzle) where
   laws w = record {
     wired = wired (p .grid);
     open-stays = λ x e. rw w at (open-below (p .cells) x e);
-    clues-apart = clue-apart (p .cells) 0;
+    clues-apart = order-apart (board p .clues) clues-in-order;
     clue-stays = clue-stays (p .cells) 0 (omega (arith, w));
   }

@@ -1,5 +1,5 @@
 -- Cell bytes, and what an accepted record is. Assumes nothing.
-use Prim.Native.Nat.{ℕ, _+_, _-_, _*_, _/_, _%_, _≤_, _<_}
+use Prim.Native.Nat.{ℕ, _+_, _*_, _/_, _%_, _≤_, _<_}
 use native.Mathlib.Omega.{arith}
 use native.Mathlib.Nat.{mul-le-mul}
 use lib.Dec.{leb, ltb}
@@ -14,8 +14,7 @@ use Rattle.answers.proofs.Bools.{and-both, or-left, or-right, or-neither}
 use Rattle.answers.proofs.Rows.{Clear, answered-clear, clear-answered, no-cause, still-refused, refusals-append}
 use Rattle.answers.proofs.OneToOne.{number-not}
 use Rattle.answers.specs.declared.Outcome.{Outcome}
-use Rattle.answers.specs.Outcome.{refusal, answer, Row, cause, firstRefusal}
-use Rattle.answers.specs.First.{firstWhere}
+use Rattle.answers.specs.Outcome.{Row, cause, firstRefusal}
 use Rattle.rules.specs.declared.Cell.the-variants.{Open, Clue}
 use Rattle.rules.specs.declared.CellByte.the-variants.{Is, NotAllowed}
 use Rattle.rules.specs.declared.Grid.{Grid}
@@ -26,14 +25,13 @@ use Rattle.rules.specs.Board.{boardOf}
 use Rattle.rules.proofs.Boards.{Laws, Filled, laws}
 use Rattle.rules.proofs.Outcomes.{record-numbers}
 use Rattle.rules.specs.Record.{directionOf, readCell, cellOf, word, sides, size, cellByte, puzzle, isSide, wrongLength, wrongKind, wrongSide, wrongSize}
-use Rattle.rules.specs.Record.{wrongCell, Sides, RecordFits, recordRows, recordAnswer, IsAccepted, recordRefusalOutcome, parsedOutcome}
+use Rattle.rules.specs.Record.{Sides, RecordFits, recordRows, recordAnswer, IsAccepted, recordRefusalOutcome, parsedOutcome}
 
 -- the bytes of clues, once for every direction
-pub clue-byte : (d b : ℕ) → 1 ≤ d → d ≤ 4 → 16 * d ≤ b → b < 16 * d + 16 → Is (Clue (directionOf d) (b - 16 * d)) ≡ readCell b
+pub clue-byte : (d b : ℕ) → 1 ≤ d → d ≤ 4 → 16 * d ≤ b → b < 16 * d + 16 → Is (Clue (directionOf d) (b % 16)) ≡ readCell b
 clue-byte d b low high from to =
     let q : b / 16 ≡ d = omega arith in
-    let m : b % 16 ≡ b - 16 * d = omega arith in
-    simp (ne-eqb b 0 (λ e. omega arith), le-leb 0x10 b (omega arith), le-leb b 0x4f (omega arith), q, m)
+    simp (ne-eqb b 0 (λ e. omega arith), le-leb 0x10 b (omega arith), le-leb b 0x4f (omega arith), q)
 
 pub under-clues : (b : ℕ) → (b ≡ 0 → ⊥) → b < 0x10 → NotAllowed ≡ readCell b
 under-clues b n h = simp (ne-eqb b 0 n, lt-leb 0x10 b h)

@@ -21,11 +21,11 @@ pub fn read_cell(b: u8) -> CellByte
 {
     match b {
         0 => CellByte::Is(Cell::Open),
-        0x10..=0x1f => CellByte::Is(Cell::Clue(Direction::North, b - 0x10)),
-        0x20..=0x2f => CellByte::Is(Cell::Clue(Direction::East, b - 0x20)),
-        0x30..=0x3f => CellByte::Is(Cell::Clue(Direction::South, b - 0x30)),
-        0x40..=0x4f => CellByte::Is(Cell::Clue(Direction::West, b - 0x40)),
-        _ => CellByte::NotAllowed,
+        0x10..=0x1f => CellByte::Is(Cell::Clue(Direction::North, b % 16)),
+        0x20..=0x2f => CellByte::Is(Cell::Clue(Direction::East, b % 16)),
+        0x30..=0x3f => CellByte::Is(Cell::Clue(Direction::South, b % 16)),
+        0x40..=0x4f => CellByte::Is(Cell::Clue(Direction::West, b % 16)),
+        0x01..=0x0f | 0x50..=0xff => CellByte::NotAllowed,
     }
 }
 

@@ -23,6 +23,7 @@ use Rattle.rules.specs.Drawing.{Links, Reach, byteLink, linkAt, blackAt, Allowe
 use Rattle.rules.specs.Judge.{there, touchesAt, unmatchedLink, unmatchedLinkAt, whiteAt, offLoopAt, foundClue, unmetClue, fromFirst, wrongDrawing, wrongByte}
 use Rattle.rules.specs.Judge.{touching, clueNotMet, linkUnmatched, notTwoLinks, notOneLoop, judgeRows}
 use Rattle.rules.proofs.Boards.{Laws}
+use Rattle.rules_theory.specs.Places.{Met}
 use Rattle.rules_theory.proofs.Directions.{all-four}
 use Rattle.rules_theory.proofs.Whole.{lead, lead-reaches, reaches}
 use Rattle.answers.proofs.Rows.{Clear, no-cause}
@@ -32,22 +33,19 @@ there-is : (test : ℕ → Bool) (o : Option ℕ) → there test o ≡ true → 
 there-is test none h = clash h refl
 there-is test (some y) h = (y, refl, h)
 
--- each clue's line has its number of black cells
-abbrev Met : (ℕ → Bool) → List Clue → Type 0
-Met black cs = All (λ (c : Clue). howMany black (c .line) ≡ c .number) cs
+module _ (ds : List ℕ) where
+  clues-met : (cs : List Clue) → unmetClue (blackAt ds) cs ≡ none → All (Met ds) cs
+  clues-met [] e = tt
+  clues-met (c ∷ cs) e = by (eqb (howMany (blackAt ds) (c .line)) (c .number)) refl e (clues-met cs)
+    where
+      by : (t : Bool) → eqb (howMany (blackAt ds) (c .line)) (c .number) ≡ t → foundClue t (c .cell) (unmetClue (blackAt ds) cs) ≡ none
+          → (unmetClue (blackAt ds) cs ≡ none → All (Met ds) cs) → All (Met ds) (c ∷ cs)
+      by true q e go = (eqb-true _ _ q, go e)
+      by false q e go = absurd (Option·some-ne-none (c .cell) e)
 
-clues-met : (black : ℕ → Bool) (cs : List Clue) → unmetClue black cs ≡ none → Met black cs
-clues-met black [] e = tt
-clues-met black (c ∷ cs) e = by (eqb (howMany black (c .line)) (c .number)) refl e (clues-met black cs)
-  where
-    by : (t : Bool) → eqb (howMany black (c .line)) (c .number) ≡ t → foundClue t (c .cell) (unmetClue black cs) ≡ none
-        → (unmetClue black cs ≡ none → Met black cs) → Met black (c ∷ cs)
-    by true q e go = (eqb-true _ _ q, go e)
-    by false q e go = absurd (Option·some-ne-none (c .cell) e)
-
-met-clues : (black : ℕ → Bool) (cs : List Clue) → Met black cs → unmetClue black cs ≡ none
-met-clues black [] h = refl
-met-clues black (c ∷ cs) h = ap (λ (t : Bool). foundClue t (c .cell) (unmetClue black cs)) (eq-eqb _ _ (h .0)) ∙ met-clues black cs (h .1)
+  met-clues : (cs : List Clue) → All (Met ds) cs → unmetClue (blackAt ds) cs ≡ none
+  met-clues [] h = refl
+  met-clues (c ∷ cs) h = ap (λ t. foundClue t (c .cell) (unmetClue (blackAt ds) cs)) (eq-eqb _ _ (h .0)) ∙ met-clues cs (h .1)
 
 module _ {b : Board} (law : Laws b) (ds : List ℕ) where
   -- 7: drawing not N bytes
@@ -94,8 +92,8 @@ module _ {b : Board} (law : Laws b) (ds : List ℕ) where
       not-there u d x p = off _ (λ q. let w = there-is (blackAt ds) (b .next d x) q in u d x (w .0) (w .1) p (w .2))
 
   -- 12: clue not met
-  clues-right : clueNotMet b ds ≡ none ↔ Met (blackAt ds) (b .clues)
-  clues-right = (clues-met (blackAt ds) (b .clues), met-clues (blackAt ds) (b .clues))
+  clues-right : clueNotMet b ds ≡ none ↔ All (Met ds) (b .clues)
+  clues-right = (clues-met ds (b .clues), met-clues ds (b .clues))
 
   module _ (long : length ds ≡ b .size) (allowed : (x : ℕ) → x < b .size → Allowed (b .isOpen x) (getD ds x 0)) where
     -- a test that fails at 0, as beyond the board, and at a clue's byte holds at open cells only
@@ -165,12 +163,19 @@ module _ {b : Board} (law : Laws b) (ds : List ℕ) where
           ∙ none-first (offLoopAt b ds s) (b .size) (λ x l. and-off (whiteAt b ds x) _
           (λ p. true-not _ (reaches (law .wired) L F x .0 (lead-reaches (law .wired) L w F x l p))))
 
+  -- 10, 13 and 14 make the links
+  pub clear-links : length ds ≡ b .size → wrongByte b ds ≡ none → linkUnmatched b ds ≡ none → notTwoLinks b ds ≡ none
+      → Links (b .size) (b .next) (whiteAt b ds) (linkAt ds)
+  clear-links long c10 c13 c14 =
+      let allowed = bytes-right .0 c10 in
+      record { matched = matched-right long allowed .0 c13; at-white = link-white long allowed; two = two-right .0 c14 }
+
   -- all rows
   pub clear-solution : Clear (judgeRows b ds) → SolutionBytes b ds
   clear-solution (c7, (c10, (c11, (c12, (c13, (c14, (c15, c))))))) =
       let long = length-right .0 c7 in
       let allowed = bytes-right .0 c10 in
-      let links : Links (b .size) (b .next) (whiteAt b ds) (linkAt ds) = record { matched = matched-right long allowed .0 c13; at-white = link-white long allowed; two = two-right .0 c14 } in
+      let links = clear-links long c10 c13 c14 in
       record {
         long = long;
         allowed = allowed;

@@ -10,4 +10,5 @@ pub mod Loop
 pub mod Whole
 pub mod Bytes
 pub mod JudgeExact
+pub mod Places
 pub mod Cases

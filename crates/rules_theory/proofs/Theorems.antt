@@ -4,7 +4,8 @@ use Prim.Native.Nat.{ℕ}
 use mathlib.Core.Path.{_≡_, refl, sym, _∙_, ap}
 use mathlib.Core.Bool.{Bool, true, false}
 use mathlib.Core.Logic.{_↔_}
-use mathlib.Core.Option.{Option}
+use lib.ListN.{length}
+use mathlib.Core.Option.{Option, none, some}
 use mathlib.Core.List.{List}
 use Rattle.answers.specs.declared.Outcome.{Outcome}
 use Rattle.answers.specs.First.{Least}
@@ -14,17 +15,19 @@ use Rattle.rules.specs.declared.Direction.{Direction}
 use Rattle.rules.specs.declared.Direction.the-variants.{North as north, East as east, South as south, West as west}
 use Rattle.rules.specs.declared.Parsed.{Parsed}
 use Rattle.rules.specs.declared.Verdict.{Verdict}
-use Rattle.rules.specs.Record.{recordRows, IsAccepted, parsedOutcome}
+use Rattle.rules.specs.Record.{sides, puzzle, recordRows, IsAccepted, parsedOutcome}
 use Rattle.rules.specs.Board.{Board, boardOf}
 use Rattle.rules.specs.Drawing.{Drawing, white, Links, Solution, SolutionBytes}
-use Rattle.rules.specs.Judge.{judgeRows, judgeAnswer, saysYes, verdictOutcome}
-use Rattle.rules.proofs.Boards.{Wired, Laws}
+use Rattle.rules.specs.Judge.{wrongByte, clueNotMet, linkUnmatched, notTwoLinks, notOneLoop, judgeRows, judgeAnswer, saysYes, verdictOutcome}
+use Rattle.rules.proofs.Boards.{Wired, Laws, clues-in-order}
 use Rattle.rules_theory.specs.Loop.{WholeLoop, Looped}
+use Rattle.rules_theory.specs.Places.{FirstUnmet, FirstUnreached}
 use Rattle.answers.proofs.Rows.{answered-clear, clear-answered}
 use Rattle.rules.proofs.Records as records
 use Rattle.rules.proofs.Outcomes.{readings, verdicts}
 use Rattle.answers.proofs.OneToOne.{one-to-one}
-use Rattle.rules_theory.proofs.JudgeExact.{clear-solution, solution-clear}
+use Rattle.rules_theory.proofs.JudgeExact.{clear-links, clear-solution, solution-clear}
+use Rattle.rules_theory.proofs.Places.{unmet-place, unreached-place}
 use Rattle.rules_theory.proofs.Loop.{first-north, first-east, first-south, first-west}
 use Rattle.rules_theory.proofs.Whole as whole
 
@@ -49,6 +52,17 @@ judge-right s a ds = (λ e. right .0 (sym passed ∙ e), λ S. passed ∙ right 
     -- the record's rows refuse nothing
     passed : judgeAnswer s ds ≡ firstRefusal (judgeRows (boardOf s) ds) saysYes
     passed = refusals-append (recordRows s) (judgeRows (boardOf s) ds) saysYes ∙ clear-answered (recordRows s) _ (records.accepted-clear s a)
+
+-- What stands beside 12: the cell of the first clue, in cell order, that is not met.
+pub clue-place : (s ds : List ℕ) (x : ℕ) → clueNotMet (boardOf s) ds ≡ some x ↔ FirstUnmet (boardOf s .clues) ds x
+clue-place s = unmet-place (boardOf s) (clues-in-order (puzzle (sides s) s))
+
+-- What stands beside 15, where the drawing has N bytes and 10, 13 and 14 are not the cause: 0 if no cell is white, else the first white cell to which
+-- links do not lead from the first white cell.
+pub loop-place : (s : List ℕ) → IsAccepted s → (ds : List ℕ) → length ds ≡ boardOf s .size
+    → wrongByte (boardOf s) ds ≡ none → linkUnmatched (boardOf s) ds ≡ none → notTwoLinks (boardOf s) ds ≡ none
+    → (x : ℕ) → notOneLoop (boardOf s) ds ≡ some x ↔ FirstUnreached (boardOf s) ds x
+loop-place s a ds long c10 c13 c14 = let law = accepted-laws s a in unreached-place law ds (clear-links law ds long c10 c13 c14)
 
 -- The first white cell has its links to the east and the south, and none to the north or west.
 module _ {size : ℕ} {next : Direction → ℕ → Option ℕ} {white : ℕ → Bool} {link : ℕ → Direction → Bool} {s : ℕ} where

@@ -67,8 +67,10 @@ module _ {size : ℕ} {next : Direction → ℕ → Option ℕ} {white : ℕ →
           begins = around-is W;
           none-twice = listing-apart cell 0 (suc n) (suc n) (omega arith) (W .fresh);
           the-whites =
-              λ x.
-              (λ h. let w = listing-from cell 0 (suc n) h in rw (← (w .3)) (passes-white (w .0)), λ h. rw (← (around-is W)) (round-in W (reach-on B L F W (all x (h .0) (h .1)))));
+              λ x. (
+                λ h. let w = listing-from cell 0 (suc n) h in rw (← (w .3)) (passes-white (w .0)),
+                λ h. rw (← (around-is W)) (round-in W (reach-on B L F W (all x (h .0) (h .1)))),
+              );
           linked =
               listing-chain cell (Linked next link) (λ k. (_, pass-linked B L F k, pass-steps B L F k)) n 0 (suc n) s (omega arith)
               (ap (λ (v : State). v .cell) (W .closed));

@@ -1,10 +1,9 @@
 -- `judge_cells::cells::black_there` meets its contract. Assumes nothing.
-use native.Mathlib.Omega.{arith}
 use mathlib.Core.Path.{ap}
 use Rattle.answers.proofs.First.{found-at, found-none}
 use Rattle.rules.specs.Drawing.{blackAt}
 use Rattle.rules.specs.Judge.{there}
-use Rattle.rules.proofs.Steps.{stays-on}
+use Rattle.judge_cells.proofs.Checks.{beside}
 use borrow.Author.Needs.{needs}
 use Rattle.judge_cells.proofs.cells.black_there.Statement.{statement}
 use Rattle.judge_cells.proofs.cells.black_there.Tie as tie
@@ -27,12 +26,7 @@ shared-slice-read-result : tie.Need-shared-slice-read-result
 shared-slice-read-result c =
     let at-neighbour = c .before .before .before .before in
     let at-start = at-neighbour .before .before in
-    omega (
-      arith,
-      stays-on (at-start .pre .0) (at-start .args .d)
-          (found-at (c .before .before .p .given .1) (at-neighbour .neighbour .ensures)) .inside,
-      at-start .pre .1,
-    )
+    beside (at-start .pre .0) (at-start .pre .1) (at-start .args .d) (found-at (c .before .before .p .given .1) (at-neighbour .neighbour .ensures))
 
 returns-2 : tie.Need-returns-2
 returns-2 c =
