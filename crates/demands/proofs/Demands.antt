@@ -72,6 +72,7 @@ demand-2 =
       reads-back = dimacs.write-read;
       written-again = λ text out buf e u room. dimacs.read-write text out buf (dimacs.narrow-exactly text .0 (reader-passed text out e .0, u)) e room;
       listed-steps = λ c ok. steps.stepped ok;
+      no-others = λ c ok. steps.only-stepped ok;
     }
 
 pub demand-3 : Demand3

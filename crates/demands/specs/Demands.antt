@@ -37,7 +37,7 @@ use Rattle.encoder.specs.Encoding.{encoderRows, encoderAnswer, encoderLeaves}
 use Rattle.encoder.specs.Decoding.{decoderAnswer, decoderLeaves, Satisfying, DecodesTo}
 use Rattle.search.specs.Trail.{valuesOf}
 use Rattle.search.specs.Run.{Found, None, Halted}
-use Rattle.search.specs.Call.{Search, Searching, rowsOf, begins, IsTaken, bySearch, Says, steps, endsAt}
+use Rattle.search.specs.Call.{Search, Handed, Searching, rowsOf, begins, IsTaken, bySearch, Says, steps, endsAt}
 use Rattle.search_theory.specs.Openings.{OpenAt, FoundOne}
 use Rattle.search_theory.specs.ListedSteps.{Stepped}
 use Rattle.solver.specs.Begun.{BegunOn}
@@ -89,7 +89,9 @@ pub record Demand2 : Type 0 where
   pub written-again : (text : List ℕ) (out : List ℤ) (buf : List ℕ) → readerAnswer text out .number ≡ 0 → (getD text 0 0 ≡ 99 → ⊥) → length text ≤ length buf
       → Writes (readerAnswer text out .second) (elementsRead text out) buf text
   -- "and the search makes the listed steps, no others."
+  -- (What it hands out is what these steps come to, and they come to nothing else.)
   pub listed-steps : (c : Search) → IsTaken Searching c → (budget : ℕ) → Stepped Searching c budget (bySearch c budget)
+  pub no-others : (c : Search) → IsTaken Searching c → (budget : ℕ) (h : Handed) → Stepped Searching c budget h → h ≡ bySearch c budget
 
 -- DEMAND 3
 pub record Demand3 : Type 0 where
