@@ -17,9 +17,10 @@ use Rattle.search.specs.Trail.{Entry, entry, Trail, Value, True, False, Unassig
 use Rattle.search.specs.Trail.{Agrees, Open, valuesOf}
 use Rattle.search.specs.Step.{failedClause, forcedPlace, lowestUnassigned, undo, Next, Moved, AnsweredFound, AnsweredNone, undone, onFailed, onForced}
 use Rattle.search.specs.Step.{fails, onUnassigned, step}
-use Rattle.search_theory.proofs.Lists.{Proper, all-zip, some-zip, meet}
+use Rattle.search_theory.specs.Legal.{Proper, LegalEntry, Legal}
+use Rattle.search_theory.proofs.Lists.{all-zip, some-zip, meet}
 use Rattle.search_theory.proofs.Values.{literal-false}
-use Rattle.search_theory.proofs.Legal.{Right, Legal, AllAssigned}
+use Rattle.search_theory.proofs.Legal.{AllAssigned}
 use Rattle.search_theory.specs.Choices.{Forces}
 use Rattle.search_theory.proofs.Choices.{Laws, failed-some, none-failed-each, forcing-some, others-false, all-assigned}
 use Rattle.search_theory.proofs.Full.{legal-length, literal-true}
@@ -56,7 +57,7 @@ variable-free t (negsuc n) h = by (variableValue t (suc n)) h
 
 module _ {v : ℕ} {ls : List ℤ} (t : Trail) (law : Laws v ls (variableValue t)) (proper : All (All (Proper v)) (split ls)) (legal : Legal v t) where
   -- the trail goes on by an entry
-  append : (e : Entry) → Right v t e → ((a : List Bool) → Satisfies a ls → Agrees a t → value a (e .literal) ≡ false → e .mark ≡ 1)
+  append : (e : Entry) → LegalEntry v t e → ((a : List Bool) → Satisfies a ls → Agrees a t → value a (e .literal) ≡ false → e .mark ≡ 1)
       → Stepped v ls t (Moved (e ∷ t))
   append e r h = moved {u = e ∷ t} (r, legal) (number-append v e t (legal-length v (e ∷ t) (r, legal))) (λ a s. opened a e t (h a s))
 
@@ -78,26 +79,26 @@ module _ {v : ℕ} {ls : List ℤ} (t : Trail) (law : Laws v ls (variableValue t
   satisfied all f = all-zip (some-zip (literal-true v t all)) (split ls) (none-failed-each (variableValue t) ls (law .none-failed f)) proper
 
   on-forced : (l : ℤ) → Some (Forces (variableValue t) l) (split ls) → Stepped v ls t (Moved (entry l 0 ∷ t))
-  on-forced l f = append (entry l 0) (meet right (split ls) f proper) (λ a s g w. clash (forced-true l f a s g) w)
+  on-forced l f = append (entry l 0) (meet is-legal (split ls) f proper) (λ a s g w. clash (forced-true l f a s g) w)
     where
-      right : (c : List ℤ) → Forces (variableValue t) l c → All (Proper v) c → Right v t (entry l 0)
-      right c k ps =
+      is-legal : (c : List ℤ) → Forces (variableValue t) l c → All (Proper v) c → LegalEntry v t (entry l 0)
+      is-legal c k ps =
           record {
             proper = all-at (Proper v) ps (k .holds);
             free = variable-free t l (k .unassigned);
-            marked = omega arith;
+            mark-small = omega arith;
           }
 
   on-unassigned : (o : Option ℕ) → lowestUnassigned v (variableValue t) ≡ o → failedClause (variableValue t) ls ≡ none → Stepped v ls t (onUnassigned o t)
   on-unassigned none h f = let all = all-assigned (variableValue t) v (law .none-free h) in full all (satisfied all f)
-  on-unassigned (some n) h f = append (entry (negsuc n) 1) right (λ a s g w. refl)
+  on-unassigned (some n) h f = append (entry (negsuc n) 1) is-legal (λ a s g w. refl)
     where
-      right : Right v t (entry (negsuc n) 1)
-      right =
+      is-legal : LegalEntry v t (entry (negsuc n) 1)
+      is-legal =
           record {
             proper = record { nonzero = refl; within = le-ltb v (suc n) (law .free h .to-V) };
             free = law .free h .unassigned;
-            marked = omega arith;
+            mark-small = omega arith;
           }
 
   on-failed : {i : ℕ} → failedClause (variableValue t) ls ≡ some i → (o : Option Trail) → undo t ≡ o → Stepped v ls t (undone o)
