@@ -75,7 +75,7 @@ module _ (p q : ℕ → Bool) (k : ℕ) (new : p k ≡ false) (passes : q k ≡ 
 abbrev pub assigned : Trail → ℕ → Bool
 assigned t k = not (isUnassigned (variableValue t (suc k)))
 
-made-assigned : (l : ℤ) → not (isUnassigned (made l)) ≡ true
+pub made-assigned : (l : ℤ) → not (isUnassigned (made l)) ≡ true
 made-assigned (pos n) = refl
 made-assigned (negsuc n) = refl
 
