@@ -1,15 +1,17 @@
--- Laws of the first index at which a test holds, and of a loop that seeks it. Assumes nothing.
+-- Laws of the first index at which a test holds, of a loop that seeks it, and of the first element with a property. Assumes nothing.
 use Prim.Native.Nat.{ℕ, zero, suc, _+_, _≤_, _<_}
 use native.Mathlib.Omega.{arith}
 use native.Mathlib.Decide.{ℕ-discrete, decLt}
 use mathlib.Core.Path.{_≡_, refl, sym, _∙_, ap, subst}
 use mathlib.Core.Bool.{Bool, true, false}
-use mathlib.Core.Logic.{_⊎_, inl, inr}
+use mathlib.Core.Logic.{_⊎_, inl, inr, _↔_}
 use mathlib.Core.Option.{Option, none, some, Option·some-injective, Option·some-ne-none}
+use mathlib.Core.List.{List}
 use Rattle.answers.specs.declared.Place.{Place}
 use Rattle.answers.specs.declared.Place.the-variants.{At, Nowhere}
-use Rattle.answers.specs.First.{found, firstFrom, firstWhere, Least, placed}
-use Rattle.answers.proofs.Bools.{clash}
+use Rattle.answers.specs.First.{found, firstFrom, firstWhere, Least, LeastWith, NoneBelow, FirstIn, here, later, NoneIn, placed}
+use Rattle.answers.specs.Lists.{Some}
+use Rattle.answers.proofs.Bools.{clash, off}
 
 -- the least of the n numbers from a on
 record LeastFrom (p : ℕ → Bool) (a n m : ℕ) : Type 0 where
@@ -113,6 +115,49 @@ first-same p q n h = by (firstWhere p n) refl
           first = λ k b. sym
               (h k (let z = l .below in omega arith)) ∙ l .first k b;
         }))
+
+-- a test for a property finds the least number with it, and none exactly if there is none
+module _ (p : ℕ → Bool) (P : ℕ → Type 0) (n : ℕ) (tests : (k : ℕ) → k < n → p k ≡ true ↔ P k) where
+  fails-at : (k : ℕ) → k < n → (P k → ⊥) → p k ≡ false
+  fails-at k h f = off (p k) (λ e. f (tests k h .0 e))
+
+  pub first-with : (m : ℕ) → firstWhere p n ≡ some m ↔ LeastWith P n m
+  first-with m = (to, of)
+    where
+      to : firstWhere p n ≡ some m → LeastWith P n m
+      to e =
+          let l = first-some p n m e in
+          let b = l .below in
+          record { below = b; holds = tests m b .0 (l .holds); first = λ k h x. clash (tests k (omega arith) .1 x) (l .first k h) }
+
+      of : LeastWith P n m → firstWhere p n ≡ some m
+      of l =
+          let b = l .below in
+          some-first p n (record { below = b; holds = tests m b .1 (l .holds); first = λ k h. fails-at k (omega arith) (l .first k h) })
+
+  pub none-with : firstWhere p n ≡ none ↔ NoneBelow P n
+  none-with = (λ e k h x. clash (tests k h .1 x) (first-none p n e k h), λ f. none-first p n (λ k h. fails-at k h (f k h)))
+
+-- the first element with a property
+module _ {A : Type 0} {P : A → Type 0} where
+  pub first-holds : {xs : List A} {k : ℕ} {x : A} → FirstIn P xs k x → P x
+  first-holds (here h) = h
+  first-holds (later n f) = first-holds f
+
+  -- something else that holds of it holds of some element
+  pub first-some-in : (Q : A → Type 0) {xs : List A} {k : ℕ} {x : A} → FirstIn P xs k x → Q x → Some Q xs
+  first-some-in Q (here h) q = inl q
+  first-some-in Q (later n f) q = inr (first-some-in Q f q)
+
+  pub not-none : {xs : List A} {k : ℕ} {x : A} → FirstIn P xs k x → NoneIn P xs → ⊥
+  not-none (here h) n = n .0 h
+  not-none (later m f) n = not-none f (n .1)
+
+  pub only-first : {xs : List A} {j k : ℕ} {x y : A} → FirstIn P xs j x → FirstIn P xs k y → (j ≡ k) × (x ≡ y)
+  only-first (here h) (here g) = (refl, refl)
+  only-first (here h) (later n g) = absurd (n h)
+  only-first (later m f) (here g) = absurd (m g)
+  only-first (later m f) (later n g) = let r = only-first f g in (ap suc (r .0), r .1)
 
 -- at the head of a loop that seeks the first: the test holds nowhere below i
 pub record Seeking (p : ℕ → Bool) (n i : ℕ) : Type 0 where

@@ -1,10 +1,13 @@
--- "First": the least number below n at which a test holds. Every "first .." of document 01 is an instance.
+-- "First": the least number below n at which a test holds. Every "first .." of document 01 is an instance. And "first" of a property, of numbers or of the
+-- elements of a list, for what is said without a test.
 use Prim.Native.Nat.{ℕ, zero, suc, _<_}
 use mathlib.Core.Path.{_≡_}
 use mathlib.Core.Bool.{Bool, true, false}
 use mathlib.Core.Option.{Option, none, some}
+use mathlib.Core.List.{List, _∷_}
 use Rattle.answers.specs.declared.Place.{Place}
 use Rattle.answers.specs.declared.Place.the-variants.{At, Nowhere}
+use Rattle.answers.specs.Lists.{All}
 
 abbrev pub found : Bool → ℕ → Option ℕ → Option ℕ
 found true a rest = some a
@@ -28,6 +31,25 @@ pub record Least (p : ℕ → Bool) (n m : ℕ) : Type 0 where
   pub below : m < n
   pub holds : p m ≡ true
   pub first : (k : ℕ) → k < m → p k ≡ false
+
+-- m is the least number below n with a property
+pub record LeastWith (P : ℕ → Type 0) (n m : ℕ) : Type 0 where
+  pub below : m < n
+  pub holds : P m
+  pub first : (k : ℕ) → k < m → P k → ⊥
+
+-- no number below n has it
+abbrev pub NoneBelow : (ℕ → Type 0) → ℕ → Type 0
+NoneBelow P n = (k : ℕ) → k < n → P k → ⊥
+
+-- x is the first element of a list with a property, and k its index
+pub data FirstIn {A : Type 0} (P : A → Type 0) : List A → ℕ → A → Type 0 where
+  here : {x : A} {xs : List A} → P x → FirstIn P (x ∷ xs) 0 x
+  later : {x y : A} {xs : List A} {k : ℕ} → (P y → ⊥) → FirstIn P xs k x → FirstIn P (y ∷ xs) (suc k) x
+
+-- no element has it
+abbrev pub NoneIn : {A : Type 0} → (A → Type 0) → List A → Type 0
+NoneIn P xs = All (λ x. P x → ⊥) xs
 
 -- the code's answer to such a search
 abbrev pub placed : Place → Option ℕ

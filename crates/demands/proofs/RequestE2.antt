@@ -63,6 +63,6 @@ request-e2 =
       next-adds-up = λ c ok a h says. by-search c ok a says h .1;
       next-unaltered = λ c ok. budgets.unaltered ok;
       next-called-again = called-again;
-      in-slices = λ c ok. budgets.in-parts ok;
-      next-in-slices = λ c ok. budgets.in-parts ok;
+      in-parts = λ c ok. budgets.in-parts ok;
+      next-in-parts = λ c ok. budgets.in-parts ok;
     }

@@ -28,7 +28,8 @@ use Rattle.search.specs.Trail.{trailOf, variableValue}
 use Rattle.search.specs.Step.{everyLiteral, firstClause, forcedAt, failedClause, forcedPlace, lowestUnassigned, undo, step}
 use Rattle.search.specs.Run.{None, endingNumber, run, following}
 use Rattle.search.specs.Call.{Search, Handed, searchOn, Searching, bySearch}
-use Rattle.search.proofs.Cases as lists
+use Rattle.search.specs.Cases as lists
+use Rattle.search.proofs.Cases.{cases-hold as lists-hold}
 use Rattle.search_theory.specs.Listing.{none}
 use Rattle.dimacs.specs.Sample.{oneCellText}
 use Rattle.search_theory.proofs.Handed.{taken-answered, ends-at}
@@ -157,4 +158,4 @@ stars-hold =
     all-append Holds (map grid gridStars) (map refused records.readerCases ++ map list lists.cases) grids-hold
     (all-append Holds (map refused records.readerCases) (map list lists.cases)
     (at-each (λ (c : records.ReaderCase). recordAnswer (c .bytes)) (λ c. c .says) records.readerCases reader-cases-hold)
-    (at-each lists.fromEmpty (λ c. c .says) lists.cases lists.cases-hold))
+    (at-each lists.fromEmpty (λ c. c .says) lists.cases lists-hold))

@@ -16,7 +16,7 @@ use mathlib.Core.Bool.{Bool}
 use mathlib.Core.Logic.{_↔_, _⊎_}
 use mathlib.Core.Option.{some}
 use mathlib.Core.List.{List, [], _∷_, _++_}
-use Rattle.answers.specs.First.{firstWhere, Least}
+use Rattle.answers.specs.First.{firstWhere, Least, LeastWith}
 use Rattle.answers.specs.Outcome.{answer}
 use Rattle.answers.specs.Lent.{capped, tooShort, filled}
 use Rattle.answers.specs.ByRows.{ByRows}
@@ -24,6 +24,7 @@ use Rattle.rules.specs.Record.{recordRows, recordAnswer, IsAccepted}
 use Rattle.rules.specs.Board.{Board, boardOf}
 use Rattle.rules.specs.Drawing.{SolutionBytes}
 use Rattle.rules.specs.Judge.{judgeRows, judgeAnswer, saysYes}
+use Rattle.cnf.specs.Literals.{wrongList}
 use Rattle.cnf.specs.Clauses.{clauseCount}
 use Rattle.dimacs.specs.Text.{textOf, Accepted}
 use Rattle.dimacs.specs.Reader.{refusedAt}
@@ -35,9 +36,10 @@ use Rattle.encoder.specs.Variables.{variableCount}
 use Rattle.encoder.specs.Clauses.{touching, clueLines, links, start, distance, written, clauseList}
 use Rattle.encoder.specs.Encoding.{encoderRows, encoderAnswer, encoderLeaves}
 use Rattle.encoder.specs.Decoding.{decoderAnswer, decoderLeaves, Satisfying, DecodesTo}
-use Rattle.search.specs.Trail.{valuesOf}
+use Rattle.search.specs.Trail.{Slices, valuesOf}
 use Rattle.search.specs.Run.{Found, None, Halted}
-use Rattle.search.specs.Call.{Search, Searching, rowsOf, begins, IsTaken, bySearch, Says, steps, endsAt}
+use Rattle.search.specs.Call.{Search, Handed, wrongEntryAt, Searching, rowsOf, begins, IsTaken, bySearch, Says, steps, endsAt}
+use Rattle.search_theory.specs.Faults.{ListFault, EntryFault}
 use Rattle.search_theory.specs.Openings.{OpenAt, FoundOne}
 use Rattle.search_theory.specs.ListedSteps.{Stepped}
 use Rattle.solver.specs.Begun.{BegunOn}
@@ -61,9 +63,12 @@ pub record Demand1 : Type 0 where
   pub writer : (v : ℕ) (ls : List ℤ) (out : List ℕ)
       → ByRows (17 ∷ 16 ∷ 6 ∷ []) (writerRows v ls (length out)) (writerAnswer v ls out) (writerLeaves v ls out ≡ out)
   pub text-reader : (text : List ℕ) (out : List ℤ) → ByRows (19 ∷ 6 ∷ []) (readerRows text (length out)) (readerAnswer text out) (readerLeaves text out ≡ out)
-  -- (The places: each "first .." of the table is the least index at which a test holds; beside 6 stand the elements needed; and the place beside 19 is the
-  -- "first byte where no accepted text can go on, or the text's length if it ends too soon".)
+  -- (The places: each "first .." of the table is the least index at which a test holds; of the tests, those of 16 and 18 are said here in the table's words;
+  -- beside 6 stand the elements needed; and the place beside 19 is the "first byte where no accepted text can go on, or the text's length if it ends too
+  -- soon".)
   pub first-place : (p : ℕ → Bool) (n m : ℕ) → firstWhere p n ≡ some m ↔ Least p n m
+  pub list-place : (v : ℕ) (ls : List ℤ) (i : ℕ) → wrongList v ls ≡ some i ↔ ListFault v ls i
+  pub entry-place : (v : ℕ) (s : Slices) (used i : ℕ) → firstWhere (wrongEntryAt v s) used ≡ some i ↔ LeastWith (EntryFault v s) used i
   pub too-short : (room needed n : ℕ) → tooShort room needed ≡ some n ↔ (room < needed) × (n ≡ capped needed)
   pub text-place : (text : List ℕ) (k : ℕ) → refusedAt text ≡ some k ↔ Refused Accepted text k
   -- "and every call ends."
@@ -89,7 +94,9 @@ pub record Demand2 : Type 0 where
   pub written-again : (text : List ℕ) (out : List ℤ) (buf : List ℕ) → readerAnswer text out .number ≡ 0 → (getD text 0 0 ≡ 99 → ⊥) → length text ≤ length buf
       → Writes (readerAnswer text out .second) (elementsRead text out) buf text
   -- "and the search makes the listed steps, no others."
+  -- (What it hands out is what these steps come to, and they come to nothing else.)
   pub listed-steps : (c : Search) → IsTaken Searching c → (budget : ℕ) → Stepped Searching c budget (bySearch c budget)
+  pub no-others : (c : Search) → IsTaken Searching c → (budget : ℕ) (h : Handed) → Stepped Searching c budget h → h ≡ bySearch c budget
 
 -- DEMAND 3
 pub record Demand3 : Type 0 where

@@ -24,5 +24,5 @@ pub record RequestE2 : Type 0 where
   pub next-called-again : (c : Search) → IsTaken Following c
       → IsTaken Following (resumed c (byNext c 0)) × ((b : ℕ) → byNext (resumed c (byNext c 0)) b ≡ byNext c b)
   -- "Dealing runs in idle slices and we change their size." (Of either call, in any number of parts, the first with budget a.)
-  pub in-slices : (c : Search) → IsTaken Searching c → (a : ℕ) (bs : List ℕ) → inParts Searching c a bs ≡ bySearch c (total a bs)
-  pub next-in-slices : (c : Search) → IsTaken Following c → (a : ℕ) (bs : List ℕ) → inParts Following c a bs ≡ byNext c (total a bs)
+  pub in-parts : (c : Search) → IsTaken Searching c → (a : ℕ) (bs : List ℕ) → inParts Searching c a bs ≡ bySearch c (total a bs)
+  pub next-in-parts : (c : Search) → IsTaken Following c → (a : ℕ) (bs : List ℕ) → inParts Following c a bs ≡ byNext c (total a bs)

@@ -1,7 +1,6 @@
 -- Document 02, E3, "Line count in the text's order", as one statement, in its order and words; what is in quotation marks is the request's.
--- "The text" is document 004. The judge's counting is `judge_cells::cells::blacks_nearest`: by its contract it hands out `blacksNearest` of the line for each j
--- from 0
--- to the line's length. After j cells of the line of a clue in cell x comes `getD line j x`, the clue's own cell x after all of them.
+-- "The text" is document 004. The judge's counting is `judge_cells::cells::blacks_nearest`: by its contract it hands out `blacksNearest` of the line for
+-- each j from 0 to the line's length. After j cells of the line of a clue in cell x comes `getD line j x`, the clue's own cell x after all of them.
 use Prim.Native.Nat.{ℕ, suc, _≤_, _<_}
 use lib.ListN.{length, getD}
 use mathlib.Core.Path.{_≡_}
@@ -28,9 +27,8 @@ pub record RequestE3 : Type 0 where
       → neighbour (p .grid) (opposite d) (getD (line p d x) j x) ≡ some (getD (line p d x) (suc j) x)
   pub to-clue : (p : Puzzle) (d : Direction) (x : ℕ) → getD (line p d x) (length (line p d x)) x ≡ x
   -- "so that the two can be read side by side:"
-  -- (Of an assignment that satisfies a grid's clauses and the drawing that it decodes to, and a clue in cell x with its direction and number: T(j,t), the
-  -- text's
-  -- count, holds exactly if the judge's count after j cells is t.)
+  -- (Of an assignment that satisfies a grid's clauses and the drawing that it decodes to, and a clue in cell x with its direction and number: T(j,t),
+  -- the text's count, holds exactly if the judge's count after j cells is t.)
   pub side-by-side : (s : List ℕ) → IsAccepted s → (a : List Bool) → Satisfying s a → (ds : List ℕ) → DecodesTo s a ds
       → (x : ℕ) (d : Direction) (n : ℕ) → x < size (sides s) → getD (puzzle (sides s) s .cells) x Open ≡ Clued d n
       → (j t : ℕ) → j ≤ length (line (puzzle (sides s) s) d x) → t ≤ n

@@ -91,13 +91,13 @@ module _ (x : Call) (s : Search) where
     abbrev pub runs : Done
     runs = comesTo x (s .variables) (s .list) budget (begins s)
 
-    -- what it tells
-    abbrev pub tells : Outcome
-    tells = firstRefusal (rowsOf s x) (doneOutcome runs)
+    -- what it tells: a refusal, or what it comes to
+    abbrev pub outcomeOf : Outcome
+    outcomeOf = firstRefusal (rowsOf s x) (doneOutcome runs)
 
     -- it leaves the trail at which it ends
     abbrev pub hands : Handed
-    hands = record { outcome = tells; slices = unlessRefused tells (s .slices) (image (s .variables) (runs .trail)) }
+    hands = record { outcome = outcomeOf; slices = unlessRefused outcomeOf (s .slices) (image (s .variables) (runs .trail)) }
 
 -- what a call hands out that comes to d in slices of V elements
 abbrev pub handsDone : ℕ → Done → Handed

@@ -9,7 +9,7 @@ use mathlib.Core.List.{List}
 use Rattle.search.specs.Trail.{Entry, entry, Trail, Values, variableValue}
 use Rattle.search.specs.Step.{failedClause, forcedPlace, lowestUnassigned, Next, Moved, undoes, step}
 use Rattle.search_theory.proofs.Lists.{proper-clauses}
-use Rattle.search_theory.proofs.Legal.{Legal}
+use Rattle.search_theory.specs.Legal.{Legal}
 use Rattle.search_theory.proofs.Choices.{choice-laws}
 use Rattle.search_theory.proofs.Steps.{Stepped, moved, exhausted, full, stepped}
 use Rattle.search_scan.specs.PackedValues.{packedValues}

@@ -8,7 +8,7 @@ use mathlib.Core.List.{List, _∷_}
 use Rattle.cnf.specs.Literals.{unclosed}
 use Rattle.search.specs.Trail.{Entry, Trail}
 use Rattle.search.specs.Step.{Next, Moved, AnsweredFound, AnsweredNone}
-use Rattle.search_theory.proofs.Legal.{Legal}
+use Rattle.search_theory.specs.Legal.{Legal}
 use Rattle.search_scan.specs.PackedValues.{Within}
 use Rattle.search_trail.specs.Packed.{packedTrail, Packed}
 use Rattle.search_step.specs.declared.Stepped.{Stepped}

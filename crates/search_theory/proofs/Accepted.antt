@@ -2,13 +2,12 @@
 use Prim.Native.Nat.{ℕ, _-_, _≤_, _<_}
 use native.Mathlib.Omega.{arith}
 use lib.Dec.{eqb, ltb}
-use lib.IntN.{ℤ, pos}
+use lib.IntN.{pos}
 use lib.ListN.{length, replicate, length-replicate}
 use borrow.Author.Tests.{eqb-true, ltb-false, eq-eqb, le-ltb, not-false}
 use mathlib.Core.Path.{_≡_, refl, sym, ap, subst}
 use mathlib.Core.Bool.{false, not}
 use mathlib.Core.Option.{Option, none, some, Option·some-ne-none}
-use mathlib.Core.List.{List}
 use Rattle.answers.specs.First.{firstWhere}
 use Rattle.answers.specs.Lists.{All}
 use Rattle.answers.specs.Outcome.{cause}
@@ -21,8 +20,9 @@ use Rattle.cnf.specs.Clauses.{split}
 use Rattle.search.specs.Trail.{Entry, Trail, Slices, HasLength, imageBy, image, trailOf}
 use Rattle.search.specs.Call.{Search, wrongLengths, wrongEntryAt, Call, Searching, Following, searchRows, rowsOf, begins, IsTaken, onSlices}
 use Rattle.search.proofs.Trails.{length-laid, read-image}
-use Rattle.search_theory.proofs.Lists.{Proper, proper-clauses}
-use Rattle.search_theory.proofs.Legal.{Legal, read-legal, legal-read}
+use Rattle.search_theory.specs.Legal.{Proper, Legal}
+use Rattle.search_theory.proofs.Lists.{proper-clauses}
+use Rattle.search_theory.proofs.Legal.{read-legal, legal-read}
 use Rattle.search_theory.proofs.Full.{legal-length}
 
 neither : (o p : Option ℕ) → orElse o p ≡ none → (o ≡ none) × (p ≡ none)

@@ -10,8 +10,8 @@ use mathlib.Core.List.{List, [], _∷_}
 use Rattle.answers.proofs.Bools.{and-both, other-half}
 use Rattle.cnf.specs.Clauses.{Satisfies}
 use Rattle.search.specs.Trail.{Trail, valuesOf}
-use Rattle.search.specs.Run.{Halted, Done, endingNumber, following}
-use Rattle.search.specs.Call.{Search, Handed, Call, Searching, Following, begins, comesTo, IsTaken, runs, hands, handsDone, Says, steps, endsAt, resumed}
+use Rattle.search.specs.Run.{Halted, Done, following}
+use Rattle.search.specs.Call.{Search, Handed, Call, Searching, Following, begins, comesTo, IsTaken, runs, hands, handsDone, Says, steps, resumed}
 use Rattle.search.proofs.Trails.{length-trail, read-image}
 use Rattle.search.proofs.BudgetSums.{counted, halted-on, ended-on, run-adds, following-adds}
 use Rattle.search_theory.specs.Budgets.{goesOn, inAll, isHalted, total, inParts}

@@ -15,9 +15,9 @@ use Rattle.search.specs.Step.{undo, undone}
 use Rattle.search.specs.Run.{Ending, Found, None, Halted, Done, ends, oneMore, after, run, following}
 use Rattle.search.specs.Call.{Call, Searching, Following, comesTo}
 use Rattle.search_theory.specs.Budgets.{goesOn}
-use Rattle.search_theory.proofs.Lists.{Proper}
-use Rattle.search_theory.proofs.Legal.{Legal, AllAssigned}
-use Rattle.search_theory.proofs.Measure.{marked, number, number-more}
+use Rattle.search_theory.specs.Legal.{Proper, Legal}
+use Rattle.search_theory.proofs.Legal.{AllAssigned}
+use Rattle.search_theory.proofs.Measure.{choiceSum, number, number-more}
 use Rattle.search_theory.proofs.Undo.{Undone, undo-some, undo-none}
 use Rattle.search_theory.proofs.Runs.{Means, Ended, ended}
 use Rattle.search_theory.proofs.Orders.{Chosen, chosen-undo, chosen-run}
@@ -30,7 +30,7 @@ Left Following a t = Turned a t
 -- a number that falls from "found" to "found"
 abbrev pub room : ℕ → Call → Trail → ℕ
 room v Searching t = number v t
-room v Following t = marked v t
+room v Following t = choiceSum v t
 
 -- what an answer means: x of a call begun at t that ends at u, after n steps of a budget b
 abbrev pub Meaning : ℕ → List ℤ → Call → Trail → ℕ → Ending → ℕ → Trail → Type 0

@@ -1,147 +1,49 @@
--- The laws of a step's three choices: what is chosen fails, is forced, is unassigned and has the lower variables assigned; where no clause
--- is chosen none fails, where no variable is chosen each is assigned. The theory rests on the record `Laws` and never looks at how a choice
--- is sought. Assumes nothing.
-use Prim.Native.Nat.{ℕ, suc, _-_, _<_}
+-- The laws of a step's three choices: what is found is the first failed clause, the first that forces a literal, the lowest unassigned variable, and where
+-- nothing is found there is none. The theory rests on the record `Laws` and never looks at how a choice is sought. Assumes nothing.
+use Prim.Native.Nat.{ℕ, zero, suc, _+_, _≤_, _<_}
 use native.Mathlib.Omega.{arith}
-use native.Mathlib.Numerals.{add-one}
+use native.Mathlib.Decide.{decLt}
 use lib.Dec.{eqb}
 use lib.IntN.{ℤ, pos, negsuc}
-use lib.ListN.{length, getD, drop}
-use lib.Seq.{drop-drop, getD-drop}
-use borrow.Author.Tests.{eqb-true, not-false}
-use mathlib.Core.Path.{_≡_, refl, sym, _∙_, ap}
-use mathlib.Core.Bool.{Bool, true, false, not, _&&_, _||_, cond}
-use mathlib.Core.Logic.{_⊎_, inl, inr, ⊎-elim}
-use mathlib.Core.Option.{Option, none, some, Option·some-ne-none}
-use mathlib.Core.List.{List, [], _∷_}
-use Rattle.answers.specs.First.{found, orElse}
-use Rattle.answers.specs.Lists.{All, Some}
-use Rattle.answers.proofs.Bools.{clash, or-cases, or-left}
-use Rattle.answers.proofs.First.{first-some, first-none, not-found}
+use lib.ListN.{getD, drop}
+use lib.Seq.{getD-drop}
+use borrow.Author.Tests.{eqb-true, eq-eqb, not-false}
+use mathlib.Core.Path.{_≡_, refl, sym, _∙_, ap, subst}
+use mathlib.Core.Bool.{Bool, true, false, cond}
+use mathlib.Core.Logic.{_⊎_, inl, inr, ⊎-elim, _↔_}
+use mathlib.Core.Option.{Option, none, some}
+use mathlib.Core.List.{List, [], _∷_, List·Memᴰ·head, List·Memᴰ·tail, List·Memᴰ·cases-cons, List·Memᴰ·not-nil}
+use Rattle.answers.specs.First.{found}
+use Rattle.answers.specs.Lists.{All, Some, _∈_}
+use Rattle.answers.proofs.Bools.{clash, off, or-cases, or-neither}
+use Rattle.answers.proofs.Elements.{all-at}
+use Rattle.answers.proofs.First.{first-with, none-with, first-holds, first-some-in, not-none, only-first}
 use Rattle.cnf.specs.Literals.{closes, codeOf, unclosed}
-use Rattle.cnf.specs.Clauses.{splitStep, split}
+use Rattle.cnf.specs.Clauses.{split}
 use Rattle.cnf.proofs.Lists.{closed-rest}
 use Rattle.search.specs.Trail.{Value, True, False, Unassigned, isFalse, isUnassigned, literalValue, Values}
-use Rattle.search.specs.Step.{everyLiteral, firstClause, fails, failedAt, failsBut, byValue, forcedAt, failedClause, forcedPlace, lowestUnassigned}
-use Rattle.search_theory.proofs.Lists.{all-map, nothing, found-some}
-use Rattle.search_theory.proofs.Legal.{AllAssigned}
-
--- a clause whose literals all pass a test, and one with a literal that does not
-abbrev pub Passes : (ℤ → Bool) → List ℤ → Type 0
-Passes p c = All (λ l. p l ≡ true) c
-
-abbrev pub Misses : (ℤ → Bool) → List ℤ → Type 0
-Misses p c = Some (λ l. p l ≡ false) c
-
--- a clause that forces l: it holds l, which is unassigned, and its other literals are false
-pub record Forces (w : Values) (l : ℤ) (c : List ℤ) : Type 0 where
-  pub unassigned : literalValue w l ≡ Unassigned
-  pub holds : Some (λ k. k ≡ l) c
-  pub others : All (λ k. (k ≡ l) ⊎ (fails w k ≡ true)) c
+use Rattle.search.specs.Step.{everyLiteral, fails, failedAt, failsBut, byValue, forcedAt, failedClause, forcedPlace, lowestUnassigned}
+use Rattle.search_theory.specs.Choices.{AllFalse, Forces, ForcesOne, FailedClause, NoneFailed, ForcingClause, NoneForcing, LowestUnassigned}
+use Rattle.search_theory.specs.Choices.{NoneUnassigned}
+use Rattle.search_theory.proofs.Lists.{all-map, all-zip, meet}
+use Rattle.search_theory.proofs.Legal.{AllAssigned, unassigned}
+use Rattle.search_theory.proofs.FirstClauses.{Begins, begins-closed, begins-same, begins-more, Tested, every, tail-drop, Looked, FirstAt, clause-first}
 
 -- the laws, of any way to choose
 pub record Laws (v : ℕ) (ls : List ℤ) (w : Values) : Type 0 where
-  pub failed : {i : ℕ} → failedClause w ls ≡ some i → Some (Passes (fails w)) (split ls)
-  pub none-failed : failedClause w ls ≡ none → All (Misses (fails w)) (split ls)
-  pub forced : {i : ℕ} → forcedPlace w ls ≡ some i → Some (Forces w (getD ls i (pos 0))) (split ls)
-  pub free : {n : ℕ} → lowestUnassigned v w ≡ some n → (n < v) × (isUnassigned (w (suc n)) ≡ true)
-  pub lowest : {n : ℕ} → lowestUnassigned v w ≡ some n → AllAssigned n w
-  pub none-free : lowestUnassigned v w ≡ none → AllAssigned v w
+  pub failed : {i : ℕ} → failedClause w ls ≡ some i → (k : ℕ) × FailedClause w ls k
+  pub none-failed : failedClause w ls ≡ none → NoneFailed w ls
+  pub forced : {i : ℕ} → forcedPlace w ls ≡ some i → (k : ℕ) × ForcingClause w ls k (getD ls i (pos 0))
+  pub none-forced : forcedPlace w ls ≡ none → NoneForcing w ls
+  pub free : {n : ℕ} → lowestUnassigned v w ≡ some n → LowestUnassigned w v (suc n)
+  pub none-free : lowestUnassigned v w ≡ none → NoneUnassigned w v
 
--- the first clause of a list, with what holds of it
-record Begins (P : List ℤ → Type 0) (ls : List ℤ) : Type 0 where
-  clause : List ℤ
-  later : List (List ℤ)
-  splits : split ls ≡ clause ∷ later
-  holds : P clause
+-- 1. Clauses that fail, and that force
 
-begins-any : (l : ℤ) (ls : List ℤ) → Begins (λ c. Unit) (l ∷ ls)
-unfolding split
-begins-any l ls = by (closes l) (split ls) refl
-  where
-    by : (z : Bool) (cs : List (List ℤ)) → splitStep (closes l) l (split ls) ≡ splitStep z l cs → Begins (λ c. Unit) (l ∷ ls)
-    by true cs e = record { clause = []; later = cs; splits = e; holds = tt }
-    by false [] e = record { clause = l ∷ []; later = []; splits = e; holds = tt }
-    by false (c ∷ cs) e = record { clause = l ∷ c; later = cs; splits = e; holds = tt }
-
--- one literal before it
-module _ {P Q : List ℤ → Type 0} (l : ℤ) (ls : List ℤ) (z : closes l ≡ false) (more : (c : List ℤ) → P c → Q (l ∷ c)) where
-  begins-more : Begins P ls → Begins Q (l ∷ ls)
-  unfolding split
-  begins-more b = record { clause = l ∷ b .clause; later = b .later; splits = rw (z, b .splits); holds = more (b .clause) (b .holds) }
-
--- a list that is the end of another, less its first element
-tail-drop : (whole : List ℤ) (i : ℕ) (l : ℤ) (ls : List ℤ) → (l ∷ ls) ≡ drop i whole → ls ≡ drop (suc i) whole
-tail-drop whole i l ls e = ap (drop 1) e ∙ drop-drop 1 i whole ∙ ap (λ k. drop k whole) (add-one i)
-
--- the literals up to the 0 are the first clause
-module _ (p : ℤ → Bool) where
-  every-true : (ls : List ℤ) → everyLiteral p ls ≡ true → Begins (Passes p) ls
-  unfolding everyLiteral split
-  every-true [] h = clash h refl
-  every-true (l ∷ ls) h = by (closes l) refl (p l) refl (everyLiteral p ls) (every-true ls) h
-    where
-      by : (z : Bool) → closes l ≡ z → (w : Bool) → p l ≡ w → (rest : Bool) → (rest ≡ true → Begins (Passes p) ls) → z || (w && rest) ≡ true
-          → Begins (Passes p) (l ∷ ls)
-      by true q w r rest go h = record { clause = []; later = split ls; splits = rw q; holds = tt }
-      by false q true r rest go h = begins-more l ls q (λ c k. (r, k)) (go h)
-      by false q false r rest go h = clash h refl
-
-  every-false : (l : ℤ) (ls : List ℤ) → unclosed (l ∷ ls) ≡ false → everyLiteral p (l ∷ ls) ≡ false → Begins (Misses p) (l ∷ ls)
-  unfolding everyLiteral
-  every-false l [] u h = clash (or-left (closes l) _ (not-false (closes l) u)) h
-  every-false l (m ∷ ls) u h = by (closes l) refl (p l) refl (everyLiteral p (m ∷ ls)) (every-false m ls (closed-rest l (m ∷ ls) u)) h
-    where
-      by : (z : Bool) → closes l ≡ z → (w : Bool) → p l ≡ w → (rest : Bool) → (rest ≡ false → Begins (Misses p) (m ∷ ls)) → z || (w && rest) ≡ false
-          → Begins (Misses p) (l ∷ m ∷ ls)
-      by true q w r rest go h = clash refl h
-      by false q true r rest go h = begins-more l (m ∷ ls) q (λ c k. inr k) (go h)
-      by false q false r rest go h = begins-more l (m ∷ ls) q (λ c k. inl r) (begins-any m ls)
-
--- the clauses that begin in a list: its first one does, or is the rest of one that began before
-abbrev here : Bool → List ℤ → List (List ℤ)
-here true ls = split ls
-here false ls = drop 1 (split ls)
-
-here-rest : (l : ℤ) (ls : List ℤ) → drop 1 (split (l ∷ ls)) ≡ here (closes l) ls
-unfolding split
-here-rest l ls = by (closes l) (split ls) refl
-  where
-    by : (z : Bool) (cs : List (List ℤ)) → split ls ≡ cs → drop 1 (splitStep z l cs) ≡ here z ls
-    by true cs e = sym e
-    by false [] e = rw e
-    by false (c ∷ cs) e = rw e
-
--- what is found is found at some clause; where nothing is found there is nothing at any
-module _ (look : ℕ → List ℤ → Option ℕ) (P : List ℤ → Type 0) where
-  module _ (whole : List ℤ) (p : ℕ) (right : (i : ℕ) (ls : List ℤ) → ls ≡ drop i whole → look i ls ≡ some p → Begins P ls) where
-    clause-some : (b : Bool) (i : ℕ) (ls : List ℤ) → ls ≡ drop i whole → firstClause look b i ls ≡ some p → Some P (here b ls)
-    unfolding firstClause
-    clause-some b i [] e h = nothing h
-    clause-some b i (l ∷ ls) e h = by b (look i (l ∷ ls)) _ refl h (λ k. rw (here-rest l ls) (clause-some (closes l) (suc i) ls (tail-drop whole i l ls e) k))
-      where
-        later : (cs : List (List ℤ)) → Some P (drop 1 cs) → Some P cs
-        later [] k = k
-        later (c ∷ cs) k = inr k
-
-        by : (b : Bool) (o rest : Option ℕ) → look i (l ∷ ls) ≡ o → cond b (orElse o rest) rest ≡ some p → (rest ≡ some p → Some P (drop 1 (split (l ∷ ls))))
-            → Some P (here b (l ∷ ls))
-        by true (some q) rest r h go = let f = right i (l ∷ ls) e (r ∙ h) in rw (f .splits) (inl (f .holds))
-        by true none rest r h go = later (split (l ∷ ls)) (go h)
-        by false o rest r h go = go h
-
-  module _ (right : (i : ℕ) (l : ℤ) (ls : List ℤ) → unclosed (l ∷ ls) ≡ false → look i (l ∷ ls) ≡ none → Begins P (l ∷ ls)) where
-    clause-none : (b : Bool) (i : ℕ) (ls : List ℤ) → unclosed ls ≡ false → firstClause look b i ls ≡ none → All P (here b ls)
-    unfolding firstClause split
-    clause-none true i [] u h = tt
-    clause-none false i [] u h = tt
-    clause-none b i (l ∷ ls) u h = by b (look i (l ∷ ls)) _ refl h (λ k. rw (here-rest l ls) (clause-none (closes l) (suc i) ls (closed-rest l ls u) k))
-      where
-        by : (b : Bool) (o rest : Option ℕ) → look i (l ∷ ls) ≡ o → cond b (orElse o rest) rest ≡ none → (rest ≡ none → All P (drop 1 (split (l ∷ ls))))
-            → All P (here b (l ∷ ls))
-        by true (some q) rest r h go = absurd (Option·some-ne-none q h)
-        by true none rest r h go = let f = right i l ls u r in rw (f .splits) (f .holds, rw (f .splits) at (go h))
-        by false o rest r h go = go h
+is-false : (x : Value) → isFalse x ≡ true → x ≡ False
+is-false True h = clash h refl
+is-false False h = refl
+is-false Unassigned h = clash h refl
 
 -- two literals with the same code
 same-code : (k l : ℤ) → codeOf k ≡ codeOf l → k ≡ l
@@ -150,45 +52,204 @@ same-code (pos m) (negsuc n) e = absurd (omega arith)
 same-code (negsuc m) (pos n) e = absurd (omega arith)
 same-code (negsuc m) (negsuc n) e = ap negsuc (omega arith)
 
--- the place that a clause gives is that of the literal which it forces
-module _ (w : Values) (whole : List ℤ) (p : ℕ) where
-  abbrev Forcing : List ℤ → Type 0
-  Forcing ls = Begins (Forces w (getD whole p (pos 0))) ls
-
-  forced-at : (i : ℕ) (ls : List ℤ) → ls ≡ drop i whole → forcedAt w i ls ≡ some p → Forcing ls
-  unfolding forcedAt
-  forced-at i [] e h = nothing h
-  forced-at i (l ∷ ls) e h = by (closes l) refl (literalValue w l) refl _ (forced-at (suc i) ls (tail-drop whole i l ls e)) h
+-- a clause that forces a literal: it holds that, which is unassigned, and its other literals are false
+module _ (w : Values) {l : ℤ} (c : List ℤ) where
+  pub others-false : Forces w l c → All (λ k. (k ≡ l) ⊎ (fails w k ≡ true)) c
+  others-false f = all-zip (λ k. by (literalValue w k)) c (f .none-true) (f .all-one)
     where
-      is : i ≡ p → l ≡ getD whole p (pos 0)
-      is q = ap (λ xs. getD xs 0 (pos 0)) e ∙ getD-drop i whole 0 (pos 0) ∙ ap (λ k. getD whole k (pos 0)) (omega arith)
+      by : {k : ℤ} (x : Value) → (x ≡ True → ⊥) → (x ≡ Unassigned → k ≡ l) → (k ≡ l) ⊎ (isFalse x ≡ true)
+      by True t u = absurd (t refl)
+      by False t u = inr refl
+      by Unassigned t u = inl (u refl)
 
-      other : (k : ℤ) → failsBut w l k ≡ true → (k ≡ l) ⊎ (fails w k ≡ true)
-      other k h = ⊎-elim (λ q. inl (same-code k l (eqb-true (codeOf k) (codeOf l) q))) inr (or-cases (eqb (codeOf k) (codeOf l)) (fails w k) h)
+  forces-by : literalValue w l ≡ Unassigned → l ∈ c → All (λ k. (k ≡ l) ⊎ (fails w k ≡ true)) c → Forces w l c
+  forces-by u m h =
+      record {
+        none-true = all-map (λ k. ⊎-elim (λ e t. clash refl (ap isUnassigned (sym u ∙ sym (ap (literalValue w) e) ∙ t))) (λ s t. clash s (ap isFalse t))) c h;
+        holds = m;
+        unassigned = u;
+        all-one = all-map (λ k. ⊎-elim (λ e t. e) (λ s t. clash s (ap isFalse t))) c h;
+      }
 
-      first : literalValue w l ≡ Unassigned → (c : List ℤ) → Passes (failsBut w l) c → Forces w l (l ∷ c)
-      first e c k = record { unassigned = e; holds = inl refl; others = (inl refl, all-map other c k) }
+module _ (w : Values) (whole : List ℤ) where
+  abbrev FailedHere : Option ℕ → List ℤ → Type 0
+  FailedHere o c = Looked (failedAt w) whole (AllFalse w) (λ p c. Unit) o c
 
-      further : {m : ℤ} → literalValue w l ≡ False → (c : List ℤ) → Forces w m c → Forces w m (l ∷ c)
-      further e c k = record { unassigned = k .unassigned; holds = inr (k .holds); others = (inr (ap isFalse e), k .others) }
+  failed-at : (i : ℕ) (l : ℤ) (ls : List ℤ) → unclosed (l ∷ ls) ≡ false → (l ∷ ls) ≡ drop i whole → Begins (FailedHere (failedAt w i (l ∷ ls))) (l ∷ ls)
+  failed-at i l ls u e = by (everyLiteral (fails w) (l ∷ ls)) (every (fails w) l ls u)
+    where
+      by : (t : Bool) → Begins (Tested (fails w) t) (l ∷ ls) → Begins (FailedHere (found t i none)) (l ∷ ls)
+      by true b = begins-same (λ c h. (all-map (λ k. is-false (literalValue w k)) c h, tt)) b
+      by false b = begins-same (λ c h f. meet (λ k x y. clash (ap isFalse y) x) c h f) b
 
-      by : (z : Bool) → closes l ≡ z → (x : Value) → literalValue w l ≡ x → (rest : Option ℕ) → (rest ≡ some p → Forcing ls)
-          → cond z none (byValue x (found (everyLiteral (failsBut w l) ls) i none) rest) ≡ some p → Forcing (l ∷ ls)
-      by true q x r rest go h = nothing h
-      by false q True r rest go h = nothing h
-      by false q False r rest go h = begins-more l ls q (further r) (go h)
-      by false q Unassigned r rest go h =
-          let f = found-some (everyLiteral (failsBut w l) ls) i h in
-          rw (← is (f .1)) (begins-more l ls q (first r) (every-true (failsBut w l) ls (f .0)))
+  -- the place that is answered is that of the literal which the clause forces
+  abbrev ForcedHere : Option ℕ → List ℤ → Type 0
+  ForcedHere o c = Looked (forcedAt w) whole (ForcesOne w) (λ p. Forces w (getD whole p (pos 0))) o c
 
-pub choice-laws : (v : ℕ) (ls : List ℤ) (w : Values) → unclosed ls ≡ false → Laws v ls w
-unfolding failedClause forcedPlace lowestUnassigned
-choice-laws v ls w u =
-    record {
-      failed = λ {i} h. clause-some (failedAt w) _ ls i (λ j r e k. every-true (fails w) r (found-some (everyLiteral (fails w) r) j k .0)) true 0 ls refl h;
-      none-failed = λ h. clause-none (failedAt w) _ (λ j l r c k. every-false (fails w) l r c (not-found (everyLiteral (fails w) (l ∷ r)) j k)) true 0 ls u h;
-      forced = λ {i} h. clause-some (forcedAt w) _ ls i (forced-at w ls i) true 0 ls refl h;
-      free = λ {n} h. let l = first-some (λ n. isUnassigned (w (suc n))) v n h in (l .below, l .holds);
-      lowest = λ {n} h. first-some (λ n. isUnassigned (w (suc n))) v n h .first;
-      none-free = λ h. first-none (λ n. isUnassigned (w (suc n))) v h;
-    }
+  not-empty : {A : Type 0} → ForcesOne w [] → A
+  not-empty f = absurd (List·Memᴰ·not-nil (f .1 .holds))
+
+  forced-at : (i : ℕ) (l : ℤ) (ls : List ℤ) → unclosed (l ∷ ls) ≡ false → (l ∷ ls) ≡ drop i whole → Begins (ForcedHere (forcedAt w i (l ∷ ls))) (l ∷ ls)
+  unfolding forcedAt
+  forced-at i l [] u e = let z = not-false (closes l) u in rw z (begins-closed l [] z not-empty)
+  forced-at i l (m ∷ ls) u e =
+      by (closes l) refl (literalValue w l) refl (forcedAt w (suc i) (m ∷ ls))
+      (forced-at (suc i) m ls (closed-rest l (m ∷ ls) u) (tail-drop whole i l (m ∷ ls) e))
+      (everyLiteral (failsBut w l) (m ∷ ls)) (every (failsBut w l) m ls (closed-rest l (m ∷ ls) u))
+    where
+      is : l ≡ getD whole i (pos 0)
+      is = let z : i + 0 ≡ i = omega arith in ap (λ xs. getD xs 0 (pos 0)) e ∙ getD-drop i whole 0 (pos 0) ∙ ap (λ k. getD whole k (pos 0)) z
+
+      -- a literal more, which is false
+      further : {k : ℤ} → literalValue w l ≡ False → (c : List ℤ) → Forces w k c → Forces w k (l ∷ c)
+      further q c f = forces-by w (l ∷ c) (f .unassigned) (List·Memᴰ·tail (f .holds)) (inr (ap isFalse q), others-false w c f)
+
+      fewer : {k : ℤ} → literalValue w l ≡ False → (c : List ℤ) → Forces w k (l ∷ c) → Forces w k c
+      fewer {k} q c f = forces-by w c (f .unassigned) (⊎-elim other (λ h. h) (List·Memᴰ·cases-cons (f .holds))) (others-false w (l ∷ c) f .1)
+        where
+          other : k ≡ l → k ∈ c
+          other r = clash refl (ap isFalse (sym q ∙ sym (ap (literalValue w) r) ∙ f .unassigned))
+
+      -- the first that is not false is unassigned,
+      first : literalValue w l ≡ Unassigned → (c : List ℤ) → All (λ k. failsBut w l k ≡ true) c → Forces w l (l ∷ c)
+      first q c h = forces-by w (l ∷ c) q (List·Memᴰ·head refl) (inl refl, all-map same c h)
+        where
+          same : (k : ℤ) → failsBut w l k ≡ true → (k ≡ l) ⊎ (fails w k ≡ true)
+          same k h = ⊎-elim (λ q. inl (same-code k l (eqb-true (codeOf k) (codeOf l) q))) inr (or-cases (eqb (codeOf k) (codeOf l)) (fails w k) h)
+
+      -- but another one is neither false nor the same
+      second : literalValue w l ≡ Unassigned → (c : List ℤ) → Some (λ k. failsBut w l k ≡ false) c → ForcesOne w (l ∷ c) → ⊥
+      second q c h f = meet at c h (others-false w (l ∷ c) (f .1) .1)
+        where
+          at : (k : ℤ) → failsBut w l k ≡ false → (k ≡ f .0) ⊎ (fails w k ≡ true) → ⊥
+          at k r o =
+              let n = or-neither (eqb (codeOf k) (codeOf l)) (fails w k) r in
+              ⊎-elim (λ e. clash (eq-eqb (codeOf k) (codeOf l) (ap codeOf (e ∙ sym (f .1 .all-one .0 q)))) (n .0)) (λ s. clash s (n .1)) o
+
+      by : (z : Bool) → closes l ≡ z → (x : Value) → literalValue w l ≡ x → (rest : Option ℕ) → Begins (ForcedHere rest) (m ∷ ls)
+          → (t : Bool) → Begins (Tested (failsBut w l) t) (m ∷ ls) → Begins (ForcedHere (cond z none (byValue x (found t i none) rest))) (l ∷ m ∷ ls)
+      by true q x r rest go t b = begins-closed l (m ∷ ls) q not-empty
+      by false q True r rest go t b = begins-more l (m ∷ ls) q (λ c h f. f .1 .none-true .0 r) go
+      by false q False r none go t b = begins-more l (m ∷ ls) q (λ c h f. h (f .0, fewer r c (f .1))) go
+      by false q False r (some p) go t b = begins-more l (m ∷ ls) q (λ c h. ((h .0 .0, further r c (h .0 .1)), further r c (h .1))) go
+      by false q Unassigned r rest go true b =
+          begins-more l (m ∷ ls) q (λ c h. ((l, first r c h), subst (λ k. Forces w k (l ∷ c)) is (first r c h))) b
+      by false q Unassigned r rest go false b = begins-more l (m ∷ ls) q (second r) b
+
+-- 2. The laws
+
+module _ (v : ℕ) (ls : List ℤ) (w : Values) (closed : unclosed ls ≡ false) where
+  abbrev Failed : Option ℕ → Type 0
+  Failed o = FirstAt (failedAt w) ls (AllFalse w) (λ p c. Unit) o (split ls)
+
+  first-failed : Failed (failedClause w ls)
+  unfolding failedClause
+  first-failed = clause-first (failedAt w) ls (AllFalse w) (λ p c. Unit) (failed-at w ls) true 0 ls closed refl
+
+  abbrev Forced : Option ℕ → Type 0
+  Forced o = FirstAt (forcedAt w) ls (ForcesOne w) (λ p. Forces w (getD ls p (pos 0))) o (split ls)
+
+  first-forced : Forced (forcedPlace w ls)
+  unfolding forcedPlace
+  first-forced = clause-first (forcedAt w) ls (ForcesOne w) (λ p. Forces w (getD ls p (pos 0))) (forced-at w ls) true 0 ls closed refl
+
+  unassigned-at : (n : ℕ) → n < v → isUnassigned (w (suc n)) ≡ true ↔ w (suc n) ≡ Unassigned
+  unassigned-at n h = (unassigned (w (suc n)), ap isUnassigned)
+
+  pub choice-laws : Laws v ls w
+  unfolding lowestUnassigned
+  choice-laws =
+      record {
+        failed = λ e. let (k, c, f, x) = subst Failed e first-failed in (k, record { clause = c; first = f });
+        none-failed = λ e. subst Failed e first-failed;
+        forced = λ e. let (k, c, f, x) = subst Forced e first-forced in (k, record { clause = c; first = f; forces = x });
+        none-forced = λ e. subst Forced e first-forced;
+        free = λ {n} e.
+            let l = first-with _ (λ n. w (suc n) ≡ Unassigned) v unassigned-at n .0 e in
+            let b = l .below in
+            record { from-1 = omega arith; to-V = omega arith; unassigned = l .holds; lower = variables n (l .first) };
+        none-free = λ e n h k. variables v (none-with _ (λ n. w (suc n) ≡ Unassigned) v unassigned-at .0 e) n h (omega arith);
+      }
+    where
+      -- by numbers from 1
+      variables : (n : ℕ) → ((k : ℕ) → k < n → w (suc k) ≡ Unassigned → ⊥) → (m : ℕ) → 1 ≤ m → m < suc n → w m ≡ Unassigned → ⊥
+      variables n f zero h l = absurd (omega arith)
+      variables n f (suc m) h l = f m (omega arith)
+
+-- 3. So a clause or a variable is found exactly if there is one
+
+is-none : (o : Option ℕ) → ((i : ℕ) → o ≡ some i → ⊥) → o ≡ none
+is-none none f = refl
+is-none (some i) f = absurd (f i refl)
+
+is-some : (o : Option ℕ) → (o ≡ none → ⊥) → (i : ℕ) × (o ≡ some i)
+is-some none f = absurd (f refl)
+is-some (some i) f = (i, refl)
+
+module _ {v : ℕ} {ls : List ℤ} {w : Values} (law : Laws v ls w) where
+  pub failed-none : failedClause w ls ≡ none ↔ NoneFailed w ls
+  failed-none = (law .none-failed, λ h. is-none (failedClause w ls) (λ i e. not-none (law .failed e .1 .first) h))
+
+  pub forced-none : forcedPlace w ls ≡ none ↔ NoneForcing w ls
+  forced-none = (law .none-forced, λ h. is-none (forcedPlace w ls) (λ i e. not-none (law .forced e .1 .first) h))
+
+  pub free-none : lowestUnassigned v w ≡ none ↔ NoneUnassigned w v
+  free-none = (
+    law .none-free,
+    λ h. is-none (lowestUnassigned v w) (λ n e. let f = law .free e in h (suc n) (f .from-1) (f .to-V) (f .unassigned)),
+  )
+
+  -- the clause, the literal and the variable that are found are the only ones
+  pub failed-found : {k : ℕ} → FailedClause w ls k → (i : ℕ) × (failedClause w ls ≡ some i)
+  failed-found f = is-some (failedClause w ls) (λ e. not-none (f .first) (law .none-failed e))
+
+  pub forced-found : {k : ℕ} {l : ℤ} → ForcingClause w ls k l → (i : ℕ) × (forcedPlace w ls ≡ some i) × (l ≡ getD ls i (pos 0))
+  forced-found {l = l} f =
+      let (i, e) = is-some (forcedPlace w ls) (λ e. not-none (f .first) (law .none-forced e)) in
+      (i, e, one (law .forced e .1))
+    where
+      one : {j : ℕ} {m : ℤ} → ForcingClause w ls j m → l ≡ m
+      one {m = m} g =
+          let same = subst (Forces w m) (only-first (g .first) (f .first) .1) (g .forces) in
+          all-at (λ k. literalValue w k ≡ Unassigned → k ≡ m) (same .all-one) (f .forces .holds) (f .forces .unassigned)
+
+  pub free-found : {n : ℕ} → LowestUnassigned w v n → (i : ℕ) × (lowestUnassigned v w ≡ some i) × (n ≡ suc i)
+  free-found {n} f =
+      let (i, e) = is-some (lowestUnassigned v w) (λ e. law .none-free e n (f .from-1) (f .to-V) (f .unassigned)) in
+      (i, e, one (suc i) (law .free e))
+    where
+      one : (m : ℕ) → LowestUnassigned w v m → n ≡ m
+      one m g = by (decLt m n) (decLt n m)
+        where
+          by : Dec (m < n) → Dec (n < m) → n ≡ m
+          by (yes h) d = absurd (f .lower m (g .from-1) h (g .unassigned))
+          by (no h) (yes k) = absurd (g .lower n (f .from-1) k (f .unassigned))
+          by (no h) (no k) = omega arith
+
+-- 4. What the theory takes from them
+
+module _ (w : Values) where
+  pub failed-some : {ls : List ℤ} {k : ℕ} → FailedClause w ls k → Some (AllFalse w) (split ls)
+  failed-some {ls} f = first-some-in (AllFalse w) (f .first) (first-holds (f .first))
+
+  -- a literal that is not false
+  pub none-failed-each : (ls : List ℤ) → NoneFailed w ls → All (Some (λ k. fails w k ≡ false)) (split ls)
+  none-failed-each ls h = all-map not-all (split ls) h
+    where
+      not-all : (c : List ℤ) → (AllFalse w c → ⊥) → Some (λ k. fails w k ≡ false) c
+      not-all [] f = f tt
+      not-all (k ∷ c) f = by (literalValue w k) refl (λ q. not-all c (λ r. f (q, r)))
+        where
+          by : (x : Value) → literalValue w k ≡ x → (literalValue w k ≡ False → Some (λ k. fails w k ≡ false) c) → Some (λ k. fails w k ≡ false) (k ∷ c)
+          by True q go = inl (ap isFalse q)
+          by False q go = inr (go q)
+          by Unassigned q go = inl (ap isFalse q)
+
+  pub forcing-some : {ls : List ℤ} {k : ℕ} {l : ℤ} → ForcingClause w ls k l → Some (Forces w l) (split ls)
+  forcing-some {l = l} f = first-some-in (Forces w l) (f .first) (f .forces)
+
+  pub all-assigned : (v : ℕ) → NoneUnassigned w v → AllAssigned v w
+  all-assigned v f n h = off (isUnassigned (w (suc n))) (λ e. f (suc n) (omega arith) (omega arith) (unassigned (w (suc n)) e))
+
+  pub lower-assigned : {v n : ℕ} → LowestUnassigned w v (suc n) → AllAssigned n w
+  lower-assigned l m h = off (isUnassigned (w (suc m))) (λ e. l .lower (suc m) (omega arith) (omega arith) (unassigned (w (suc m)) e))

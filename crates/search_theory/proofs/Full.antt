@@ -17,8 +17,9 @@ use Rattle.search.specs.Trail.{Trail, Value, True, False, Unassigned, isTrue, i
 use Rattle.search.specs.Trail.{valuesOf}
 use Rattle.search.specs.Step.{fails}
 use Rattle.search_theory.specs.Openings.{OneAssignment}
-use Rattle.search_theory.proofs.Lists.{Proper, all-map}
-use Rattle.search_theory.proofs.Legal.{Legal, AllAssigned}
+use Rattle.search_theory.specs.Legal.{Proper, Legal}
+use Rattle.search_theory.proofs.Lists.{all-map}
+use Rattle.search_theory.proofs.Legal.{AllAssigned}
 use Rattle.search_theory.proofs.Values.{Tells, variable-told}
 
 -- how many numbers below n pass the test
@@ -74,7 +75,7 @@ module _ (p q : ℕ → Bool) (k : ℕ) (new : p k ≡ false) (passes : q k ≡ 
 abbrev pub assigned : Trail → ℕ → Bool
 assigned t k = not (isUnassigned (variableValue t (suc k)))
 
-made-assigned : (l : ℤ) → not (isUnassigned (made l)) ≡ true
+pub made-assigned : (l : ℤ) → not (isUnassigned (made l)) ≡ true
 made-assigned (pos n) = refl
 made-assigned (negsuc n) = refl
 

@@ -15,7 +15,7 @@ use Rattle.cnf.specs.Clauses.{Satisfies}
 use Rattle.search.specs.Trail.{image, variableValue}
 use Rattle.search.specs.Step.{failedClause}
 use Rattle.search.specs.Run.{Ending, Done, endingNumber, doneOutcome}
-use Rattle.search.specs.Call.{Search, Handed, isFound, Call, Searching, Following, rowsOf, begins, IsTaken, runs, tells, hands, handsDone, Says, endsAt}
+use Rattle.search.specs.Call.{Search, Handed, isFound, Call, Searching, Following, rowsOf, begins, IsTaken, runs, outcomeOf, hands, handsDone, Says, endsAt}
 use Rattle.search.specs.Call.{resumed, given}
 use Rattle.search.proofs.Trails.{length-trail, read-image}
 use Rattle.search.proofs.Endings.{same-ending}
@@ -30,7 +30,7 @@ use Rattle.search_theory.proofs.Calls.{Came, came}
 -- 1. Which calls are taken
 
 -- no row has the number 0
-answered-rows : (x : Call) (s : Search) (budget : ℕ) → tells x s budget .number ≡ 0 → Clear (rowsOf s x)
+answered-rows : (x : Call) (s : Search) (budget : ℕ) → outcomeOf x s budget .number ≡ 0 → Clear (rowsOf s x)
 answered-rows Searching s budget e = answered-clear (rowsOf s Searching) (doneOutcome (runs Searching s budget)) refl e
 answered-rows Following s budget e = answered-clear (rowsOf s Following) (doneOutcome (runs Following s budget)) refl e
 

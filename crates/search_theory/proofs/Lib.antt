@@ -4,6 +4,7 @@ pub mod Theorems
 pub mod Lists
 pub mod Values
 pub mod Legal
+pub mod FirstClauses
 pub mod Choices
 pub mod Full
 pub mod Measure
@@ -11,6 +12,7 @@ pub mod Undo
 pub mod Steps
 pub mod Runs
 pub mod Accepted
+pub mod Faults
 pub mod Orders
 pub mod Calls
 pub mod Handed

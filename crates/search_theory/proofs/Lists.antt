@@ -12,6 +12,7 @@ use Rattle.answers.specs.First.{found}
 use Rattle.answers.specs.Lists.{All, Some}
 use Rattle.cnf.specs.Literals.{closes, beyond, beyondAt}
 use Rattle.cnf.specs.Clauses.{splitStep, split}
+use Rattle.search_theory.specs.Legal.{Proper}
 
 -- found nowhere, found somewhere
 pub nothing : {A : Type 0} {i : ℕ} → none ≡ some i → A
@@ -39,11 +40,6 @@ pub meet : {A R : Type 0} {P Q : A → Type 0} → ((x : A) → P x → Q x → 
 meet f [] h k = absurd h
 meet f (x ∷ xs) (inl h) k = f x h (k .0)
 meet f (x ∷ xs) (inr h) k = meet f xs h (k .1)
-
--- a literal of one of V variables
-pub record Proper (v : ℕ) (l : ℤ) : Type 0 where
-  pub nonzero : closes l ≡ false
-  pub within : beyond v l ≡ false
 
 -- a list without a literal beyond V has such literals in its clauses
 within-all : (v : ℕ) (ls : List ℤ) → ((i : ℕ) → i < length ls → beyondAt v ls i ≡ false) → All (λ l. beyond v l ≡ false) ls

@@ -12,8 +12,8 @@ use Rattle.cnf.specs.Clauses.{split, Satisfies}
 use Rattle.search.specs.Trail.{Trail, Open, valuesOf, variableValue}
 use Rattle.search.specs.Step.{Next, step}
 use Rattle.search.specs.Run.{Ending, Found, None, Halted, Done, ends, after, run}
-use Rattle.search_theory.proofs.Lists.{Proper}
-use Rattle.search_theory.proofs.Legal.{Legal, AllAssigned}
+use Rattle.search_theory.specs.Legal.{Proper, Legal}
+use Rattle.search_theory.proofs.Legal.{AllAssigned}
 use Rattle.search_theory.proofs.Choices.{choice-laws}
 use Rattle.search_theory.proofs.Measure.{number, number-more}
 use Rattle.search_theory.proofs.Steps.{Stepped, moved, exhausted, full, stepped}

@@ -4,21 +4,25 @@ use native.Mathlib.Omega.{arith}
 use lib.IntN.{ℤ, pos, negsuc, natAbs}
 use lib.ListN.{getD}
 use borrow.Author.Tests.{le-ltb}
-use mathlib.Core.Path.{_≡_, refl, sym, _∙_, ap, subst}
+use mathlib.Core.Path.{_≡_, refl, sym, _∙_, ap}
 use mathlib.Core.Bool.{Bool, true, false}
-use mathlib.Core.Logic.{inl, inr, _↔_, ⊎-elim}
+use mathlib.Core.Logic.{_⊎_, inl, inr, _↔_, ⊎-elim}
 use mathlib.Core.Option.{Option, none, some}
 use mathlib.Core.List.{List, _∷_}
 use Rattle.answers.specs.Lists.{All, Some}
 use Rattle.answers.proofs.Bools.{clash}
+use Rattle.answers.proofs.Elements.{all-at}
 use Rattle.cnf.specs.Clauses.{split, value, Satisfies}
-use Rattle.search.specs.Trail.{Entry, entry, Trail, Value, True, False, Unassigned, opposite, isUnassigned, variableValue, literalValue, Agrees, Open, valuesOf}
+use Rattle.search.specs.Trail.{Entry, entry, Trail, Value, True, False, Unassigned, opposite, isFalse, isUnassigned, variableValue, literalValue}
+use Rattle.search.specs.Trail.{Agrees, Open, valuesOf}
 use Rattle.search.specs.Step.{failedClause, forcedPlace, lowestUnassigned, undo, Next, Moved, AnsweredFound, AnsweredNone, undone, onFailed, onForced}
-use Rattle.search.specs.Step.{onUnassigned, step}
-use Rattle.search_theory.proofs.Lists.{Proper, all-zip, some-zip, meet}
+use Rattle.search.specs.Step.{fails, onUnassigned, step}
+use Rattle.search_theory.specs.Legal.{Proper, LegalEntry, Legal}
+use Rattle.search_theory.proofs.Lists.{all-zip, some-zip, meet}
 use Rattle.search_theory.proofs.Values.{literal-false}
-use Rattle.search_theory.proofs.Legal.{Right, Legal, AllAssigned, unassigned}
-use Rattle.search_theory.proofs.Choices.{Forces, Laws}
+use Rattle.search_theory.proofs.Legal.{AllAssigned}
+use Rattle.search_theory.specs.Choices.{Forces}
+use Rattle.search_theory.proofs.Choices.{Laws, failed-some, none-failed-each, forcing-some, others-false, all-assigned}
 use Rattle.search_theory.proofs.Full.{legal-length, literal-true}
 use Rattle.search_theory.proofs.Measure.{number, number-more, number-append}
 use Rattle.search_theory.proofs.Undo.{undo-some, undo-none}
@@ -53,44 +57,48 @@ variable-free t (negsuc n) h = by (variableValue t (suc n)) h
 
 module _ {v : ℕ} {ls : List ℤ} (t : Trail) (law : Laws v ls (variableValue t)) (proper : All (All (Proper v)) (split ls)) (legal : Legal v t) where
   -- the trail goes on by an entry
-  append : (e : Entry) → Right v t e → ((a : List Bool) → Satisfies a ls → Agrees a t → value a (e .literal) ≡ false → e .mark ≡ 1)
+  append : (e : Entry) → LegalEntry v t e → ((a : List Bool) → Satisfies a ls → Agrees a t → value a (e .literal) ≡ false → e .mark ≡ 1)
       → Stepped v ls t (Moved (e ∷ t))
   append e r h = moved {u = e ∷ t} (r, legal) (number-append v e t (legal-length v (e ∷ t) (r, legal))) (λ a s. opened a e t (h a s))
 
   -- a literal that a clause forces is true wherever the rest agrees
   forced-true : (l : ℤ) → Some (Forces (variableValue t) l) (split ls) → (a : List Bool) → Satisfies a ls → Agrees a t → value a l ≡ true
-  forced-true l f a s g =
-      meet (λ c k o. meet (λ x q. ⊎-elim (λ e. ap (value a) (sym e) ∙ q) (λ h. clash q (literal-false a t g x h))) c o (k .others)) (split ls) f s
+  forced-true l f a s g = meet (λ c k o. meet at c o (others-false (variableValue t) c k)) (split ls) f s
+    where
+      at : (x : ℤ) → value a x ≡ true → (x ≡ l) ⊎ (fails (variableValue t) x ≡ true) → value a l ≡ true
+      at x q (inl e) = ap (value a) (sym e) ∙ q
+      at x q (inr h) = clash q (literal-false a t g x h)
 
   -- none that satisfies the list agrees with a trail under which a clause fails
   pub refuted : {i : ℕ} → failedClause (variableValue t) ls ≡ some i → (a : List Bool) → Satisfies a ls → Agrees a t → ⊥
-  refuted h a s g = meet (λ c k o. meet (λ x q w. clash q (literal-false a t g x w)) c o k) (split ls) (law .failed h) s
+  refuted h a s g =
+      meet (λ c k o. meet (λ x q w. clash q (literal-false a t g x (ap isFalse w))) c o k) (split ls) (failed-some (variableValue t) (law .failed h .1)) s
 
   -- a trail under which every variable is assigned and no clause fails satisfies the list
   pub satisfied : AllAssigned v (variableValue t) → failedClause (variableValue t) ls ≡ none → Satisfies (valuesOf v t) ls
-  satisfied all f = all-zip (some-zip (literal-true v t all)) (split ls) (law .none-failed f) proper
+  satisfied all f = all-zip (some-zip (literal-true v t all)) (split ls) (none-failed-each (variableValue t) ls (law .none-failed f)) proper
 
   on-forced : (l : ℤ) → Some (Forces (variableValue t) l) (split ls) → Stepped v ls t (Moved (entry l 0 ∷ t))
-  on-forced l f = append (entry l 0) (meet right (split ls) f proper) (λ a s g w. clash (forced-true l f a s g) w)
+  on-forced l f = append (entry l 0) (meet is-legal (split ls) f proper) (λ a s g w. clash (forced-true l f a s g) w)
     where
-      right : (c : List ℤ) → Forces (variableValue t) l c → All (Proper v) c → Right v t (entry l 0)
-      right c k ps =
+      is-legal : (c : List ℤ) → Forces (variableValue t) l c → All (Proper v) c → LegalEntry v t (entry l 0)
+      is-legal c k ps =
           record {
-            proper = meet (λ x e p. subst (Proper v) e p) c (k .holds) ps;
+            proper = all-at (Proper v) ps (k .holds);
             free = variable-free t l (k .unassigned);
-            marked = omega arith;
+            mark-small = omega arith;
           }
 
   on-unassigned : (o : Option ℕ) → lowestUnassigned v (variableValue t) ≡ o → failedClause (variableValue t) ls ≡ none → Stepped v ls t (onUnassigned o t)
-  on-unassigned none h f = full (law .none-free h) (satisfied (law .none-free h) f)
-  on-unassigned (some n) h f = append (entry (negsuc n) 1) right (λ a s g w. refl)
+  on-unassigned none h f = let all = all-assigned (variableValue t) v (law .none-free h) in full all (satisfied all f)
+  on-unassigned (some n) h f = append (entry (negsuc n) 1) is-legal (λ a s g w. refl)
     where
-      right : Right v t (entry (negsuc n) 1)
-      right =
+      is-legal : LegalEntry v t (entry (negsuc n) 1)
+      is-legal =
           record {
-            proper = record { nonzero = refl; within = le-ltb v (suc n) (law .free h .0) };
-            free = unassigned _ (law .free h .1);
-            marked = omega arith;
+            proper = record { nonzero = refl; within = le-ltb v (suc n) (law .free h .to-V) };
+            free = law .free h .unassigned;
+            mark-small = omega arith;
           }
 
   on-failed : {i : ℕ} → failedClause (variableValue t) ls ≡ some i → (o : Option Trail) → undo t ≡ o → Stepped v ls t (undone o)
@@ -107,7 +115,7 @@ module _ {v : ℕ} {ls : List ℤ} (t : Trail) (law : Laws v ls (variableValue t
     where
       on : (o : Option ℕ) → forcedPlace (variableValue t) ls ≡ o → failedClause (variableValue t) ls ≡ none
           → Stepped v ls t (onForced o ls t (onUnassigned (lowestUnassigned v (variableValue t)) t))
-      on (some i) h f = on-forced (getD ls i (pos 0)) (law .forced h)
+      on (some i) h f = on-forced (getD ls i (pos 0)) (forcing-some (variableValue t) (law .forced h .1))
       on none h f = on-unassigned (lowestUnassigned v (variableValue t)) refl f
 
       by : (o : Option ℕ) → failedClause (variableValue t) ls ≡ o

@@ -3,7 +3,6 @@
 use Prim.Native.Nat.{ℕ, _+_, _-_, _≤_, _<_, _^_}
 use native.Mathlib.Omega.{arith}
 use native.Mathlib.Numerals.{add-one}
-use lib.ListN.{length}
 use mathlib.Core.Path.{_≡_, refl, sym, _∙_, ap, subst}
 use mathlib.Core.Bool.{Bool}
 use mathlib.Core.Logic.{_⊎_, inl, inr, _↔_, ⊎-elim}
@@ -13,16 +12,15 @@ use Rattle.answers.proofs.Bools.{clash}
 use Rattle.cnf.specs.Clauses.{Assignment, Satisfies}
 use Rattle.search.specs.Trail.{Trail, Agrees, Turned, Open, valuesOf}
 use Rattle.search.specs.Step.{undo}
-use Rattle.search.specs.Run.{Ending, Found, None, Halted, Done, endingNumber}
-use Rattle.search.specs.Call.{Search, Handed, Call, Searching, Following, begins, IsTaken, runs, hands, handsDone, Says, steps, endsAt, resumed, given}
-use Rattle.search.proofs.Trails.{length-trail}
+use Rattle.search.specs.Run.{Ending, Found, None, Halted, Done}
+use Rattle.search.specs.Call.{Search, Handed, Call, Searching, Following, begins, IsTaken, runs, hands, Says, steps, endsAt, resumed, given}
 use Rattle.search_theory.specs.Openings.{OpenAt, Sought, OneAssignment, FoundOne}
 use Rattle.search_theory.proofs.Full.{full-length, one-assignment}
 use Rattle.search_theory.proofs.Measure.{number, number-most}
 use Rattle.search_theory.proofs.Undo.{undo-some, undo-none}
-use Rattle.search_theory.proofs.Accepted.{taken-search, taken-legal}
-use Rattle.search_theory.proofs.Calls.{Left, Meaning, Came}
-use Rattle.search_theory.proofs.Handed.{next-full, given-one, given-satisfies, next-exactly, comes, hands-done, ends-at, resumed-taken, said, ending}
+use Rattle.search_theory.proofs.Accepted.{taken-legal}
+use Rattle.search_theory.proofs.Calls.{Left, Meaning}
+use Rattle.search_theory.proofs.Handed.{given-one, next-exactly, comes, hands-done, ends-at, resumed-taken, said, ending}
 
 -- none agrees with all of a trail and differs at an entry of it
 turned-disagrees : (a : List Bool) (t : Trail) → Turned a t → Agrees a t → ⊥

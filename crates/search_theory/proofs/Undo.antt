@@ -15,9 +15,9 @@ use Rattle.cnf.specs.Literals.{closes}
 use Rattle.cnf.specs.Clauses.{value}
 use Rattle.search.specs.Trail.{Entry, Trail, variableValue, Turned, Open}
 use Rattle.search.specs.Step.{negated, undo}
-use Rattle.search_theory.proofs.Legal.{Right, Legal}
+use Rattle.search_theory.specs.Legal.{LegalEntry, Legal}
 use Rattle.search_theory.proofs.Full.{legal-length}
-use Rattle.search_theory.proofs.Measure.{marked, number, number-undo, marked-more}
+use Rattle.search_theory.proofs.Measure.{choiceSum, number, number-undo, choices-more}
 
 same-variable : (l : ℤ) → natAbs (negℤ l) ≡ natAbs l
 same-variable (pos zero) = refl
@@ -43,21 +43,21 @@ pub record Undone (v : ℕ) (t u : Trail) : Type 0 where
   pub legal : Legal v u
   pub opens : (a : List Bool) → Turned a t → Open a u
   pub was-open : (a : List Bool) → Open a u → Turned a t
-  pub falls : number v u ≤ marked v t
+  pub falls : number v u ≤ choiceSum v t
 
 module _ (v : ℕ) where
   undone-here : (e : Entry) (t : Trail) → Legal v (e ∷ t) → e .mark ≡ 1 → Undone v (e ∷ t) (negated e ∷ t)
   undone-here e t l m =
-      record { legal = (right, l .1); opens = opens; was-open = was-open; falls = number-undo v e (negated e) t (legal-length v (e ∷ t) l) m refl }
+      record { legal = (is-legal, l .1); opens = opens; was-open = was-open; falls = number-undo v e (negated e) t (legal-length v (e ∷ t) l) m refl }
     where
-      right : Right v t (negated e)
-      right =
+      is-legal : LegalEntry v t (negated e)
+      is-legal =
           let r = l .0 in
           let n = same-variable (e .literal) in
           record {
             proper = record { nonzero = same-closes (e .literal) ∙ r .proper .nonzero; within = ap (ltb v) n ∙ r .proper .within };
             free = ap (variableValue t) n ∙ r .free;
-            marked = omega arith;
+            mark-small = omega arith;
           }
 
       turned : (a : List Bool) → value a (negℤ (e .literal)) ≡ not (value a (e .literal))
@@ -81,7 +81,7 @@ module _ (v : ℕ) where
       by true q go h = subst (Undone v (e ∷ t)) (Option·some-injective _ u h) (undone-here e t l (eqb-true (e .mark) 1 q))
       by false q go h =
           let r = go h in
-          let m = marked-more v e t in
+          let m = choices-more v e t in
           let f = r .falls in
           record {
             legal = r .legal;

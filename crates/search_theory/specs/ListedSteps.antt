@@ -1,31 +1,39 @@
 -- Document 01's "One step does the first that applies" as relations: the listed steps, what they lead to, and what a call comes to by them.
 use Prim.Native.Nat.{ℕ, suc, _<_}
-use lib.IntN.{ℤ, pos, negsuc}
-use lib.ListN.{getD}
+use lib.IntN.{ℤ, pos, negℤ}
+use lib.ListN.{drop}
 use mathlib.Core.Path.{_≡_}
-use mathlib.Core.Option.{none, some}
 use mathlib.Core.List.{List, _∷_}
-use Rattle.search.specs.Trail.{entry, Trail, variableValue}
-use Rattle.search.specs.Step.{failedClause, forcedPlace, lowestUnassigned, undo, Next, Moved, AnsweredFound, AnsweredNone}
+use Rattle.answers.specs.First.{FirstIn, NoneIn}
+use Rattle.search.specs.Trail.{Entry, entry, Trail, variableValue}
+use Rattle.search.specs.Step.{negated, Next, Moved, AnsweredFound, AnsweredNone}
 use Rattle.search.specs.Run.{Found, None, Halted, Done, ends, oneMore}
 use Rattle.search.specs.Call.{Search, Handed, Call, Searching, Following, begins, handsDone}
+use Rattle.search_theory.specs.Choices.{FailedClause, NoneFailed, ForcingClause, NoneForcing, LowestUnassigned, NoneUnassigned}
+
+abbrev pub MarkedOne : Entry → Type 0
+MarkedOne e = e .mark ≡ 1
+
+-- what undoing leads to; a trail has its latest entry first
+pub data Undoes (t : Trail) : Next → Type 0 where
+  -- undo back to the last entry marked 1, negate it, mark it 0;
+  negates : {k : ℕ} {e : Entry} → FirstIn MarkedOne t k e → Undoes t (Moved (negated e ∷ drop (suc k) t))
+  -- if no mark is 1, answer "none"
+  gives-up : NoneIn MarkedOne t → Undoes t AnsweredNone
 
 module _ (v : ℕ) (ls : List ℤ) where
   -- "One step does the first that applies": at a trail t it leads to another trail or to an answer
   pub data ListedStep (t : Trail) : Next → Type 0 where
     -- a failed clause, that is, the first clause in list order whose literals are all false: undo back to the last entry marked 1, negate it, mark it 0;
-    undoes : {i : ℕ} {u : Trail} → failedClause (variableValue t) ls ≡ some i → undo t ≡ some u → ListedStep t (Moved u)
     -- if no mark is 1, answer "none";
-    gives-up : {i : ℕ} → failedClause (variableValue t) ls ≡ some i → undo t ≡ none → ListedStep t AnsweredNone
+    undoes : {k : ℕ} {x : Next} → FailedClause (variableValue t) ls k → Undoes t x → ListedStep t x
     -- the first clause without a true literal whose unassigned literals are all one literal: append that, mark 0;
-    forces : {i : ℕ} → failedClause (variableValue t) ls ≡ none → forcedPlace (variableValue t) ls ≡ some i
-        → ListedStep t (Moved (entry (getD ls i (pos 0)) 0 ∷ t))
+    forces : {k : ℕ} {l : ℤ} → NoneFailed (variableValue t) ls → ForcingClause (variableValue t) ls k l → ListedStep t (Moved (entry l 0 ∷ t))
     -- an unassigned variable: append the lowest, negated, mark 1;
-    chooses : {n : ℕ} → failedClause (variableValue t) ls ≡ none → forcedPlace (variableValue t) ls ≡ none
-        → lowestUnassigned v (variableValue t) ≡ some n → ListedStep t (Moved (entry (negsuc n) 1 ∷ t))
+    chooses : {n : ℕ} → NoneFailed (variableValue t) ls → NoneForcing (variableValue t) ls → LowestUnassigned (variableValue t) v n
+        → ListedStep t (Moved (entry (negℤ (pos n)) 1 ∷ t))
     -- answer "found"
-    finds : failedClause (variableValue t) ls ≡ none → forcedPlace (variableValue t) ls ≡ none
-        → lowestUnassigned v (variableValue t) ≡ none → ListedStep t AnsweredFound
+    finds : NoneFailed (variableValue t) ls → NoneForcing (variableValue t) ls → NoneUnassigned (variableValue t) v → ListedStep t AnsweredFound
 
   -- n listed steps lead from a trail to another
   pub data Leads : Trail → ℕ → Trail → Type 0 where
@@ -43,9 +51,9 @@ module _ (v : ℕ) (ls : List ℤ) where
     -- "With budget 0 it is halted with nothing dropped"
     keeps : NextComesTo t 0 (ends Halted 0 t)
     -- "Where no mark is 1, .. the drop answers 'none' and changes no used entry."
-    drops-last : {b : ℕ} → undo t ≡ none → NextComesTo t (suc b) (ends None 1 t)
+    drops-last : {b : ℕ} → Undoes t AnsweredNone → NextComesTo t (suc b) (ends None 1 t)
     -- it "drops just that assignment as a failed clause would, and searches on under the same rules; dropping is a step."
-    drops : {b : ℕ} {u : Trail} {d : Done} → undo t ≡ some u → SearchComesTo u b d → NextComesTo t (suc b) (oneMore d)
+    drops : {b : ℕ} {u : Trail} {d : Done} → Undoes t (Moved u) → SearchComesTo u b d → NextComesTo t (suc b) (oneMore d)
 
 abbrev pub ComesTo : Call → ℕ → List ℤ → Trail → ℕ → Done → Type 0
 ComesTo Searching v ls t budget d = SearchComesTo v ls t budget d

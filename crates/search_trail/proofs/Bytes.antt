@@ -13,7 +13,7 @@ use mathlib.Core.List.{List}
 use Rattle.answers.proofs.Bools.{clash}
 use Rattle.cnf.specs.Literals.{codeOf}
 use Rattle.search.specs.Trail.{made}
-use Rattle.search_theory.proofs.Lists.{Proper}
+use Rattle.search_theory.specs.Legal.{Proper}
 use Rattle.search_scan.specs.PackedValues.{valueOf, packedValues, bareMarks}
 use Rattle.search_trail.specs.Packed.{HasByte, withValue, marked}
 

@@ -15,7 +15,7 @@ use Rattle.cnf.specs.Literals.{codeOf}
 use Rattle.cnf.proofs.Lists.{code-variable}
 use Rattle.search.specs.Trail.{Entry, entry, Trail, Slices, slices, entryAt, trailOf, Unassigned, made, variableValue}
 use Rattle.search.proofs.Trails.{length-trail, same-trail}
-use Rattle.search_theory.proofs.Legal.{Right, Legal}
+use Rattle.search_theory.specs.Legal.{LegalEntry as Right, Legal}
 use Rattle.search_theory.proofs.Full.{legal-length}
 use Rattle.search_scan.specs.PackedValues.{packedValues, bareMarks}
 use Rattle.search_trail.specs.Packed.{packedTrail, Packed, HasByte, withValue, madeTrue, assigned}

@@ -8,7 +8,7 @@ use mathlib.Core.Bool.{cond}
 use mathlib.Core.List.{List}
 use Rattle.cnf.specs.Literals.{mostVariables, codeOf}
 use Rattle.search.specs.Trail.{Trail, slices, trailOf, variableValue}
-use Rattle.search_theory.proofs.Legal.{Legal}
+use Rattle.search_theory.specs.Legal.{Legal}
 use Rattle.search_scan.specs.PackedValues.{packedValues, bareMarks}
 
 -- the trail in the buffers: literals, and marks in the lowest bits

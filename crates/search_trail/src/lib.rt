@@ -5,7 +5,7 @@ ghost use Prim.Native.Nat.{_-_, _<_, _≤_, _^_};
 ghost use lib.IntN.{pos, negℤ, natAbs};
 ghost use lib.ListN.{length, getD, set, take, replicate};
 ghost use Rattle.cnf.specs.Literals.{codeOf};
-ghost use Rattle.search_theory.proofs.Legal.{Legal};
+ghost use Rattle.search_theory.specs.Legal.{Legal};
 ghost use Rattle.search_scan.specs.PackedValues.{bareMarks};
 ghost use Rattle.search_trail.specs.Packed.{packedTrail, Packed, HasByte, withValue, madeTrue, assigned, clearedByte};
 use cnf::code_at;

@@ -29,14 +29,14 @@ use Rattle.answers.proofs.Elements.{all-map, apart-on}
 use Rattle.encoder_theory.proofs.Theorems.{decodes-to-solution, comes-from-one, never-refused}
 use Rattle.search.specs.Trail.{Trail, slices, Open, trailOf, valuesOf}
 use Rattle.search.specs.Run.{Ending, Found, None, Halted, Done, run, endingNumber, doneOutcome}
-use Rattle.search.specs.Call.{Search, Handed, wrongEntryAt, Searching, Following, begins, IsTaken, runs, hands, handsDone, handsTaken, bySearch, byNext, Says}
+use Rattle.search.specs.Call.{Search, Handed, wrongEntryAt, Searching, Following, begins, IsTaken, runs, handsDone, handsTaken, bySearch, byNext, Says}
 use Rattle.search.specs.Call.{endsAt, resumed, given}
 use Rattle.search_theory.specs.Openings.{OpenAt}
 use Rattle.search_theory.specs.Listing.{Lists, ListsAll}
 use Rattle.search_theory.proofs.Accepted.{Sized, right-lengths}
-use Rattle.search_theory.proofs.Legal.{Legal}
+use Rattle.search_theory.specs.Legal.{Legal}
 use Rattle.search_theory.proofs.Full.{full-length}
-use Rattle.search_theory.proofs.Calls.{Meaning, Came}
+use Rattle.search_theory.proofs.Calls.{Meaning}
 use Rattle.search_theory.proofs.Handed.{given-one, given-satisfies, comes, hands-done, ends-at}
 use Rattle.search_theory.proofs.Theorems.{same-open, unless-halted, found-next, none-other}
 use Rattle.search_theory.proofs.Listing as listing

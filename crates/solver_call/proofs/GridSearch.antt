@@ -21,7 +21,7 @@ use Rattle.search.specs.Run.{Ending, Found as DoneFound, None as DoneNone, Halt
 use Rattle.search.specs.Call.{Search, searchOn, Handed, handed, Searching, IsTaken, handsDone, handsTaken}
 use Rattle.search.proofs.Trails.{read-image}
 use Rattle.search.proofs.Endings.{same-ending, other-ending}
-use Rattle.search_theory.proofs.Legal.{Legal}
+use Rattle.search_theory.specs.Legal.{Legal}
 use Rattle.search_trail.proofs.Entries.{legal-at}
 use Rattle.search_call.specs.declared.Ending.{Ending as Answer}
 use Rattle.search_call.specs.declared.Ending.the-variants.{Found, None, Halted}

@@ -14,8 +14,7 @@ use Rattle.encoder.specs.Clauses.{clauseList}
 use Rattle.encoder.specs.Decoding.{decoded}
 use Rattle.search.specs.Trail.{slices, filledSlices, image, trailOf}
 use Rattle.search.specs.Run.{doneOutcome}
-use Rattle.search_theory.proofs.Lists.{Proper}
-use Rattle.search_theory.proofs.Legal.{Legal}
+use Rattle.search_theory.specs.Legal.{Proper, Legal}
 use Rattle.search_call.specs.declared.End.{End}
 use Rattle.search_call.specs.Answers.{endOutcome}
 use Rattle.solver.specs.SolverCall.{solved, trailBytes, atFound}
