@@ -1,3 +1,3 @@
--- The search in code. Answers: what its answers tell. Runs: the contract of a run.
+-- The search in code. Answers: what its answers tell. Runs: what a run hands out.
 pub mod Answers
 pub mod Runs

@@ -1,16 +1,30 @@
--- What a run leaves in the buffers, against the definitions.
-use Prim.Native.Nat.{ℕ}
+-- What a run hands out.
+use Prim.Native.Nat.{ℕ, zero, suc}
 use lib.IntN.{ℤ}
 use lib.ListN.{length}
-use mathlib.Core.Path.{_≡_}
 use mathlib.Core.List.{List}
+use Rattle.search.specs.Trail.{Trail, Slices, slices}
+use Rattle.search.specs.Step.{Next, Moved, AnsweredFound, AnsweredNone, step}
 use Rattle.search.specs.Run.{run, doneOutcome}
-use Rattle.search_trail.specs.Packed.{packedTrail, Packed}
-use Rattle.search_call.specs.declared.End.{End}
-use Rattle.search_call.specs.Answers.{endOutcome}
+use Rattle.search.specs.Call.{Handed}
+use Rattle.search_trail.specs.Packed.{packedTrail}
+use Rattle.search_step.specs.Steps.{leaves}
 
--- from the buffers ts, ms with a used count: the answer of the whole search, and the buffers us, ns that it leaves
-pub record Ran (ls : List ℤ) (budget : ℕ) (ts : List ℤ) (ms : List ℕ) (used : ℕ) (r : End) (us : List ℤ) (ns : List ℕ) : Type 0 where
-  pub tells : endOutcome r ≡ doneOutcome (run (length ms) ls budget (packedTrail ts ms used))
-  pub trail : packedTrail us ns (r .used) ≡ run (length ms) ls budget (packedTrail ts ms used) .trail
-  pub running : Packed (length ms) us ns (r .used)
+-- a run goes on from the trail that a step moved to; an answer ends it
+abbrev pub goesOn : Next → Slices → (Trail → Slices) → Slices
+goesOn (Moved u) left go = go u
+goesOn AnsweredFound left go = left
+goesOn AnsweredNone left go = left
+
+-- it leaves in the buffers what its steps leave, one after the other
+unfoldable pub runLeaves : ℕ → List ℤ → ℕ → Trail → Slices → Slices
+runLeaves v ls zero t s = s
+runLeaves v ls (suc budget) t s =
+    let left : Slices = leaves (step v ls t) s in
+    goesOn (step v ls t) left (λ u. runLeaves v ls budget u left)
+
+-- what it hands out from the trail in the buffers
+abbrev pub handsRun : List ℤ → ℕ → List ℤ → List ℕ → ℕ → Handed
+handsRun ls budget ts ms used =
+    let t : Trail = packedTrail ts ms used in
+    record { outcome = doneOutcome (run (length ms) ls budget t); slices = runLeaves (length ms) ls budget t (slices ts ms) }

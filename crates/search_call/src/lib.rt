@@ -8,7 +8,7 @@ ghost use Rattle.search.specs.Call.{searchOn, handed, Searching, searchRows, Is
 ghost use Rattle.search_trail.specs.Packed.{Packed};
 ghost use Rattle.search_step.specs.Steps.{ListFits};
 ghost use Rattle.search_call.specs.Answers.{endingOf, endOutcome, searchRefusalOutcome, answerOutcome, checkedTells};
-ghost use Rattle.search_call.specs.Runs.{Ran};
+ghost use Rattle.search_call.specs.Runs.{handsRun};
 use answers::Outcome;
 use answers::Place;
 use answers::answered;
@@ -127,7 +127,7 @@ pub fn check(variables: usize, list: &[i32], trail: &[i32], marks: &[u8], used: 
 fn run(list: &[i32], trail: &mut [i32], marks: &mut [u8], first: usize, budget: u64) -> End
     requires { ⌜ Packed (length (now marks)) (now trail) (now marks) first ⌝ }
     requires { ⌜ ListFits (length (now marks)) (now list) ⌝ }
-    ensures { λ r. ⌜ Ran (now (list .entry)) budget (now (trail .entry)) (now (marks .entry)) first r (now (trail .exit)) (now (marks .exit)) ⌝ }
+    ensures { λ r. ⌜ handed (endOutcome r) (now (trail .exit)) (now (marks .exit)) ≡ handsRun (now (list .entry)) budget (now (trail .entry)) (now (marks .entry)) first ⌝ }
 {
     let mut used = first;
     let mut n: u64 = 0;

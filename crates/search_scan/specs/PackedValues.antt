@@ -1,5 +1,5 @@
 -- While a call runs, byte k of the marks has the mark of entry k in its lowest bit, and above it the value of variable k + 1.
-use Prim.Native.Nat.{ℕ, zero, suc, _/_, _%_, _<_}
+use Prim.Native.Nat.{ℕ, zero, suc, _+_, _*_, _/_, _%_, _<_}
 use lib.Dec.{eqb}
 use lib.IntN.{ℤ}
 use lib.ListN.{length, getD}
@@ -7,6 +7,7 @@ use mathlib.Core.Path.{_≡_}
 use mathlib.Core.Bool.{false, cond}
 use mathlib.Core.Option.{Option, none, some}
 use mathlib.Core.List.{List, map}
+use Rattle.answers.specs.Lists.{upTo}
 use Rattle.cnf.specs.Literals.{beyondAt}
 use Rattle.search.specs.Trail.{Value, True, False, Unassigned, Values}
 
@@ -22,6 +23,16 @@ packedValues ms (suc k) = valueOf (getD ms k 0 / 2)
 -- the marks, in the lowest bits
 abbrev pub bareMarks : List ℕ → List ℕ
 bareMarks ms = map (λ m. m % 2) ms
+
+-- the number of a value: 1 true, 2 false, 0 unassigned
+abbrev pub numberOf : Value → ℕ
+numberOf True = 1
+numberOf False = 2
+numberOf Unassigned = 0
+
+-- bare marks, with the numbers of the variables' values above them
+abbrev pub packed : Values → List ℕ → List ℕ
+packed w ms = map (λ k. getD ms k 0 + numberOf (w (suc k)) * 2) (upTo (length ms))
 
 -- the last of the first n marks that is 1
 unfoldable pub lastMarked : List ℕ → ℕ → Option ℕ

@@ -6,7 +6,7 @@ use lib.ListN.{length, getD}
 use mathlib.Core.Path.{_≡_, refl, sym, _∙_, ap, subst, fun-ext}
 use mathlib.Core.Option.{Option, none, some}
 use mathlib.Core.List.{List}
-use Rattle.search.specs.Trail.{Entry, entry, Trail, Values, variableValue}
+use Rattle.search.specs.Trail.{Entry, entry, Trail, slices, Values, variableValue}
 use Rattle.search.specs.Step.{failedClause, forcedPlace, lowestUnassigned, Next, Moved, undoes, step}
 use Rattle.search_theory.proofs.Lists.{proper-clauses}
 use Rattle.search_theory.specs.Legal.{Legal}
@@ -14,15 +14,19 @@ use Rattle.search_theory.proofs.Choices.{choice-laws}
 use Rattle.search_theory.proofs.Steps.{Stepped, moved, exhausted, full, stepped}
 use Rattle.search_scan.specs.PackedValues.{packedValues}
 use Rattle.search_trail.specs.Packed.{packedTrail, Packed}
-use Rattle.search_step.specs.declared.Stepped.{Stepped as Answered}
+use Rattle.search_trail.proofs.Holding.{packed-values}
 use Rattle.search_step.specs.declared.Stepped.the-variants.{Found}
-use Rattle.search_step.specs.Steps.{ListFits, Allows, appends, Steps}
+use Rattle.search_step.specs.Steps.{ListFits, Allows, appends, StepHanded, stepHanded, answerOf, leaves, handsNext}
 
 -- a trail that a step moves to is legal
 moved-legal : {v : ℕ} {ls : List ℤ} {t u : Trail} {x : Next} → Stepped v ls t x → x ≡ Moved u → Legal v u
 moved-legal {v = v} {u = u} (moved {u = w} l f o) e = let q : w ≡ u = cc in subst (Legal v) q l
 moved-legal (exhausted h) e = let z : _≡_ {A = ℕ} 0 1 = cc in absurd (omega arith)
 moved-legal (full h s) e = let z : _≡_ {A = ℕ} 0 1 = cc in absurd (omega arith)
+
+pub step-legal : {v : ℕ} {ls : List ℤ} {u : Trail} (t : Trail) → ListFits v ls → Legal v t → step v ls t ≡ Moved u → Legal v u
+step-legal {v} {ls} t fits legal q =
+    moved-legal (stepped t (choice-laws v ls (variableValue t) (fits .closed)) (proper-clauses v ls (fits .within .each)) legal) q
 
 -- where a step stands
 pub record Standing (ls ts : List ℤ) (ms : List ℕ) (used : ℕ) : Type 0 where
@@ -34,19 +38,15 @@ module _ {ls ts : List ℤ} {ms : List ℕ} {used : ℕ} (s : Standing ls ts ms 
   t = packedTrail ts ms used
 
   same : packedValues ms ≡ variableValue t
-  same = fun-ext (s .running .values)
+  same = fun-ext (packed-values (s .running))
 
   pub choice-allowed : {e : Entry} → step (length ms) ls t ≡ appends e t → Allows ts ms used e
-  choice-allowed {e} q =
-      moved-legal
-      (stepped t (choice-laws (length ms) ls (variableValue t) (s .listed .closed)) (proper-clauses (length ms) ls (s .listed .within .each))
-      (s .running .legal))
-      q
+  choice-allowed q = step-legal t (s .listed) (s .running .legal) q
 
   -- what comes of an answer to a choice
-  pub by-choice : {next : Trail → Next} {r : Answered} {us : List ℤ} {ns : List ℕ} → step (length ms) ls t ≡ next t → Steps ts ms used next r us ns
-      → Steps ts ms used (step (length ms) ls) r us ns
-  by-choice q h = record { says = h .says ∙ sym q; running = h .running; stays = h .stays }
+  pub by-choice : {x : Next} {h : StepHanded} → step (length ms) ls t ≡ x → h ≡ record { answer = answerOf x; slices = leaves x (slices ts ms) }
+      → h ≡ handsNext (step (length ms) ls) ts ms used
+  by-choice q e = e ∙ (λ j. record { answer = answerOf (sym q j); slices = leaves (sym q j) (slices ts ms) })
 
   -- the choices, by the values above the marks
   module _ {o : Option ℕ} where
@@ -73,6 +73,6 @@ module _ {ls ts : List ℤ} {ms : List ℕ} {used : ℕ} (s : Standing ls ts ms 
       unfolding step
       on-free h = rw (failed-as f, forced-as g, free-as h)
 
-      pub on-full : none ≡ lowestUnassigned (length ms) (packedValues ms) → Steps ts ms used (step (length ms) ls) Found ts ms
+      pub on-full : none ≡ lowestUnassigned (length ms) (packedValues ms) → stepHanded Found ts ms ≡ handsNext (step (length ms) ls) ts ms used
       unfolding step
-      on-full h = record { says = rw (failed-as f, forced-as g, free-as h); running = s .running; stays = refl }
+      on-full h = rw (failed-as f, forced-as g, free-as h) refl

@@ -1,10 +1,11 @@
 // One step of the search: document 01's "Search", the first of its listed steps that applies.
+ghost use mathlib.Core.Path.{_≡_};
 ghost use lib.IntN.{pos, negsuc};
 ghost use lib.ListN.{length, getD};
 ghost use Rattle.search.specs.Trail.{entry};
 ghost use Rattle.search.specs.Step.{undoes, step};
 ghost use Rattle.search_trail.specs.Packed.{Packed};
-ghost use Rattle.search_step.specs.Steps.{ListFits, Allows, appends, Steps};
+ghost use Rattle.search_step.specs.Steps.{ListFits, Allows, appends, stepHanded, handsNext};
 use answers::Place;
 use cnf::put_not;
 use search_scan::first_failed;
@@ -26,7 +27,7 @@ pub enum Stepped {
 // Undoes back to the last entry marked 1, negates it and marks it 0; if no mark is 1, the answer is "none".
 fn undo(trail: &mut [i32], marks: &mut [u8], used: usize) -> Stepped
     requires { ⌜ Packed (length (now marks)) (now trail) (now marks) used ⌝ }
-    ensures { λ r. ⌜ Steps (now (trail .entry)) (now (marks .entry)) used undoes r (now (trail .exit)) (now (marks .exit)) ⌝ }
+    ensures { λ r. ⌜ stepHanded r (now (trail .exit)) (now (marks .exit)) ≡ handsNext undoes (now (trail .entry)) (now (marks .entry)) used ⌝ }
 {
     let p = last_mark(marks, used);
     let Place::At(i) = p else {
@@ -48,7 +49,7 @@ fn append_forced(
 ) -> Stepped
     requires { ⌜ Packed (length (now marks)) (now trail) (now marks) used ⌝ }
     requires { ⌜ Allows (now trail) (now marks) used (entry (getD (now list) place (pos 0)) 0) ⌝ }
-    ensures { λ r. ⌜ Steps (now (trail .entry)) (now (marks .entry)) used (appends (entry (getD (now (list .entry)) place (pos 0)) 0)) r (now (trail .exit)) (now (marks .exit)) ⌝ }
+    ensures { λ r. ⌜ stepHanded r (now (trail .exit)) (now (marks .exit)) ≡ handsNext (appends (entry (getD (now (list .entry)) place (pos 0)) 0)) (now (trail .entry)) (now (marks .entry)) used ⌝ }
 {
     copy_at(trail, used, list, place);
     assign(trail, marks, used, 0);
@@ -59,7 +60,7 @@ fn append_forced(
 fn append_choice(trail: &mut [i32], marks: &mut [u8], used: usize, index: usize) -> Stepped
     requires { ⌜ Packed (length (now marks)) (now trail) (now marks) used ⌝ }
     requires { ⌜ Allows (now trail) (now marks) used (entry (negsuc index) 1) ⌝ }
-    ensures { λ r. ⌜ Steps (now (trail .entry)) (now (marks .entry)) used (appends (entry (negsuc index) 1)) r (now (trail .exit)) (now (marks .exit)) ⌝ }
+    ensures { λ r. ⌜ stepHanded r (now (trail .exit)) (now (marks .exit)) ≡ handsNext (appends (entry (negsuc index) 1)) (now (trail .entry)) (now (marks .entry)) used ⌝ }
 {
     put_not(trail, used, index + 1);
     assign(trail, marks, used, 1);
@@ -70,7 +71,7 @@ fn append_choice(trail: &mut [i32], marks: &mut [u8], used: usize, index: usize)
 pub fn step(list: &[i32], trail: &mut [i32], marks: &mut [u8], used: usize) -> Stepped
     requires { ⌜ Packed (length (now marks)) (now trail) (now marks) used ⌝ }
     requires { ⌜ ListFits (length (now marks)) (now list) ⌝ }
-    ensures { λ r. ⌜ Steps (now (trail .entry)) (now (marks .entry)) used (step (length (now (marks .entry))) (now (list .entry))) r (now (trail .exit)) (now (marks .exit)) ⌝ }
+    ensures { λ r. ⌜ stepHanded r (now (trail .exit)) (now (marks .exit)) ≡ handsNext (step (length (now (marks .entry))) (now (list .entry))) (now (trail .entry)) (now (marks .entry)) used ⌝ }
 {
     let failed = first_failed(list, marks);
     if let Place::At(_) = failed {

@@ -5,21 +5,22 @@ use native.Mathlib.Decide.{ℕ-discrete}
 use native.Mathlib.Numerals.{add-one}
 use lib.Dec.{eqb}
 use lib.IntN.{ℤ, pos, natAbs}
-use lib.ListN.{length, getD, set, length-set}
-use lib.Seq.{getD-set-other}
+use lib.ListN.{length, getD, set, length-set, length-map}
+use lib.Seq.{getD-set-same, getD-set-other}
 use borrow.Author.Tests.{eqb-true}
 use mathlib.Core.Path.{_≡_, refl, sym, _∙_, ap, subst}
 use mathlib.Core.Bool.{Bool, true, false, cond}
 use mathlib.Core.List.{List, _∷_}
-use Rattle.cnf.specs.Literals.{codeOf}
+use Rattle.cnf.specs.Literals.{codeOf, mostVariables}
 use Rattle.cnf.proofs.Lists.{code-variable}
-use Rattle.search.specs.Trail.{Entry, entry, Trail, Slices, slices, entryAt, trailOf, Unassigned, made, variableValue}
+use Rattle.search.specs.Trail.{Entry, entry, Trail, Slices, slices, entryAt, trailOf, Value, Unassigned, made, variableValue, Values}
 use Rattle.search.proofs.Trails.{length-trail, same-trail}
 use Rattle.search_theory.specs.Legal.{LegalEntry as Right, Legal}
 use Rattle.search_theory.proofs.Full.{legal-length}
-use Rattle.search_scan.specs.PackedValues.{packedValues, bareMarks}
-use Rattle.search_trail.specs.Packed.{packedTrail, Packed, HasByte, withValue, madeTrue, assigned}
-use Rattle.search_trail.proofs.Bytes.{bare-value, packed-value, packed-marked, low-marked, low-others, proper-byte, number-made}
+use Rattle.search_scan.specs.PackedValues.{bareMarks, numberOf, packed}
+use Rattle.search_trail.specs.Packed.{packedTrail, packedMarks, Packed, HasByte, withValue, withMark, madeTrue, assigned}
+use Rattle.search_trail.proofs.Bytes.{bare-value, low-most, bare-marked, proper-byte, number-value, number-marked, number-made}
+use Rattle.search_trail.proofs.Bytes.{length-packed, packed-bare, pack, unpack}
 
 -- what is legal of a trail is so of its beginning
 module _ (v : ℕ) (s : Slices) where
@@ -39,21 +40,59 @@ module _ (v : ℕ) (s : Slices) where
   pub legal-used : (n : ℕ) → Legal v (trailOf s n) → n ≤ v
   legal-used n l = let h = legal-length v (trailOf s n) l in let e = length-trail s n in omega arith
 
+-- bytes have the values w above their marks
+abbrev pub Carries : Values → List ℕ → Type 0
+Carries w ms = ms ≡ packed w (bareMarks ms)
+
 -- values with an entry more, or less
 module _ {ms : List ℕ} (e : Entry) (t : Trail) (b : HasByte ms (codeOf (e .literal))) where
-  pub values-more : ((n : ℕ) → packedValues ms n ≡ variableValue t n) → (n : ℕ)
-      → packedValues (withValue ms (codeOf (e .literal)) (1 + codeOf (e .literal) % 2)) n ≡ variableValue (e ∷ t) n
-  unfolding variableValue
-  values-more h n = packed-value (1 + codeOf (e .literal) % 2) b n ∙ rw (code-variable (e .literal), number-made (e .literal), h n)
+  abbrev code : ℕ
+  code = codeOf (e .literal)
 
-  pub values-less : ((n : ℕ) → packedValues ms n ≡ variableValue (e ∷ t) n) → variableValue t (natAbs (e .literal)) ≡ Unassigned → (n : ℕ)
-      → packedValues (withValue ms (codeOf (e .literal)) 0) n ≡ variableValue t n
+  pub values-more : Carries (variableValue t) ms → Carries (variableValue (e ∷ t)) (withValue ms (codeOf (e .literal)) (1 + codeOf (e .literal) % 2))
   unfolding variableValue
-  values-less h f n = packed-value 0 b n ∙ rw (code-variable (e .literal), h n) (by (eqb (natAbs (e .literal)) n) refl)
+  values-more h =
+      pack (variableValue (e ∷ t)) (withValue ms code (1 + code % 2))
+      (λ j l.
+      number-value (1 + code % 2) b j
+      ∙ rw (code-variable (e .literal), number-made (e .literal), unpack (variableValue t) ms h j (simp length-set at l))
+      (by (eqb (natAbs (e .literal)) (suc j)) (variableValue t (suc j))))
     where
-      by : (b : Bool) → eqb (natAbs (e .literal)) n ≡ b → cond b Unassigned (cond b (made (e .literal)) (variableValue t n)) ≡ variableValue t n
-      by true q = sym (ap (variableValue t) (sym (eqb-true _ _ q)) ∙ f)
-      by false q = refl
+      by : (b : Bool) (x : Value) → cond b (numberOf (made (e .literal))) (numberOf x) ≡ numberOf (cond b (made (e .literal)) x)
+      by true x = refl
+      by false x = refl
+
+  pub values-less : Carries (variableValue (e ∷ t)) ms → variableValue t (natAbs (e .literal)) ≡ Unassigned
+      → Carries (variableValue t) (withValue ms (codeOf (e .literal)) 0)
+  unfolding variableValue
+  values-less h f =
+      pack (variableValue t) (withValue ms code 0)
+      (λ j l.
+      number-value 0 b j
+      ∙ rw (code-variable (e .literal), unpack (variableValue (e ∷ t)) ms h j (simp length-set at l)) (by j (eqb (natAbs (e .literal)) (suc j)) refl))
+    where
+      by : (j : ℕ) (b : Bool) → eqb (natAbs (e .literal)) (suc j) ≡ b
+          → cond b 0 (numberOf (cond b (made (e .literal)) (variableValue t (suc j)))) ≡ numberOf (variableValue t (suc j))
+      by j true q = sym (ap (λ n. numberOf (variableValue t n)) (sym (eqb-true _ _ q)) ∙ ap numberOf f)
+      by j false q = refl
+
+values-marked : (w : Values) (ms : List ℕ) {i m : ℕ} → i < length ms → m ≤ 1 → Carries w ms → Carries w (withMark ms i m)
+values-marked w ms {i} {m} h k c = pack w (withMark ms i m) (λ j l. number-marked ms i m h k j ∙ unpack w ms c j (simp length-set at l))
+
+-- marks that are packed again
+module _ (ts : List ℤ) (ms : List ℕ) (n : ℕ) {ns : List ℕ} (e : ns ≡ packedMarks ts ms n) where
+  abbrev given : Values
+  given = variableValue (packedTrail ts ms n)
+
+  pub packed-long : length ns ≡ length ms
+  packed-long = ap length e ∙ length-packed given (bareMarks ms) ∙ length-map ms (λ m. m % 2)
+
+  pub packed-same : bareMarks ns ≡ bareMarks ms
+  packed-same = ap bareMarks e ∙ packed-bare given (bareMarks ms) (λ k l. low-most ms k)
+
+  pub repacked : {v : ℕ} → v ≤ mostVariables → length ts ≡ v → length ms ≡ v → Legal v (packedTrail ts ms n) → Packed v ts ns n
+  repacked few literals bytes legal =
+      record { few = few; literals = literals; bytes = packed-long ∙ bytes; legal = rw packed-same legal; values = rw packed-same e }
 
 module _ {v : ℕ} {ts : List ℤ} {ms : List ℕ} {i : ℕ} (r : Packed v ts ms i) where
   pub running-used : i ≤ v
@@ -72,7 +111,7 @@ module _ {v : ℕ} {ts : List ℤ} {ms : List ℕ} {i : ℕ} (r : Packed v ts ms
         literals = length-set ts i l ∙ r .literals;
         bytes = r .bytes;
         legal = subst (Legal v) (set-trail l) (r .legal);
-        values = λ n. r .values n ∙ ap (λ (t : Trail). variableValue t n) (set-trail l);
+        values = r .values ∙ ap (λ (t : Trail). packed (variableValue t) (bareMarks ms)) (set-trail l);
       }
 
   -- the first unused entry is used
@@ -80,21 +119,22 @@ module _ {v : ℕ} {ts : List ℤ} {ms : List ℕ} {i : ℕ} (r : Packed v ts ms
     abbrev new : Entry
     new = entry (getD ts i (pos 0)) m
 
+    pub assigned-bare : bareMarks (assigned ts ms i m) ≡ set (bareMarks ms) i m
+    assigned-bare =
+        let code = codeOf (getD ts i (pos 0)) in
+        bare-marked (madeTrue ts ms i) i m k ∙ ap (λ (ns : List ℕ). set ns i m) (bare-value ms code (1 + code % 2))
+
     pub entered-trail : packedTrail ts (assigned ts ms i m) (suc i) ≡ new ∷ packedTrail ts ms i
     unfolding trailOf
-    entered-trail = (λ t. entry (getD ts i (pos 0)) (mark t) ∷ same-trail (slices ts (bareMarks (assigned ts ms i m))) (slices ts (bareMarks ms)) i same t)
+    entered-trail =
+        ap (λ (ns : List ℕ). trailOf (slices ts ns) (suc i)) assigned-bare
+        ∙ (λ t. entry (getD ts i (pos 0)) (mark t) ∷ same-trail (slices ts (set (bareMarks ms) i m)) (slices ts (bareMarks ms)) i same t)
       where
-        room : i < length (madeTrue ts ms i)
-        room = simp length-set (let e = r .bytes in omega arith)
+        mark : getD (set (bareMarks ms) i m) i 0 ≡ m
+        mark = getD-set-same (bareMarks ms) i m 0 (simp length-map (let e = r .bytes in omega arith))
 
-        mark : getD (bareMarks (assigned ts ms i m)) i 0 ≡ m
-        mark = low-marked (madeTrue ts ms i) i m room k
-
-        same : (j : ℕ) → j < i → entryAt (slices ts (bareMarks (assigned ts ms i m))) j ≡ entryAt (slices ts (bareMarks ms)) j
-        same j l =
-            ap (entry (getD ts j (pos 0)))
-            (low-others (madeTrue ts ms i) i m j (λ e. omega arith)
-            ∙ ap (λ (ns : List ℕ). getD ns j 0) (bare-value ms (codeOf (getD ts i (pos 0))) (1 + codeOf (getD ts i (pos 0)) % 2)))
+        same : (j : ℕ) → j < i → entryAt (slices ts (set (bareMarks ms) i m)) j ≡ entryAt (slices ts (bareMarks ms)) j
+        same j l = ap (entry (getD ts j (pos 0))) (getD-set-other (bareMarks ms) i j m 0 (λ e. omega arith))
 
     pub assign-packed : Right v (packedTrail ts ms i) new → Packed v ts (assigned ts ms i m) (i + 1)
     assign-packed w =
@@ -104,81 +144,67 @@ module _ {v : ℕ} {ts : List ℤ} {ms : List ℕ} {i : ℕ} (r : Packed v ts ms
           bytes = simp length-set (r .bytes);
           legal = subst (Legal v) (sym entered-trail) (w, r .legal);
           values =
-              λ n.
-              packed-marked (madeTrue ts ms i) i m (simp length-set (let e = r .bytes in omega arith)) k n
-              ∙ values-more new (packedTrail ts ms i) (proper-byte (getD ts i (pos 0)) (w .proper) (r .bytes)) (r .values) n
-              ∙ ap (λ (t : Trail). variableValue t n) (sym entered-trail);
+              subst (λ (t : Trail). Carries (variableValue t) (assigned ts ms i m)) (sym entered-trail)
+              (values-marked (variableValue (new ∷ packedTrail ts ms i)) (madeTrue ts ms i) (simp length-set (let e = r .bytes in omega arith)) k
+              (values-more new (packedTrail ts ms i) (proper-byte (getD ts i (pos 0)) (w .proper) (r .bytes)) (r .values)));
         })
 
--- the values change and the marks stay: ms₀ has become ms, which holds the values of the first i entries
-pub record Valuing (v : ℕ) (ts : List ℤ) (ms₀ ms : List ℕ) (i : ℕ) : Type 0 where
-  pub running : Packed v ts ms i
-  pub same : bareMarks ms ≡ bareMarks ms₀
+-- the values change and the marks stay: ms₀ has become ms, which has the values of the first i of the entries used
+pub record Valuing (ts : List ℤ) (ms₀ : List ℕ) (used : ℕ) (ms : List ℕ) (i : ℕ) : Type 0 where
+  pub literals : length ts ≡ length ms₀
+  pub legal : Legal (length ms₀) (packedTrail ts ms₀ used)
+  pub within : i ≤ used
+  pub is : ms ≡ packedMarks ts ms₀ i
 
-pub value-start : {v : ℕ} {ts : List ℤ} {ms : List ℕ} {i : ℕ} → Packed v ts ms i → Valuing v ts ms ms i
-value-start r = record { running = r; same = refl }
+module _ {ts : List ℤ} {ms₀ : List ℕ} {used : ℕ} {ms : List ℕ} {i : ℕ} (g : Valuing ts ms₀ used ms i) where
+  abbrev s : Slices
+  s = slices ts (bareMarks ms₀)
 
-module _ {v : ℕ} {ts : List ℤ} {ms₀ ms : List ℕ} {i : ℕ} (g : Valuing v ts ms₀ ms i) where
-  -- one more
-  module _ (n : ℕ) (l : Legal v (packedTrail ts ms₀ n)) (h : i < n) where
-    right : Right v (packedTrail ts ms i) (entryAt (slices ts (bareMarks ms)) i)
-    right = rw (g .same) (legal-at v (slices ts (bareMarks ms₀)) n l i h)
+  pub value-long : length ms ≡ length ms₀
+  value-long = packed-long ts ms₀ i (g .is)
 
-    pub load-byte : HasByte ms (codeOf (getD ts i (pos 0)))
-    load-byte = proper-byte (getD ts i (pos 0)) (right .proper) (g .running .bytes)
+  abbrev same : bareMarks ms ≡ bareMarks ms₀
+  same = packed-same ts ms₀ i (g .is)
 
-    loaded : Valuing v ts ms₀ (madeTrue ts ms i) (i + 1)
-    unfolding trailOf
-    loaded =
-        let e = bare-value ms (codeOf (getD ts i (pos 0))) (1 + codeOf (getD ts i (pos 0)) % 2) in
-        record {
-          running = record {
-            few = g .running .few;
-            literals = g .running .literals;
-            bytes = simp length-set (g .running .bytes);
-            legal = rw (add-one, e) (right, g .running .legal);
-            values = λ x. rw (add-one, e) (values-more (entryAt (slices ts (bareMarks ms)) i) (packedTrail ts ms i) load-byte (g .running .values) x);
-          };
-          same = e ∙ g .same;
-        }
+  pub value-inside : {j : ℕ} → j < used → j < length ts
+  value-inside h = let u = legal-used (length ms₀) s used (g .legal) in let n = g .literals in omega arith
 
-    pub load-on : {ns : List ℕ} → ns ≡ madeTrue ts ms i → Valuing v ts ms₀ ns (i + 1)
-    load-on e = subst (λ (ns : List ℕ). Valuing v ts ms₀ ns (i + 1)) (sym e) loaded
+  pub value-byte : {j : ℕ} → j < used → HasByte ms (codeOf (getD ts j (pos 0)))
+  value-byte {j} h = proper-byte (getD ts j (pos 0)) (legal-at (length ms₀) s used (g .legal) j h .proper) value-long
 
-  -- one less
-  module _ (h : 0 < i) where
-    back : i ≡ suc (i - 1)
-    back = omega arith
+  -- the value of the next entry, or the last one
+  pub value-more : {ns : List ℕ} → i < used → ns ≡ madeTrue ts ms i → Valuing ts ms₀ used ns (i + 1)
+  unfolding trailOf
+  value-more {ns} h e =
+      let code = codeOf (getD ts i (pos 0)) in
+      record {
+        literals = g .literals;
+        legal = g .legal;
+        within = omega arith;
+        is =
+            rw add-one
+            (e
+            ∙ values-more (entryAt s i) (trailOf s i) (value-byte h) (rw same (g .is))
+            ∙ ap (packed (variableValue (entryAt s i ∷ trailOf s i))) (bare-value ms code (1 + code % 2) ∙ same));
+      }
 
-    was : Right v (packedTrail ts ms (i - 1)) (entryAt (slices ts (bareMarks ms)) (i - 1))
-    was = legal-at v (slices ts (bareMarks ms)) i (g .running .legal) (i - 1) (omega arith)
+  pub value-less : {ns : List ℕ} {k : ℕ} → 0 < i → k ≡ codeOf (getD ts (i - 1) (pos 0)) → ns ≡ withValue ms k 0 → Valuing ts ms₀ used ns (i - 1)
+  unfolding trailOf
+  value-less {ns} {k} h c e =
+      let z : i ≡ suc (i - 1) = omega arith in
+      let w = g .within in
+      let b = value-byte {j = i - 1} (omega arith) in
+      let free = legal-at (length ms₀) s used (g .legal) (i - 1) (omega arith) .free in
+      let code = codeOf (getD ts (i - 1) (pos 0)) in
+      record {
+        literals = g .literals;
+        legal = g .legal;
+        within = omega arith;
+        is =
+            e ∙ ap (λ (x : ℕ). withValue ms x 0) c
+            ∙ values-less (entryAt s (i - 1)) (trailOf s (i - 1)) b (rw same (g .is ∙ ap (packedMarks ts ms₀) z)) free
+            ∙ ap (packed (variableValue (trailOf s (i - 1)))) (bare-value ms code 0 ∙ same);
+      }
 
-    byte : HasByte ms (codeOf (getD ts (i - 1) (pos 0)))
-    byte = proper-byte (getD ts (i - 1) (pos 0)) (was .proper) (g .running .bytes)
-
-    forgot : Valuing v ts ms₀ (withValue ms (codeOf (getD ts (i - 1) (pos 0))) 0) (i - 1)
-    unfolding trailOf
-    forgot =
-        let e = bare-value ms (codeOf (getD ts (i - 1) (pos 0))) 0 in
-        record {
-          running = record {
-            few = g .running .few;
-            literals = g .running .literals;
-            bytes = simp length-set (g .running .bytes);
-            legal = rw e (legal-before v (slices ts (bareMarks ms)) i (g .running .legal) (i - 1) (omega arith));
-            values =
-                λ x.
-                rw e
-                (values-less (entryAt (slices ts (bareMarks ms)) (i - 1)) (packedTrail ts ms (i - 1)) byte (λ n. g .running .values n ∙ ap (λ (j : ℕ). variableValue (packedTrail ts ms j) n) back) (was .free) x);
-          };
-          same = e ∙ g .same;
-        }
-
-    pub forget-byte : {k : ℕ} → k ≡ codeOf (getD ts (i - 1) (pos 0)) → HasByte ms k
-    forget-byte e = subst (HasByte ms) (sym e) byte
-
-    pub forget-on : {k : ℕ} {ns : List ℕ} → k ≡ codeOf (getD ts (i - 1) (pos 0)) → ns ≡ withValue ms k 0 → Valuing v ts ms₀ ns (i - 1)
-    forget-on e q = subst (λ (ns : List ℕ). Valuing v ts ms₀ ns (i - 1)) (sym (q ∙ ap (λ (k : ℕ). withValue ms k 0) e)) forgot
-
-  pub value-end : {n : ℕ} → i ≡ n → (bareMarks ms ≡ bareMarks ms₀) × Packed v ts ms n
-  value-end e = (g .same, subst (Packed v ts ms) e (g .running))
+  pub value-end : {n : ℕ} → i ≡ n → ms ≡ packedMarks ts ms₀ n
+  value-end e = g .is ∙ ap (packedMarks ts ms₀) e

@@ -7,13 +7,17 @@ use mathlib.Core.Path.{_≡_}
 use mathlib.Core.Bool.{cond}
 use mathlib.Core.List.{List}
 use Rattle.cnf.specs.Literals.{mostVariables, codeOf}
-use Rattle.search.specs.Trail.{Trail, slices, trailOf, variableValue}
+use Rattle.search.specs.Trail.{Trail, Slices, slices, filledSlices, image, trailOf, variableValue}
 use Rattle.search_theory.specs.Legal.{Legal}
-use Rattle.search_scan.specs.PackedValues.{packedValues, bareMarks}
+use Rattle.search_scan.specs.PackedValues.{bareMarks, packed}
 
 -- the trail in the buffers: literals, and marks in the lowest bits
 abbrev pub packedTrail : List ℤ → List ℕ → ℕ → Trail
 packedTrail ts ms used = trailOf (slices ts (bareMarks ms)) used
+
+-- the marks, with the values above them that the first n entries give
+abbrev pub packedMarks : List ℤ → List ℕ → ℕ → List ℕ
+packedMarks ts ms n = packed (variableValue (packedTrail ts ms n)) (bareMarks ms)
 
 -- they hold a legal trail, and above the marks the values that it gives
 pub record Packed (v : ℕ) (ts : List ℤ) (ms : List ℕ) (used : ℕ) : Type 0 where
@@ -21,7 +25,13 @@ pub record Packed (v : ℕ) (ts : List ℤ) (ms : List ℕ) (used : ℕ) : Type 
   pub literals : length ts ≡ v
   pub bytes : length ms ≡ v
   pub legal : Legal v (packedTrail ts ms used)
-  pub values : (n : ℕ) → packedValues ms n ≡ variableValue (packedTrail ts ms used) n
+  pub values : ms ≡ packedMarks ts ms used
+
+-- a trail is written into the buffers: its entries from the first place on, elements past them are untouched; and above the marks the values that it gives
+abbrev pub holding : Trail → Slices → Slices
+holding t s =
+    let written : Slices = filledSlices (slices (s .trail) (bareMarks (s .marks))) (image (length t) t) in
+    slices (written .trail) (packed (variableValue t) (written .marks))
 
 -- a code's variable has a byte
 pub record HasByte (ms : List ℕ) (k : ℕ) : Type 0 where
@@ -33,8 +43,8 @@ abbrev pub withValue : List ℕ → ℕ → ℕ → List ℕ
 withValue ms k n = set ms (k / 2 - 1) (getD ms (k / 2 - 1) 0 % 2 + n * 2)
 
 -- a mark is put below the value in a byte
-abbrev pub marked : List ℕ → ℕ → ℕ → List ℕ
-marked ms i m = set ms i (getD ms i 0 / 2 * 2 + m)
+abbrev pub withMark : List ℕ → ℕ → ℕ → List ℕ
+withMark ms i m = set ms i (getD ms i 0 / 2 * 2 + m)
 
 -- the literal at a place is made true
 abbrev pub madeTrue : List ℤ → List ℕ → ℕ → List ℕ
@@ -42,7 +52,7 @@ madeTrue ts ms i = withValue ms (codeOf (getD ts i (pos 0))) (1 + codeOf (getD t
 
 -- an entry is used: its literal is made true, and it is marked
 abbrev pub assigned : List ℤ → List ℕ → ℕ → ℕ → List ℕ
-assigned ts ms i m = marked (madeTrue ts ms i) i m
+assigned ts ms i m = withMark (madeTrue ts ms i) i m
 
 -- a byte without its value, and 0 if it is not used
 abbrev pub clearedByte : ℕ → ℕ → ℕ → ℕ

@@ -7,7 +7,7 @@ ghost use lib.ListN.{length, getD, set, take, replicate};
 ghost use Rattle.cnf.specs.Literals.{codeOf};
 ghost use Rattle.search_theory.specs.Legal.{Legal};
 ghost use Rattle.search_scan.specs.PackedValues.{bareMarks};
-ghost use Rattle.search_trail.specs.Packed.{packedTrail, Packed, HasByte, withValue, madeTrue, assigned, clearedByte};
+ghost use Rattle.search_trail.specs.Packed.{packedTrail, packedMarks, Packed, HasByte, withValue, madeTrue, assigned, clearedByte};
 use cnf::code_at;
 
 // Copies a literal of the list to a place of the trail.
@@ -63,8 +63,7 @@ pub fn assign(trail: &[i32], marks: &mut [u8], i: usize, mark: u8)
 pub fn unassign(trail: &[i32], marks: &mut [u8], used: usize, to: usize)
     requires { ⌜ Packed (length (now marks)) (now trail) (now marks) used ⌝ }
     requires { ⌜ to ≤ used ⌝ }
-    ensures { λ r. ⌜ bareMarks (now (marks .exit)) ≡ bareMarks (now (marks .entry)) ⌝ }
-    ensures { λ r. ⌜ Packed (length (now (marks .entry))) (now (trail .entry)) (now (marks .exit)) to ⌝ }
+    ensures { λ r. ⌜ now (marks .exit) ≡ packedMarks (now (trail .entry)) (now (marks .entry)) to ⌝ }
 {
     let mut i = used;
     while i > to {
@@ -78,8 +77,7 @@ pub fn unassign(trail: &[i32], marks: &mut [u8], used: usize, to: usize)
 pub fn pack_values(trail: &[i32], marks: &mut [u8], used: usize)
     requires { ⌜ Packed (length (now marks)) (now trail) (now marks) 0 ⌝ }
     requires { ⌜ Legal (length (now marks)) (packedTrail (now trail) (now marks) used) ⌝ }
-    ensures { λ r. ⌜ bareMarks (now (marks .exit)) ≡ bareMarks (now (marks .entry)) ⌝ }
-    ensures { λ r. ⌜ Packed (length (now (marks .entry))) (now (trail .entry)) (now (marks .exit)) used ⌝ }
+    ensures { λ r. ⌜ now (marks .exit) ≡ packedMarks (now (trail .entry)) (now (marks .entry)) used ⌝ }
 {
     let mut i: usize = 0;
     while i < used {

@@ -53,31 +53,25 @@ enum-told : tie.Need-enum-told Inv-loop μ-loop
 enum-told c = search needs
 
 same-length : tie.Need-same-length Inv-loop μ-loop
-same-length c =
-    let at-step = c .before .before .before .before .before in
-    let start = at-step .before .before .before .before .before .before in
-    returns c .running .literals ∙ sym (start .pre .0 .literals)
+same-length c = search needs
 
 same-length-2 : tie.Need-same-length-2 Inv-loop μ-loop
-same-length-2 c = returns c .running .bytes
+same-length-2 c = search needs
 
 enum-told-2 : tie.Need-enum-told-2 Inv-loop μ-loop
 enum-told-2 c = search needs
 
 same-length-3 : tie.Need-same-length-3 Inv-loop μ-loop
-same-length-3 c =
-    let at-step = c .before .before .before .before .before in
-    let start = at-step .before .before .before .before .before .before in
-    returns-2 c .running .literals ∙ sym (start .pre .0 .literals)
+same-length-3 c = search needs
 
 same-length-4 : tie.Need-same-length-4 Inv-loop μ-loop
-same-length-4 c = returns-2 c .running .bytes
+same-length-4 c = search needs
 
 same-length-5 : tie.Need-same-length-5 Inv-loop μ-loop
-same-length-5 c = returns-3 c .running .literals ∙ sym (c .before .before .before .pre .0 .literals)
+same-length-5 c = search needs
 
 same-length-6 : tie.Need-same-length-6 Inv-loop μ-loop
-same-length-6 c = returns-3 c .running .bytes
+same-length-6 c = search needs
 
 pub run-spec : {M : Type 1} → statement M
 run-spec =

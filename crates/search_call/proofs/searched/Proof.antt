@@ -1,8 +1,11 @@
 -- `search_call::searched` meets its contract. Assumes nothing.
 use mathlib.Core.List.{List}
 use Prim.Native.Nat.{ℕ}
+use lib.IntN.{ℤ}
 use Rattle.search_theory.proofs.Accepted.{taken-sized}
-use Rattle.search_call.proofs.Calls.{Cleared, Loaded, cleared-running, cleared-legal, loaded-running, loaded-listed, ended-literals, ended-bytes, ended}
+use Rattle.search_call.specs.declared.End.{End}
+use Rattle.search_call.proofs.Calls.{Cleared, Loaded, Ran, cleared-running, cleared-legal, loaded-running, loaded-listed, ended-literals, ended-bytes}
+use Rattle.search_call.proofs.Calls.{ended}
 use borrow.Author.Needs.{needs}
 use Rattle.search_call.proofs.searched.Statement.{statement}
 use Rattle.search_call.proofs.searched.Tie as tie
@@ -24,7 +27,19 @@ abbrev LoadedAt : tie.Start → List ℕ → List ℕ → Type 0
 LoadedAt c ns ws = Loaded (c .args .list .now) (c .args .trail .now) (c .args .marks .now) (c .args .used) ns ws
 
 loaded : (c : tie.After-pack-values) → LoadedAt (start2 c) (c .before .before .before .before .before .clear-marks .last .0) (c .pack-values .last .1 .0)
-loaded c = record { cleared = cleared (c .before .before .before .before .before); same = c .pack-values .ensures .0; running = c .pack-values .ensures .1 }
+loaded c = record { cleared = cleared (c .before .before .before .before .before); loads = c .pack-values .ensures }
+
+abbrev start3 : tie.After-run → tie.Start
+start3 c = start2 (c .before .before .before .before .before)
+
+abbrev RanAt : tie.Start → List ℕ → List ℕ → End → List ℤ → List ℕ → Type 0
+RanAt c ns ws r us xs = Ran (c .args .list .now) (c .args .trail .now) (c .args .marks .now) (c .args .used) (c .args .budget) ns ws r us xs
+
+ran : (c : tie.After-run)
+    → let packed = c .before .before .before .before .before in
+    let cleared = packed .before .before .before .before .before in
+    RanAt (start3 c) (cleared .clear-marks .last .0) (packed .pack-values .last .1 .0) (c .run .result) (c .run .last .1 .0) (c .run .last .1 .1 .0)
+ran c = record { loaded = loaded (c .before .before .before .before .before); ran = c .run .ensures }
 
 clear-marks-requires : tie.Need-clear-marks-requires
 clear-marks-requires c κs = taken-sized (c .before .before .pre) .inside
@@ -36,14 +51,10 @@ run-requires : tie.Need-run-requires
 run-requires c κs = let l = loaded (c .before .before .before .before) in (loaded-running l, loaded-listed l)
 
 clear-trail-requires : tie.Need-clear-trail-requires
-clear-trail-requires c κs =
-    let ran = c .before .before .before .before in
-    ended-literals (loaded (ran .before .before .before .before .before)) (ran .run .ensures)
+clear-trail-requires c κs = ended-literals (ran (c .before .before .before .before))
 
 clear-marks-requires-2 : tie.Need-clear-marks-requires-2
-clear-marks-requires-2 c κs =
-    let ran = c .before .before .before .before .before .before .before in
-    ended-bytes (loaded (ran .before .before .before .before .before)) (ran .run .ensures)
+clear-marks-requires-2 c κs = ended-bytes (ran (c .before .before .before .before .before .before .before))
 
 same-length : tie.Need-same-length
 same-length c = search needs
@@ -54,9 +65,7 @@ same-length-2 c = search needs
 returns : tie.Need-returns
 returns c =
     let cleared-trail = c .before .before .before .before .before in
-    let ran = cleared-trail .before .before .before .before .before in
-    ended (loaded (ran .before .before .before .before .before)) (ran .run .ensures) (cleared-trail .clear-trail .ensures)
-    (c .before .before .clear-marks2 .ensures)
+    ended (ran (cleared-trail .before .before .before .before .before)) (cleared-trail .clear-trail .ensures) (c .before .before .clear-marks2 .ensures)
 
 pub searched-spec : {M : Type 1} → statement M
 searched-spec =

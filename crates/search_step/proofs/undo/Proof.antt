@@ -1,5 +1,6 @@
 -- `search_step::undo` meets its contract. Assumes nothing.
-use Rattle.search_step.proofs.Append.{append-assign, Backed, Forgot, undo-nothing, back-below, back-inside, back-small, back-allowed, back-steps}
+use Rattle.search_step.proofs.Append.{append-assign, Backed, Forgot, undo-nothing, back-below, back-inside, back-small}
+use Rattle.search_step.proofs.Append.{back-running, back-allowed, back-steps}
 use Prim.Native.Nat.{ℕ}
 use native.Mathlib.Omega.{arith}
 use mathlib.Core.List.{List}
@@ -26,12 +27,7 @@ ForgotAt c ns i = Forgot (c .args .trail .now) (c .args .marks .now) ns (c .args
 
 forgot : (c : tie.After-slice-known2)
     → ForgotAt (start2 c) (c .before .before .unassign .last .1 .0) (c .before .before .before .before .before .before .p .given .0 .0)
-forgot c =
-    record {
-      back = back (c .before .before .before .before .before .before);
-      same = c .before .before .unassign .ensures .0;
-      running = c .before .before .unassign .ensures .1;
-    }
+forgot c = record { back = back (c .before .before .before .before .before .before); forgets = c .before .before .unassign .ensures }
 
 last-mark-requires : tie.Need-last-mark-requires
 last-mark-requires c κs = running-used (c .before .before .pre)
@@ -46,7 +42,10 @@ same-length : tie.Need-same-length
 same-length c = search needs
 
 returns : tie.Need-returns
-returns c = undo-nothing (c .before .before .before .before .before .pre) (found-none (c .enum-told .given .1) (c .before .before .last-mark .ensures))
+returns c =
+    let start = c .before .before .before .before .before in
+    undo-nothing (start .args .trail .now) (start .args .marks .now) (start .args .used)
+    (found-none (c .enum-told .given .1) (c .before .before .last-mark .ensures))
 
 unassign-requires : tie.Need-unassign-requires
 unassign-requires c κs =
@@ -59,7 +58,7 @@ negate-at-requires c κs = let b = back (c .before .before .before .before .befo
 assign-requires : tie.Need-assign-requires
 assign-requires c κs =
     let f = forgot (c .before .before .before .before .before) in
-    let h = append-assign (f .running) (back-allowed f) (c .before .before .before .negate-at .ensures) in
+    let h = append-assign (back-running f) (back-allowed f) (c .before .before .before .negate-at .ensures) in
     ((h .0, h .1, omega arith), h .2)
 
 add-t19 : tie.Need-add-t19

@@ -1,0 +1,174 @@
+-- The trail that the buffers hold: the values read from them, and what is left where it is written. Assumes nothing.
+use Prim.Native.Nat.{ℕ, zero, suc, _+_, _-_, _/_, _%_, _≤_, _<_}
+use native.Mathlib.Omega.{arith}
+use native.Mathlib.Decide.{decLt}
+use lib.IntN.{ℤ, pos, natAbs}
+use lib.ListN.{length, getD, take, drop, replicate, length-map, length-replicate, List·getD-append, List·getD-eq-default, take-append-drop}
+use lib.Seq.{length-front, length-take-le, getD-append-add, getD-drop}
+use borrow.Author.Tests.{ne-eqb}
+use mathlib.Core.Path.{_≡_, refl, sym, _∙_, ap, subst}
+use mathlib.Core.List.{List, [], _∷_, _++_, append-nil}
+use Rattle.answers.specs.Lent.{filled}
+use Rattle.cnf.specs.Literals.{mostVariables}
+use Rattle.cnf.proofs.Lists.{code-variable}
+use Rattle.search.specs.Trail.{Entry, entry, Trail, Slices, slices, HasLength, imageBy, image, entryAt, trailOf}
+use Rattle.search.specs.Trail.{Value, True, False, Unassigned, variableValue}
+use Rattle.search.proofs.Trails.{length-trail, same-trail, length-laid, read-image, cut, image-read}
+use Rattle.search_theory.proofs.Legal.{Legal}
+use Rattle.search_theory.proofs.Full.{legal-length}
+use Rattle.search_scan.specs.PackedValues.{valueOf, packedValues, bareMarks, numberOf, packed}
+use Rattle.search_trail.specs.Packed.{packedTrail, packedMarks, Packed, holding}
+use Rattle.search_trail.proofs.Bytes.{low-most, proper-byte, length-packed, packed-bare, unpack}
+use Rattle.search_trail.proofs.Entries.{legal-at, running-used}
+
+-- 1. The values above the marks are those that the trail gives
+
+value-number : (x : Value) → valueOf (numberOf x) ≡ x
+value-number True = refl
+value-number False = refl
+value-number Unassigned = refl
+
+-- a number that is no variable's
+outside : {v : ℕ} (ms : List ℕ) → length ms ≡ v → (t : Trail) → Legal v t → (n : ℕ) → (1 ≤ n → n ≤ v → ⊥) → variableValue t n ≡ Unassigned
+unfolding variableValue
+outside ms e [] l n h = refl
+outside ms e (x ∷ t) l n h =
+    let b = proper-byte {ms = ms} (x .literal) (l .0 .proper) e in
+    let p = b .positive in
+    let i = b .inside in
+    let c = code-variable (x .literal) in
+    rw (ne-eqb (natAbs (x .literal)) n (λ q. h (omega arith) (omega arith))) (outside ms e t (l .1) n h)
+
+pub packed-values : {v : ℕ} {ts : List ℤ} {ms : List ℕ} {used : ℕ} → Packed v ts ms used → (n : ℕ)
+    → packedValues ms n ≡ variableValue (packedTrail ts ms used) n
+packed-values {ts = ts} {ms} {used} r zero = sym (outside ms (r .bytes) (packedTrail ts ms used) (r .legal) 0 (λ p q. omega arith))
+packed-values {ts = ts} {ms} {used} r (suc k) = by (decLt k (length ms))
+  where
+    by : Dec (k < length ms) → valueOf (getD ms k 0 / 2) ≡ variableValue (packedTrail ts ms used) (suc k)
+    by (yes h) = ap valueOf (unpack (variableValue (packedTrail ts ms used)) ms (r .values) k h) ∙ value-number _
+    by (no h) =
+        rw (List·getD-eq-default ms 0 {n = k} (omega arith))
+        (sym (outside ms (r .bytes) (packedTrail ts ms used) (r .legal) (suc k) (λ p q. let e = r .bytes in omega arith)))
+
+-- 2. A buffer that is written from the first place on
+
+module _ {A : Type 0} (buf xs : List A) (d : A) where
+  filled-at : (k : ℕ) → k < length xs → getD (filled buf xs) k d ≡ getD xs k d
+  filled-at k h = List·getD-append xs (drop (length xs) buf) d k h
+
+  filled-past : (k : ℕ) → length xs ≤ k → getD (filled buf xs) k d ≡ getD buf k d
+  filled-past k h =
+      let e : k ≡ length xs + (k - length xs) = omega arith in
+      ap (λ (n : ℕ). getD (filled buf xs) n d) e ∙ getD-append-add xs (drop (length xs) buf) (k - length xs) d ∙ getD-drop (length xs) buf (k - length xs) d
+      ∙ ap (λ (n : ℕ). getD buf n d) (sym e)
+
+length-filled : {A : Type 0} (buf xs : List A) → length xs ≤ length buf → length (filled buf xs) ≡ length buf
+length-filled buf xs h = length-front buf xs (length xs) (sym (length-take-le (length xs) buf h))
+
+-- the first n elements of xs, over what is the same after them
+refilled : {A : Type 0} (d : A) (buf xs : List A) (n : ℕ) → n ≤ length xs → drop n buf ≡ drop n xs → filled buf (take n xs ++ replicate (n - n) d) ≡ xs
+refilled d buf xs n h e =
+    let z : n - n ≡ 0 = omega arith in
+    rw (z, append-nil (take n xs), length-take-le n xs h, e) (take-append-drop n xs)
+
+-- 3. A trail in the buffers
+
+-- the buffers hold a trail
+pub record Held (v : ℕ) (t : Trail) (s : Slices) : Type 0 where
+  pub packed : Packed v (s .trail) (s .marks) (length t)
+  pub trail : packedTrail (s .trail) (s .marks) (length t) ≡ t
+
+pub packed-held : {v : ℕ} {ts : List ℤ} {ms : List ℕ} {used : ℕ} → Packed v ts ms used → Held v (packedTrail ts ms used) (slices ts ms)
+packed-held {v} {ts} {ms} {used} r =
+    let e = length-trail (slices ts (bareMarks ms)) used in
+    record { packed = subst (Packed v ts ms) (sym e) r; trail = ap (packedTrail ts ms) e }
+
+length-entries : {A : Type 0} (f : Entry → A) (d : A) (t : Trail) → length (imageBy f d (length t) t) ≡ length t
+length-entries f d t =
+    let n = length-replicate (length t - length t) d in
+    omega (arith, length-laid f t (replicate (length t - length t) d))
+
+-- a legal trail that is written is held
+module _ {v : ℕ} (few : v ≤ mostVariables) {s : Slices} (long : HasLength v s) (u : Trail) (legal : Legal v u) where
+  abbrev new : Slices
+  new = image (length u) u
+
+  abbrev bare : List ℕ
+  bare = bareMarks (s .marks)
+
+  new-literals : length (new .trail) ≡ length u
+  new-literals = length-entries (λ e. e .literal) (pos 0) u
+
+  new-marks : length (new .marks) ≡ length u
+  new-marks = length-entries (λ e. e .mark) 0 u
+
+  low : (k : ℕ) → k < length (filled bare (new .marks)) → getD (filled bare (new .marks)) k 0 ≤ 1
+  low k l = by (decLt k (length (new .marks)))
+    where
+      by : Dec (k < length (new .marks)) → getD (filled bare (new .marks)) k 0 ≤ 1
+      by (yes h) =
+          let m = legal-at v new (length u) (subst (Legal v) (sym (read-image (length u) u)) legal) k (let n = new-marks in omega arith) .marked in
+          omega (arith, filled-at bare (new .marks) 0 k h)
+      by (no h) = omega (arith, filled-past bare (new .marks) 0 k (omega arith), low-most (s .marks) k)
+
+  marks : bareMarks (holding u s .marks) ≡ filled bare (new .marks)
+  marks = packed-bare (variableValue u) (filled bare (new .marks)) low
+
+  held-trail : packedTrail (holding u s .trail) (holding u s .marks) (length u) ≡ u
+  held-trail =
+      ap (λ (ms : List ℕ). trailOf (slices (holding u s .trail) ms) (length u)) marks
+      ∙ same-trail (slices (filled (s .trail) (new .trail)) (filled bare (new .marks))) new (length u)
+      (λ i h.
+      (λ j. entry (filled-at (s .trail) (new .trail) (pos 0) i (let n = new-literals in omega arith) j)
+      (filled-at bare (new .marks) 0 i (let n = new-marks in omega arith) j)))
+      ∙ read-image (length u) u
+
+  pub holds : Held v u (holding u s)
+  holds =
+      record {
+        packed = record {
+          few = few;
+          literals = length-filled (s .trail) (new .trail) (let n = new-literals in let l = long .trail in let r = room in omega arith) ∙ long .trail;
+          bytes =
+              length-packed (variableValue u) (filled bare (new .marks))
+              ∙ length-filled bare (new .marks) (let n = new-marks in let l = long .marks in let r = room in omega (arith, length-map (s .marks) (λ m. m % 2)))
+              ∙ length-map (s .marks) (λ m. m % 2) ∙ long .marks;
+          legal = subst (Legal v) (sym held-trail) legal;
+          values = rw (held-trail, marks) refl;
+        };
+        trail = held-trail;
+      }
+    where
+      room : length u ≤ v
+      room = legal-length v u legal
+
+-- of the marks the bare ones alone matter
+pub same-holding : (t : Trail) (ts : List ℤ) (ms ns : List ℕ) → bareMarks ms ≡ bareMarks ns → holding t (slices ts ms) ≡ holding t (slices ts ns)
+same-holding t ts ms ns e =
+    ap (λ (bare : List ℕ). slices (filled ts (image (length t) t .trail)) (packed (variableValue t) (filled bare (image (length t) t .marks)))) e
+
+-- buffers that hold n entries, and are the same as others after them, are what writing these leaves
+pub held-is : {v : ℕ} {us : List ℤ} {ns : List ℕ} {n : ℕ} → Packed v us ns n → (ts : List ℤ) (ms : List ℕ) → drop n ts ≡ drop n us
+    → drop n (bareMarks ms) ≡ drop n (bareMarks ns)
+    → slices us ns ≡ holding (packedTrail us ns n) (slices ts ms)
+held-is {v} {us} {ns} {n} r ts ms d e =
+    (λ j. slices (sym literals j) ((r .values ∙ ap (packed (variableValue t)) (sym marks)) j))
+  where
+    t : Trail
+    t = packedTrail us ns n
+
+    long : {k : ℕ} → k ≡ v → n ≤ k
+    long q = let h = running-used r in omega arith
+
+    read : image (length t) t ≡ cut n (slices us (bareMarks ns)) n
+    read =
+        ap (λ (k : ℕ). image k t) (length-trail (slices us (bareMarks ns)) n)
+        ∙ image-read n (slices us (bareMarks ns)) n (long (r .literals)) (simp length-map (long (r .bytes)))
+
+    literals : filled ts (image (length t) t .trail) ≡ us
+    literals = ap (λ (i : Slices). filled ts (i .trail)) read ∙ refilled (pos 0) ts us n (long (r .literals)) d
+
+    marks : filled (bareMarks ms) (image (length t) t .marks) ≡ bareMarks ns
+    marks =
+        ap (λ (i : Slices). filled (bareMarks ms) (i .marks)) read
+        ∙ refilled 0 (bareMarks ms) (bareMarks ns) n (simp length-map (long (r .bytes))) e
