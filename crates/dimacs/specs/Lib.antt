@@ -1,8 +1,9 @@
--- "DIMACS text" of document 01. Read Text (what the texts are), Reader (the bytes one by one), Calls (what writer and reader tell),
--- Answers (their enums in document 01's numbers). Sample: a text of document 01.
+-- "DIMACS text" of document 01. Read Text (what the texts are), Reader (the bytes one by one), Tokens (what stands at a place), Calls
+-- (what writer and reader tell), Answers (their enums in document 01's numbers). Sample: a text of document 01.
 pub mod Text
 pub mod Automaton
 pub mod Reader
+pub mod Tokens
 pub mod Calls
 pub mod Answers
 pub mod Sample

@@ -15,6 +15,9 @@ pub record Header : Type 0 where
   pub variables : ℕ
   pub clauses : ℕ
 
+abbrev pub headerWith : ℕ → ℕ → Header
+headerWith v c = record { variables = v; clauses = c }
+
 -- which number is read: V; C, once V is read; or an element of the list, after so many clauses, with or without a minus before it
 pub data Number : Type 0 where
   ofVariables : Number
@@ -51,12 +54,19 @@ zeroAllowed (element h k negative) = not negative
 abbrev pub isDigit : ℕ → Bool
 isDigit b = leb 48 b && leb b 57
 
-abbrev pub firstDigit : Number → ℕ → Option State
-firstDigit n b = when (isDigit b && (zeroAllowed n || not (eqb b 48)) && leb (b - 48) (most n)) (digits n (b - 48))
+-- a byte as the first digit of a number to a bound, 0 among them or not
+abbrev pub isFirst : ℕ → ℕ → Bool → Bool
+isFirst b bound zero = isDigit b && (zero || not (eqb b 48)) && leb (b - 48) bound
 
--- no leading zero
+-- a digit after the number x: no leading zero
+abbrev pub isNext : ℕ → ℕ → ℕ → Bool
+isNext x d bound = not (eqb x 0) && leb (x * 10 + d) bound
+
+abbrev pub firstDigit : Number → ℕ → Option State
+firstDigit n b = when (isFirst b (most n) (zeroAllowed n)) (digits n (b - 48))
+
 abbrev pub nextDigit : Number → ℕ → ℕ → Option State
-nextDigit n x b = when (not (eqb x 0) && leb (x * 10 + (b - 48)) (most n)) (digits n (x * 10 + (b - 48)))
+nextDigit n x b = when (isNext x (b - 48) (most n)) (digits n (x * 10 + (b - 48)))
 
 -- LF after a closing 0, a space after a literal
 abbrev pub afterElement : Header → ℕ → Bool → ℕ → Option State
@@ -66,7 +76,7 @@ afterElement h k false b = when (eqb b space) (clause h k true)
 -- a space after V, LF after C
 abbrev pub afterNumber : Number → ℕ → ℕ → Option State
 afterNumber ofVariables x b = when (eqb b space) (first (ofClauses x))
-afterNumber (ofClauses v) x b = when (eqb b lineFeed) (clause (record { variables = v; clauses = x }) 0 false)
+afterNumber (ofClauses v) x b = when (eqb b lineFeed) (clause (headerWith v x) 0 false)
 afterNumber (element h k negative) x b = afterElement h k (eqb x 0) b
 
 -- the bytes of `p cnf `, then V
@@ -102,11 +112,14 @@ accepts (first n) = false
 accepts (digits n x) = false
 accepts (clause h k begun) = not begun && eqb k (h .clauses)
 
--- the element that the number is
+-- the element that a number is, with or without a minus before it
+abbrev pub literalOf : Bool → ℕ → ℤ
+literalOf negative x = cond negative (negℤ (pos x)) (pos x)
+
 abbrev pub readElement : Number → ℕ → List ℤ
 readElement ofVariables x = []
 readElement (ofClauses v) x = []
-readElement (element h k negative) x = cond negative (negℤ (pos x)) (pos x) ∷ []
+readElement (element h k negative) x = literalOf negative x ∷ []
 
 -- the element that a byte ends
 abbrev pub ended : State → ℕ → List ℤ
@@ -122,7 +135,7 @@ listFrom s [] = []
 listFrom s (b ∷ bs) = next (stepByte s b) [] (λ t. ended s b ++ listFrom t bs)
 
 abbrev pub noHeader : Header
-noHeader = record { variables = 0; clauses = 0 }
+noHeader = headerWith 0 0
 
 abbrev pub headerIn : State → Header
 headerIn line = noHeader

@@ -49,7 +49,7 @@ commentLines [] = []
 commentLines (bs ∷ rest) = commentLine bs ++ commentLines rest
 
 -- V at most 16,777,216, no literal beyond V and the last clause closed, fewer than 2^64 clauses
-pub record Writable (v : ℕ) (ls : List ℤ) : Type 0 where
+pub record HasText (v : ℕ) (ls : List ℤ) : Type 0 where
   pub few : v ≤ mostVariables
   pub right : wrongList v ls ≡ none
   pub counted : clauseCount ls < 2 ^ 64
@@ -58,7 +58,7 @@ pub record Writable (v : ℕ) (ls : List ℤ) : Type 0 where
 pub record Narrow (text : List ℕ) : Type 0 where
   pub variables : ℕ
   pub list : List ℤ
-  pub writable : Writable variables list
+  pub hasText : HasText variables list
   pub is : text ≡ textOf variables list
 
 -- an accepted text: comment lines, then the text of some V and list

@@ -1,5 +1,4 @@
 -- Laws of reading tokens.
-pub mod Runs
 pub mod Tests
-pub mod Tokens
-pub mod Heads
+pub mod Loops
+pub mod Answers

@@ -1,13 +1,23 @@
 -- The reader's tests on bytes and numbers. Assumes nothing.
 use Prim.Native.Nat.{ℕ, _+_, _-_, _*_, _/_, _≤_, _<_}
 use native.Mathlib.Omega.{arith}
-use borrow.Author.Tests.{eq-eqb, ne-eqb, le-leb, lt-leb, leb-true}
+use borrow.Author.Tests.{eq-eqb, ne-eqb, le-leb, lt-leb, leb-true, lt-ltb, le-ltb}
 use lib.Dec.{eqb, leb}
+use lib.ListN.{length, getD}
 use mathlib.Core.Path.{_≡_, refl}
 use mathlib.Core.Bool.{Bool, true, false, not, _&&_, _||_}
+use mathlib.Core.List.{List}
 use Rattle.answers.proofs.Bools.{and-both, or-right, same-tests}
-use Rattle.dimacs.specs.Reader.{isDigit}
-use Rattle.dimacs_cursor.specs.Cursors.{isFirst, isNext, behindNumber}
+use Rattle.dimacs.specs.Reader.{isDigit, isFirst, isNext}
+use Rattle.dimacs.specs.Tokens.{hasByte, behindNumber}
+
+-- a byte at a place
+module _ (text : List ℕ) (b at : ℕ) where
+  pub has-none : length text ≤ at → false ≡ hasByte text b at
+  has-none h = rw (le-ltb at (length text) h)
+
+  pub has-test : at < length text → eqb (getD text at 0) b ≡ hasByte text b at
+  has-test h = rw (lt-ltb at (length text) h)
 
 -- a digit
 module _ (b : ℕ) where

@@ -1,13 +1,14 @@
 // The next token of a text at a place: comment lines, the word of the header, numbers, elements.
 ghost use mathlib.Core.Path.{_≡_};
-ghost use mathlib.Core.Bool.{Bool, true, not, _&&_};
-ghost use Prim.Native.Nat.{ℕ, _≤_, _<_};
+ghost use mathlib.Core.Bool.{not, _&&_};
+ghost use Prim.Native.Nat.{_<_};
 ghost use lib.Dec.{eqb};
-ghost use lib.ListN.{length};
+ghost use lib.ListN.{length, drop};
 ghost use Rattle.dimacs.specs.Text.{preamble};
-ghost use Rattle.dimacs.specs.Reader.{Header, Number, State, line, word, first, digits, clause, ofVariables, element, when, most, zeroAllowed, isDigit};
-ghost use Rattle.dimacs.specs.Reader.{afterNumber};
-ghost use Rattle.dimacs_cursor.specs.Cursors.{ByteAt, isFirst, isNext, Passes, Numbers, Fields, Heads, behindNumber, Elemental};
+ghost use Rattle.dimacs.specs.Reader.{isDigit, isFirst, isNext};
+ghost use Rattle.dimacs.specs.Tokens.{hasByte, digitsFrom, numberAt, commentsAt, wordAt, fieldAt, countsAt, headerAt};
+ghost use Rattle.dimacs.specs.Tokens.{unsignedAt, elementAt, behindNumber, lineElementAt};
+ghost use Rattle.dimacs_cursor.specs.Cursors.{ByteAt, atPassed, atToken, atHead, atElement};
 use dimacs::PREAMBLE;
 
 // A place in a text.
@@ -44,6 +45,15 @@ fn byte_at(text: &[u8], at: usize) -> usize
     ensures { λ r. ⌜ ByteAt (now (text .entry)) at r ⌝ }
 {
     text[at] as usize
+}
+
+fn has_byte(text: &[u8], b: u8, at: usize) -> bool
+    ensures { λ r. ⌜ r ≡ hasByte (now (text .entry)) b at ⌝ }
+{
+    if at >= text.len() {
+        return false; // the text is over
+    }
+    text[at] == b
 }
 
 // A line that starts otherwise than with `c`.
@@ -95,7 +105,7 @@ fn goes_on(x: usize, d: usize, bound: usize) -> bool
 }
 
 // The byte behind an element.
-fn behind(n: usize) -> usize
+fn behind(n: usize) -> u8
     ensures { λ r. ⌜ r ≡ behindNumber n ⌝ }
 {
     if n == 0 {
@@ -107,7 +117,7 @@ fn behind(n: usize) -> usize
 impl Cursor {
     // Past the comment lines.
     fn after_comments(self, text: &[u8]) -> Passed
-        ensures { λ r. ⌜ Passes (now (text .entry)) line (self .at) (word preamble) r ⌝ }
+        ensures { λ r. ⌜ atPassed r ≡ commentsAt (now (text .entry)) (self .at) ⌝ }
     {
         let mut at = self.at;
         let mut inside = false;
@@ -124,15 +134,12 @@ impl Cursor {
 
     // Past `p cnf `.
     fn word(self, text: &[u8]) -> Passed
-        ensures { λ r. ⌜ Passes (now (text .entry)) (word preamble) (self .at) (first ofVariables) r ⌝ }
+        ensures { λ r. ⌜ atPassed r ≡ wordAt (now (text .entry)) preamble (self .at) ⌝ }
     {
         let mut at = self.at;
         let mut i: usize = 0;
         while i < 6 {
-            if at >= text.len() {
-                return Passed::Refused(at);
-            }
-            if text[at] != PREAMBLE[i] {
+            if !has_byte(text, PREAMBLE[i], at) {
                 return Passed::Refused(at);
             }
             at += 1;
@@ -143,8 +150,7 @@ impl Cursor {
 
     // The digits after the first.
     fn more_digits(self, text: &[u8], bound: usize, start: usize) -> Token
-        requires { ⌜ start ≤ bound ⌝ }
-        ensures { λ r. ⌜ ((n : Number) → most n ≡ bound → Numbers (now (text .entry)) n (digits n start) (self .at) r) ⌝ }
+        ensures { λ r. ⌜ atToken r ≡ digitsFrom bound start (drop (self .at) (now (text .entry))) (self .at) ⌝ }
     {
         let mut x = start;
         let mut at = self.at;
@@ -160,12 +166,12 @@ impl Cursor {
             x = x * 10 + d;
             at += 1;
         }
-        Token::Refused(at) // the text ends too soon
+        Token::Number(x, Cursor { at }) // the text's end ends it too
     }
 
     // A number to a bound, 0 among them or not.
     fn number(self, text: &[u8], bound: usize, zero: bool) -> Token
-        ensures { λ r. ⌜ ((n : Number) → most n ≡ bound → zeroAllowed n ≡ zero → Numbers (now (text .entry)) n (first n) (self .at) r) ⌝ }
+        ensures { λ r. ⌜ atToken r ≡ numberAt (now (text .entry)) bound zero (self .at) ⌝ }
     {
         let at = self.at;
         if at >= text.len() {
@@ -179,14 +185,14 @@ impl Cursor {
         next.more_digits(text, bound, b - 48)
     }
 
-    // A number of the header, and the byte after it.
-    fn field(self, text: &[u8], bound: usize, end: usize) -> Token
-        ensures { λ r. ⌜ ((n : Number) (after : ℕ → State) → most n ≡ bound → zeroAllowed n ≡ true → ((x b : ℕ) → afterNumber n x b ≡ when (eqb b end) (after x)) → Fields (now (text .entry)) n (self .at) after r) ⌝ }
+    // A number of the header, and the byte behind it.
+    fn field(self, text: &[u8], bound: usize, end: u8) -> Token
+        ensures { λ r. ⌜ atToken r ≡ fieldAt (now (text .entry)) bound end (self .at) ⌝ }
     {
         match self.number(text, bound, true) {
-            Token::Number(x, next) => {
-                let at = next.at;
-                if byte_at(text, at) != end {
+            Token::Number(x, after) => {
+                let at = after.at;
+                if !has_byte(text, end, at) {
                     return Token::Refused(at);
                 }
                 Token::Number(x, Cursor { at: at + 1 })
@@ -197,11 +203,11 @@ impl Cursor {
 
     // V and C.
     fn counts(self, text: &[u8]) -> Head
-        ensures { λ r. ⌜ Heads (now (text .entry)) (first ofVariables) (self .at) r ⌝ }
+        ensures { λ r. ⌜ atHead r ≡ countsAt (now (text .entry)) (self .at) ⌝ }
     {
         match self.field(text, 16777216, 32) {
-            Token::Number(variables, after) => match after.field(text, 18446744073709551615, 10) {
-                Token::Number(clauses, next) => Head::Is(variables, clauses, next),
+            Token::Number(variables, next) => match next.field(text, 18446744073709551615, 10) {
+                Token::Number(clauses, after) => Head::Is(variables, clauses, after),
                 Token::Refused(at) => Head::Refused(at),
             },
             Token::Refused(at) => Head::Refused(at),
@@ -210,7 +216,7 @@ impl Cursor {
 
     // The header, after the comment lines.
     pub fn header(self, text: &[u8]) -> Head
-        ensures { λ r. ⌜ Heads (now (text .entry)) line (self .at) r ⌝ }
+        ensures { λ r. ⌜ atHead r ≡ headerAt (now (text .entry)) (self .at) ⌝ }
     {
         match self.after_comments(text) {
             Passed::To(first) => match first.word(text) {
@@ -221,29 +227,22 @@ impl Cursor {
         }
     }
 
-    // An element after its sign, and the byte behind it.
+    // An element after its sign.
     fn unsigned(self, text: &[u8], variables: usize, negative: bool) -> Element
-        ensures { λ r. ⌜ ((h : Header) (k : ℕ) → h .variables ≡ variables → Elemental (now (text .entry)) h k (first (element h k negative)) (self .at) r) ⌝ }
+        ensures { λ r. ⌜ atElement r ≡ unsignedAt (now (text .entry)) variables negative (self .at) ⌝ }
     {
         match self.number(text, variables, !negative) {
-            Token::Number(x, next) => {
-                let at = next.at;
-                if byte_at(text, at) != behind(x) {
-                    return Element::Refused(at);
-                }
-                Element::Is(negative, x, Cursor { at: at + 1 })
-            }
+            Token::Number(x, after) => Element::Is(negative, x, after),
             Token::Refused(at) => Element::Refused(at),
         }
     }
 
-    // An element, where a clause may begin or go on.
-    pub fn element(self, text: &[u8], variables: usize) -> Element
-        requires { ⌜ self .at < length (now text) ⌝ }
-        ensures { λ r. ⌜ ((h : Header) (k : ℕ) (begun : Bool) → h .variables ≡ variables → (k ≡ h .clauses → ⊥) → Elemental (now (text .entry)) h k (clause h k begun) (self .at) r) ⌝ }
+    // An element with its sign.
+    fn element(self, text: &[u8], variables: usize) -> Element
+        ensures { λ r. ⌜ atElement r ≡ elementAt (now (text .entry)) variables (self .at) ⌝ }
     {
         let at = self.at;
-        if byte_at(text, at) != 45 {
+        if !has_byte(text, 45, at) {
             return self.unsigned(text, variables, false);
         }
         if variables == 0 {
@@ -251,5 +250,21 @@ impl Cursor {
         }
         let next = Cursor { at: at + 1 };
         next.unsigned(text, variables, true)
+    }
+
+    // An element of a line, and the byte behind it.
+    pub fn line_element(self, text: &[u8], variables: usize) -> Element
+        ensures { λ r. ⌜ atElement r ≡ lineElementAt (now (text .entry)) variables (self .at) ⌝ }
+    {
+        match self.element(text, variables) {
+            Element::Is(negative, x, after) => {
+                let at = after.at;
+                if !has_byte(text, behind(x), at) {
+                    return Element::Refused(at);
+                }
+                Element::Is(negative, x, Cursor { at: at + 1 })
+            }
+            Element::Refused(at) => Element::Refused(at),
+        }
     }
 }

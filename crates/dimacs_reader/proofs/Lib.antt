@@ -1,3 +1,5 @@
 -- Laws of reading a list, and of the reader's rows.
-pub mod Listings
+pub mod Runs
+pub mod Agrees
+pub mod ListLoop
 pub mod ReaderRows

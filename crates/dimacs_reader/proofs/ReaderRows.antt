@@ -1,35 +1,29 @@
 -- The reader goes through its rows in order, then writes. Assumes nothing.
-use Prim.Native.Nat.{ℕ, _≤_, _<_, _^_}
+use Prim.Native.Nat.{ℕ, _+_, _≤_, _<_, _^_}
 use native.Mathlib.Omega.{arith}
 use lib.IntN.{ℤ}
 use lib.ListN.{length, drop}
-use mathlib.Core.Path.{_≡_, refl, sym, _∙_, ap, subst}
+use lib.Seq.{sets}
+use mathlib.Core.Path.{_≡_, refl, sym, _∙_, ap}
 use mathlib.Core.Bool.{false}
-use mathlib.Core.Option.{Option, none, some, Option·some-ne-none}
+use mathlib.Core.Option.{Option, none, some}
 use mathlib.Core.List.{List}
 use Rattle.answers.specs.declared.Outcome.{Outcome}
 use Rattle.answers.specs.Outcome.{answer, refusal}
-use Rattle.answers.specs.Lent.{filled, unlessRefused}
-use Rattle.answers.proofs.Lent.{wrote-recast, wrote-filled}
+use Rattle.answers.specs.Lent.{filled, unlessRefused, Wrote}
+use Rattle.answers.proofs.Lent.{wrote-filled}
 use Rattle.answers.proofs.Rows.{Left, left-all, left-next, left-turn, left-done}
-use Rattle.dimacs.specs.Automaton.{next}
-use Rattle.dimacs.specs.Reader.{Header, State, line, clause, noHeader, headerIn, refusedAt, listOf, listFrom, headerOf}
-use Rattle.dimacs.specs.Calls.{readerRows, readerAnswer, readerLeaves}
 use Rattle.answers.proofs.Settled.{short-by, long-enough, settles}
-use Rattle.dimacs_cursor.specs.declared.Cursor.{Cursor}
-use Rattle.dimacs_cursor.specs.declared.Head.{Head}
-use Rattle.dimacs_cursor.specs.declared.Head.the-variants.{Is as HeadIs, Refused as NoHead}
-use Rattle.dimacs_cursor.specs.Cursors.{Dead, headerWith, HeadRead, Heads}
-use Rattle.dimacs_cursor.proofs.Runs.{run-dead}
+use Rattle.cnf.specs.Literals.{mostVariables}
+use Rattle.dimacs.specs.Automaton.{next}
+use Rattle.dimacs.specs.Reader.{headerWith, State, line, noHeader, headerIn, refusedAt, listOf, headerOf}
+use Rattle.dimacs.specs.Tokens.{stands, refused, headerAt}
+use Rattle.dimacs.specs.Calls.{readerRows, readerAnswer, readerLeaves}
 use Rattle.dimacs_reader.specs.declared.Listed.{Listed}
 use Rattle.dimacs_reader.specs.declared.Listed.the-variants.{Elements, Refused as NoList}
-use Rattle.dimacs_reader.specs.Lists.{ListRead, Lists}
-
-pub head-read : (text : List ℕ) {t : Head} {v c : ℕ} {k : Cursor} → Heads text line 0 t → t ≡ HeadIs v c k → HeadRead text line 0 v c (k .at)
-head-read text d e = subst (Heads text line 0) e d
-
-pub head-refused : (text : List ℕ) {t : Head} {p : ℕ} → Heads text line 0 t → t ≡ NoHead p → Dead text line 0 p
-head-refused text d e = subst (Heads text line 0) e d
+use Rattle.dimacs_reader.specs.Lists.{listAt, bodyRefusedAt, listedOr, listed}
+use Rattle.dimacs_reader.proofs.Agrees.{agrees-there, agrees-nowhere, HeadRead, header-agrees}
+use Rattle.dimacs_reader.proofs.ListLoop.{body-ends}
 
 abbrev Reads : List ℕ → List ℤ → Outcome → List ℤ → Type 0
 Reads text buf u new = (u ≡ readerAnswer text buf) × (new ≡ readerLeaves text buf)
@@ -45,38 +39,62 @@ module _ (text : List ℕ) (buf : List ℤ) where
   past-none : Left (readerRows text (length buf)) (outcome text) (readerRows text (length buf))
   past-none = left-all (readerRows text (length buf)) (outcome text)
 
-pub text-refused : {text : List ℕ} {p : ℕ} (buf : List ℤ) → Dead text line 0 p → Reads text buf (refusal 19 p) buf
-text-refused {text} buf d = reads text buf (left-turn (past-none text buf) (sym (d .place))) refl
+  text-refused : {p : ℕ} → refusedAt text ≡ some p → Reads text buf (refusal 19 p) buf
+  text-refused e = reads (left-turn past-none (sym e)) refl
 
--- what reading the list came to
-module _ (text : List ℕ) (h : Header) (a : ℕ) (before after : List ℤ) {r : Listed} (d : Lists text h a before after r) where
-  pub list-read : {n : ℕ} → r ≡ Elements n → ListRead text h a before after n
-  list-read e = subst (Lists text h a before after) e d
+pub head-refused : (text : List ℕ) {p : ℕ} (buf : List ℤ) → headerAt text 0 ≡ refused p → Reads text buf (refusal 19 p) buf
+head-refused text buf e = text-refused text buf (agrees-nowhere (header-agrees text 0) e .place)
 
-  pub list-dead : {p : ℕ} → r ≡ NoList p → Dead text (clause h 0 false) a p
-  list-dead e = subst (Lists text h a before after) e d
+-- the place and the count that reading the list answers
+abbrev placeOf : Listed → Option ℕ
+placeOf (Elements n) = none
+placeOf (NoList p) = some p
+
+abbrev countOf : Listed → ℕ
+countOf (Elements n) = n
+countOf (NoList p) = 0
+
+place-listed : (o : Option ℕ) (n : ℕ) → placeOf (listedOr o n) ≡ o
+place-listed none n = refl
+place-listed (some p) n = refl
 
 -- once the header is read
-module _ {text : List ℕ} {v c a : ℕ} (buf : List ℤ) (h : HeadRead text line 0 v c a) where
-  pub body-refused : {p : ℕ} → Dead text (clause (headerWith v c) 0 false) a p → Reads text buf (refusal 19 p) buf
-  body-refused d = text-refused buf (run-dead (h .run) d)
+module _ (text : List ℕ) (buf : List ℤ) {v c a : ℕ} (e : headerAt text 0 ≡ stands (headerWith v c) a) where
+  head : HeadRead text line 0 (headerWith v c) a
+  head = agrees-there (header-agrees text 0) e
 
-  module _ {before after : List ℤ} {n : ℕ} (l : ListRead text (headerWith v c) a before after n) where
-    past-text : Left (readerRows text (length buf)) (outcome text) (drop 1 (readerRows text (length buf)))
-    past-text = left-next (past-none text buf) (sym (h .run .refused ∙ l .accepted))
+  pub head-small : v ≤ mostVariables
+  head-small = head .small
 
-    many : n ≡ length (listOf text)
-    many = let m : n ≡ length (listFrom (clause (headerWith v c) 0 false) (drop a text)) = omega (arith, l .wrote .place) in m ∙ ap length (sym (h .run .list))
+  -- .. and the list
+  module _ {r : Listed} (l : r ≡ listed text (headerWith v c) a) where
+    place : refusedAt text ≡ placeOf r
+    place = head .run .refused ∙ sym (place-listed (bodyRefusedAt text (headerWith v c) a) _) ∙ ap placeOf (sym l)
 
-    head : headerWith v c ≡ headerOf text
-    head = sym (ap (λ (s : Option State). next s noHeader headerIn) (h .run .ends ∙ l .ends))
+    pub body-refused : {p : ℕ} → r ≡ NoList p → Reads text buf (refusal 19 p) buf
+    body-refused q = text-refused text buf (place ∙ ap placeOf q)
 
-    pub body-short : n < 2 ^ 64 → length buf < n → Reads text buf (refusal 6 n) buf
-    body-short s o = reads text buf (left-turn past-text (ap some many ∙ sym (short-by (length buf) (omega (arith, many)) (omega (arith, many))))) refl
+    module _ {n : ℕ} (q : r ≡ Elements n) where
+      taken : bodyRefusedAt text (headerWith v c) a ≡ none
+      taken = sym (head .run .refused) ∙ place ∙ ap placeOf q
 
-    pub body-read : n ≤ length buf → (new : List ℤ) (q : Listed) → Lists text (headerWith v c) a buf new q → Reads text buf (answer n v c) new
-    body-read o new (NoList p) x = absurd (Option·some-ne-none p (sym (x .place) ∙ l .accepted))
-    body-read o new (Elements m) x =
-        let w = wrote-recast (sym (h .run .list)) (x .wrote) in
-        let s = reads text buf (left-done (left-next past-text (sym (long-enough (length buf) (omega (arith, many)))))) (wrote-filled w (omega (arith, many))) in
-        ((λ i. answer (many i) (head i .variables) (head i .clauses)) ∙ s .0, s .1)
+      past-text : Left (readerRows text (length buf)) (outcome text) (drop 1 (readerRows text (length buf)))
+      past-text = left-next (past-none text buf) (sym (place ∙ ap placeOf q))
+
+      many : n ≡ length (listOf text)
+      many = ap countOf (sym q ∙ l) ∙ rw taken (ap length (sym (head .run .list)))
+
+      header-is : headerWith v c ≡ headerOf text
+      header-is =
+          sym (ap (λ (s : Option State). next s noHeader headerIn)
+          (head .run .ends ∙ body-ends text (headerWith v c) (length text) 0 false a (omega arith) taken))
+
+      pub body-short : n < 2 ^ 64 → length buf < n → Reads text buf (refusal 6 n) buf
+      body-short s o = reads text buf (left-turn past-text (ap some many ∙ sym (short-by (length buf) (omega (arith, many)) (omega (arith, many))))) refl
+
+      pub body-read : n ≤ length buf → {new : List ℤ} → new ≡ sets buf 0 (listAt text (headerWith v c) a) → Reads text buf (answer n v c) new
+      body-read o {new} w =
+          let all : Wrote buf 0 (listOf text) new (0 + length (listOf text)) = record { place = refl; holds = w ∙ ap (sets buf 0) (sym (head .run .list)) } in
+          let room : length (listOf text) ≤ length buf = omega (arith, many) in
+          let s = reads text buf (left-done (left-next past-text (sym (long-enough (length buf) room)))) (wrote-filled all room) in
+          ((λ i. answer (many i) (header-is i .variables) (header-is i .clauses)) ∙ s .0, s .1)

@@ -1,14 +1,15 @@
 // The reader: the list of a text, token by token.
 ghost use mathlib.Core.Path.{_≡_};
 ghost use mathlib.Core.List.{[], _∷_};
+ghost use lib.Seq.{sets};
 ghost use Prim.Native.Nat.{_-_, _≤_, _<_, _^_};
 ghost use Rattle.answers.specs.Lent.{Wrote};
 ghost use Rattle.cnf.specs.Literals.{mostVariables};
-ghost use Rattle.dimacs.specs.Reader.{line};
+ghost use Rattle.dimacs.specs.Reader.{headerWith, literalOf};
+ghost use Rattle.dimacs.specs.Tokens.{stands, headerAt};
 ghost use Rattle.dimacs.specs.Calls.{readerAnswer, readerLeaves};
 ghost use Rattle.dimacs.specs.Answers.{readingOutcome};
-ghost use Rattle.dimacs_cursor.specs.Cursors.{headerWith, literal, closedAfter, HeadRead};
-ghost use Rattle.dimacs_reader.specs.Lists.{Lists};
+ghost use Rattle.dimacs_reader.specs.Lists.{listAt, listed, closedAfter};
 use dimacs::ReadRefusal;
 use dimacs::Reading;
 use dimacs_cursor::Cursor;
@@ -34,7 +35,7 @@ fn closed_after(k: usize, number: usize) -> usize
 
 fn put_literal(out: &mut [i32], at: usize, negative: bool, x: usize) -> usize
     requires { ⌜ (x ≤ mostVariables) × (at < 2 ^ 64 - 1) ⌝ }
-    ensures { λ r. ⌜ Wrote (now (out .entry)) at (literal negative x ∷ []) (now (out .exit)) r ⌝ }
+    ensures { λ r. ⌜ Wrote (now (out .entry)) at (literalOf negative x ∷ []) (now (out .exit)) r ⌝ }
 {
     if negative {
         return cnf::put_not(out, at, x);
@@ -45,7 +46,8 @@ fn put_literal(out: &mut [i32], at: usize, negative: bool, x: usize) -> usize
 // The list after the header. Elements beyond the end of the buffer are counted and left out.
 fn read_list(text: &[u8], from: usize, variables: usize, clauses: usize, out: &mut [i32]) -> Listed
     requires { ⌜ variables ≤ mostVariables ⌝ }
-    ensures { λ r. ⌜ Lists (now (text .entry)) (headerWith variables clauses) from (now (out .entry)) (now (out .exit)) r ⌝ }
+    ensures { λ r. ⌜ r ≡ listed (now (text .entry)) (headerWith variables clauses) from ⌝ }
+    ensures { λ r. ⌜ now (out .exit) ≡ sets (now (out .entry)) 0 (listAt (now (text .entry)) (headerWith variables clauses) from) ⌝ }
 {
     let mut at = from;
     let mut n: usize = 0;
@@ -56,7 +58,7 @@ fn read_list(text: &[u8], from: usize, variables: usize, clauses: usize, out: &m
             return Listed::Refused(at);
         }
         let here = Cursor { at };
-        match here.element(text, variables) {
+        match here.line_element(text, variables) {
             Element::Is(negative, x, next) => {
                 n = put_literal(out, n, negative, x);
                 k = closed_after(k, x);
@@ -85,7 +87,7 @@ fn read_body(
     clauses: usize,
     list: &mut [i32],
 ) -> Reading
-    requires { ⌜ HeadRead (now text) line 0 variables clauses from ⌝ }
+    requires { ⌜ headerAt (now text) 0 ≡ stands (headerWith variables clauses) from ⌝ }
     ensures { λ r. ⌜ readingOutcome r ≡ readerAnswer (now (text .entry)) (now (list .entry)) ⌝ }
     ensures { λ r. ⌜ now (list .exit) ≡ readerLeaves (now (text .entry)) (now (list .entry)) ⌝ }
 {

@@ -2,7 +2,6 @@
 use Prim.Native.Nat.{ℕ, suc, _≤_, _<_, _^_}
 use native.Mathlib.Omega.{arith}
 use borrow.Author.Tests.{le-ltb, ltb-false}
-use lib.Dec.{ltb}
 use lib.IntN.{ℤ}
 use lib.ListN.{length, take}
 use lib.Seq.{take-append-seam}
@@ -18,7 +17,7 @@ use Rattle.answers.proofs.Rows.{no-cause}
 use Rattle.answers.proofs.Settled.{enough}
 use Rattle.cnf.specs.Literals.{closes, mostVariables, tooManyVariables, wrongList}
 use Rattle.cnf.specs.Clauses.{clauseCount}
-use Rattle.dimacs.specs.Text.{textOf, Writable}
+use Rattle.dimacs.specs.Text.{textOf, HasText}
 use Rattle.dimacs.specs.Reader.{refusedAt, listOf}
 use Rattle.dimacs.specs.Calls.{writerAnswer, readerAnswer}
 use Rattle.dimacs_theory.specs.Reading.{ReadAs, Writes, Reads, written, elementsRead}
@@ -29,14 +28,14 @@ past n none t z e = (refl, e)
 past n (some v) t z e = absurd (z e)
 
 module _ (v : ℕ) (ls : List ℤ) (buf : List ℕ) where
-  pub writer-passed : clauseCount ls < 2 ^ 64 → writerAnswer v ls buf .number ≡ 0 → Writable v ls × (length (textOf v ls) ≤ length buf)
+  pub writer-passed : clauseCount ls < 2 ^ 64 → writerAnswer v ls buf .number ≡ 0 → HasText v ls × (length (textOf v ls) ≤ length buf)
   writer-passed c e =
       let a = past 17 (cause (tooManyVariables v)) _ (omega arith) e in
       let b = past 16 (wrongList v ls) _ (omega arith) (a .1) in
       let d = past 6 (tooShort (length buf) (length (textOf v ls))) _ (omega arith) (b .1) in
       (record { few = ltb-false mostVariables v (no-cause _ (a .0)); right = b .0; counted = c }, enough (length buf) (d .0))
 
-  module _ (w : Writable v ls) (h : length (textOf v ls) ≤ length buf) where
+  module _ (w : HasText v ls) (h : length (textOf v ls) ≤ length buf) where
     pub writer-answers : Writes v ls buf (textOf v ls)
     writer-answers = record { outcome = outcome; left = ap (λ t. unlessRefused t buf (filled buf (textOf v ls))) outcome }
       where

@@ -12,12 +12,13 @@ use Rattle.answers.specs.Lists.{tally, All}
 use Rattle.answers.proofs.Bools.{clash, and-both}
 use Rattle.text.specs.Decimal.{lineFeed, space, minus, digit, decimal}
 use Rattle.dimacs.specs.Text.{signed, behind, lines, preamble, headerLine, CommentByte, commentLine, commentLines, Narrow, Accepted}
-use Rattle.dimacs.specs.Reader.{Header, Number, State, ofClauses, element, line, comment, first, digits, clause, when, most, zeroAllowed, isDigit, firstDigit}
-use Rattle.dimacs.specs.Reader.{nextDigit, afterWord, wordStep, afterNumber, afterElement, clauseStep, stepByte, accepts, readElement, ended}
+use Rattle.dimacs.specs.Reader.{Header, headerWith, Number, State, ofClauses, element, line, comment, first, digits, clause, when, most, zeroAllowed, isDigit}
+use Rattle.dimacs.specs.Reader.{isFirst, isNext, firstDigit, nextDigit, afterWord, wordStep, afterNumber, afterElement, clauseStep, stepByte}
+use Rattle.dimacs.specs.Reader.{accepts, readElement, literalOf, ended}
 use Rattle.dimacs_theory.proofs.Decimals.{decimal-one, decimal-more}
 use Rattle.dimacs_theory.proofs.Closings.{done, closing-right}
 use Rattle.dimacs_theory.proofs.Runs.{Fits, Runs, stay, byte}
-use Rattle.dimacs_theory.proofs.Shapes.{Opened, Listed, listed-more, sign, Head, variables, clauses, literal, literalOf, spelt, Shape, nothing, remark}
+use Rattle.dimacs_theory.proofs.Shapes.{Opened, Listed, listed-more, sign, Head, variables, clauses, literal, spelt, Shape, nothing, remark}
 use Rattle.dimacs_theory.proofs.Shapes.{letters, before, inside, list, Before}
 
 -- a byte that is taken where a test holds
@@ -64,7 +65,7 @@ module _ (b : ℕ) {t : State} where
   -- a number's first digit
   first-kept : {n : Number} {part : List ℕ} {ls : List ℤ} → Head n part ls → firstDigit n b ≡ some t → Shape t (part ++ (b ∷ [])) ls
   first-kept {n} {part} {ls} p e =
-      taken (λ t. Shape t (part ++ (b ∷ [])) ls) (isDigit b && (zeroAllowed n || not (eqb b 48)) && leb (b - 48) (most n)) (digits n (b - 48)) e
+      taken (λ t. Shape t (part ++ (b ∷ [])) ls) (isFirst b (most n) (zeroAllowed n)) (digits n (b - 48)) e
       (λ c.
       let two = and-both (isDigit b && (zeroAllowed n || not (eqb b 48))) (leb (b - 48) (most n)) c in
       let one = and-both (isDigit b) (zeroAllowed n || not (eqb b 48)) (two .0) in
@@ -81,7 +82,7 @@ module _ (b : ℕ) {t : State} where
   next-kept : {n : Number} (x : ℕ) {part : List ℕ} {ls : List ℤ} → Head n part ls → isDigit b ≡ true → nextDigit n x b ≡ some t
       → Shape t (part ++ decimal x ++ (b ∷ [])) ls
   next-kept {n} x {part} {ls} p i e =
-      taken (λ t. Shape t (part ++ decimal x ++ (b ∷ [])) ls) (not (eqb x 0) && leb (x * 10 + (b - 48)) (most n)) (digits n (x * 10 + (b - 48))) e
+      taken (λ t. Shape t (part ++ decimal x ++ (b ∷ [])) ls) (isNext x (b - 48) (most n)) (digits n (x * 10 + (b - 48))) e
       (λ c.
       let both = and-both (not (eqb x 0)) (leb (x * 10 + (b - 48)) (most n)) c in
       let z = eqb-false x 0 (not-true (eqb x 0) (both .0)) in
@@ -105,7 +106,7 @@ module _ (b : ℕ) {t : State} where
       taken (λ t. Shape t (part ++ decimal x ++ (b ∷ [])) []) (eqb b space) (first (ofClauses x)) e
       (λ c. before (clauses (f .few) (append-assoc part (decimal x) (b ∷ []) ∙ (λ i. p i ++ (decimal x ++ (eqb-true b space c i ∷ []))))))
   after-kept {x = x} {part = part} (clauses {v = v} few p) f e =
-      taken (λ t. Shape t (part ++ decimal x ++ (b ∷ [])) []) (eqb b lineFeed) (clause (record { variables = v; clauses = x }) 0 false) e
+      taken (λ t. Shape t (part ++ decimal x ++ (b ∷ [])) []) (eqb b lineFeed) (clause (headerWith v x) 0 false) e
       (λ c. list (record {
         few = few;
         counted = let w = f .few in omega arith;
@@ -211,7 +212,7 @@ complete {h} {k} {ls = ls} p e =
     record {
       variables = h .variables;
       list = ls;
-      writable = record { few = p .few; right = closing-right (h .variables) ls (rw append-nil at (p .right [] done)); counted = omega arith };
+      hasText = record { few = p .few; right = closing-right (h .variables) ls (rw append-nil at (p .right [] done)); counted = omega arith };
       is = p .is ∙ ap (λ m. headerLine (h .variables) m ++ lines ls) (sym (n ∙ e));
     }
 

@@ -160,7 +160,7 @@ pub accepted-run : {text : List ℕ} (a : Accepted text) → let v = a .narrow .
     let h : Header = record { variables = v; clauses = clauseCount ls } in Runs line text (clause h (clauseCount ls) false) ls
 accepted-run a =
     let n = a .narrow in
-    let w = n .writable in
+    let w = n .hasText in
     rw (a .is, n .is)
     (comments-run (a .comments) (a .bytes) _
     (header-run (n .variables) _ (w .few) (w .counted) _ (lines-run 0 (closing (n .variables) (n .list) (w .right)) (omega arith))))

@@ -3,16 +3,16 @@ use Prim.Native.Nat.{ℕ, zero, suc, _≤_, _<_, _^_}
 use native.Mathlib.Omega.{arith}
 use borrow.Author.Tests.{ne-eqb}
 use lib.Dec.{eqb}
-use lib.IntN.{ℤ, pos, negℤ, natAbs}
+use lib.IntN.{ℤ, natAbs}
 use mathlib.Core.Path.{_≡_, refl, sym, _∙_, ap}
-use mathlib.Core.Bool.{Bool, true, false, not, cond}
+use mathlib.Core.Bool.{Bool, true, false, not}
 use mathlib.Core.List.{List, [], _∷_, _++_, append-assoc}
 use Rattle.answers.specs.Lists.{tally, All}
 use Rattle.cnf.specs.Literals.{closes, mostVariables}
 use Rattle.cnf.specs.Clauses.{clauseCount}
 use Rattle.text.specs.Decimal.{space, minus, decimal}
 use Rattle.dimacs.specs.Text.{signed, behind, lines, preamble, headerLine, CommentByte, commentLines}
-use Rattle.dimacs.specs.Reader.{Header, Number, State, ofVariables, ofClauses, element, line, comment, word, first, digits, clause}
+use Rattle.dimacs.specs.Reader.{Header, Number, State, ofVariables, ofClauses, element, line, comment, word, first, digits, clause, literalOf}
 use Rattle.dimacs_theory.proofs.Closings.{Closing, more}
 use Rattle.dimacs_theory.proofs.Runs.{Fits}
 
@@ -89,10 +89,7 @@ listed-more {h} {k} {ls = ls} l p room w =
     by true = room
     by false = room
 
--- the number that a literal's digits and sign make
-abbrev pub literalOf : Bool → ℕ → ℤ
-literalOf negative x = cond negative (negℤ (pos x)) (pos x)
-
+-- how an element is written
 pub record Spelt (negative : Bool) (x : ℕ) : Type 0 where
   pub text : signed (literalOf negative x) ≡ sign negative ++ decimal x
   pub size : natAbs (literalOf negative x) ≡ x

@@ -13,7 +13,7 @@ use Rattle.answers.proofs.OneToOne.{one-to-one}
 use Rattle.cnf.specs.Clauses.{clauseCount}
 use Rattle.dimacs.specs.declared.Written.{Written}
 use Rattle.dimacs.specs.declared.Reading.{Reading}
-use Rattle.dimacs.specs.Text.{textOf, Writable, Narrow, Accepted}
+use Rattle.dimacs.specs.Text.{textOf, HasText, Narrow, Accepted}
 use Rattle.dimacs.specs.Automaton.{refusedFrom}
 use Rattle.dimacs.specs.Reader.{refusedAt, listOf, headerOf}
 use Rattle.dimacs.specs.Calls.{writerAnswer, readerAnswer}
@@ -26,8 +26,8 @@ use Rattle.dimacs_theory.proofs.Exactly as exact
 use Rattle.dimacs_theory.proofs.Calls.{writer-passed, writer-answers, writer-hands, reader-passed, reader-answers, reader-hands, count-few}
 
 -- The text of V and a list is read back: the reader takes it, and reads that V, that list and its number of clauses.
-pub reads-back : (v : ℕ) (ls : List ℤ) → Writable v ls → ReadAs (textOf v ls) v ls
-reads-back v ls w = exact.accepted-read (exact.narrow-accepted (record { variables = v; list = ls; writable = w; is = refl }))
+pub reads-back : (v : ℕ) (ls : List ℤ) → HasText v ls → ReadAs (textOf v ls) v ls
+reads-back v ls w = exact.accepted-read (exact.narrow-accepted (record { variables = v; list = ls; hasText = w; is = refl }))
 
 -- A text in the narrow form is, byte for byte, the text of what is read from it ..
 pub rewritten : (text : List ℕ) → Narrow text → text ≡ textOf (headerOf text .variables) (listOf text)
@@ -46,8 +46,8 @@ takes-accepted = exact.exactly
 pub reads-accepted : (text : List ℕ) (a : Accepted text) → ReadAs text (a .narrow .variables) (a .narrow .list)
 reads-accepted text a = exact.accepted-read a
 
-pub reads-writable : (text : List ℕ) → Accepted text → Writable (headerOf text .variables) (listOf text) × (headerOf text .clauses ≡ clauseCount (listOf text))
-reads-writable text a = let r = exact.accepted-read a in rw (r .variables, r .list) (a .narrow .writable, r .clauses)
+pub reads-has-text : (text : List ℕ) → Accepted text → HasText (headerOf text .variables) (listOf text) × (headerOf text .clauses ≡ clauseCount (listOf text))
+reads-has-text text a = let r = exact.accepted-read a in rw (r .variables, r .list) (a .narrow .hasText, r .clauses)
 
 -- The place of refusal 19: the bytes before it are the beginning of some accepted text; if it is inside the text, the bytes up to and
 -- including it are the beginning of none; if it is the text's length, the text is a beginning of some accepted text and is not accepted.
@@ -77,7 +77,7 @@ read-write text out buf n e h =
     let fits : length (textOf (n .variables) (n .list)) ≤ length buf = omega (arith, ap length (n .is)) in
     let outcome = ap (λ (t : Outcome). t .second) (reader-answers text out r room .outcome) in
     subst₃ (λ v ls t. Writes v ls buf t) (sym outcome) (sym (reader-hands text out r room)) (sym (n .is))
-    (writer-answers (n .variables) (n .list) buf (n .writable) fits)
+    (writer-answers (n .variables) (n .list) buf (n .hasText) fits)
 
 -- Document 01's numbers and values tell the answers apart: two answers of the writer that are told the same are the same, and two of the text reader likewise.
 pub outcome-one-to-one : ((v w : Written) → writtenOutcome v ≡ writtenOutcome w → v ≡ w) × ((r s : Reading) → readingOutcome r ≡ readingOutcome s → r ≡ s)

@@ -1,6 +1,6 @@
 -- `dimacs_reader::closed_after` meets its contract. Assumes nothing.
 use native.Mathlib.Omega.{arith}
-use Rattle.dimacs_reader.proofs.Listings.{closed-zero, closed-other}
+use Rattle.dimacs_reader.proofs.ListLoop.{closed-zero, closed-other}
 use Rattle.dimacs_reader.proofs.closed_after.Statement.{statement}
 use Rattle.dimacs_reader.proofs.closed_after.Tie as tie
 

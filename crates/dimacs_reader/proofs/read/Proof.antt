@@ -1,5 +1,7 @@
 -- `dimacs_reader::read` meets its contract. Assumes nothing.
-use Rattle.dimacs_reader.proofs.ReaderRows.{head-read, head-refused, text-refused}
+use Rattle.dimacs_cursor.specs.Cursors.{atHead}
+use Rattle.dimacs_cursor.proofs.Answers.{answered}
+use Rattle.dimacs_reader.proofs.ReaderRows.{head-refused}
 use borrow.Author.Needs.{needs}
 use Rattle.dimacs_reader.proofs.read.Statement.{statement}
 use Rattle.dimacs_reader.proofs.read.Tie as tie
@@ -13,8 +15,7 @@ enum-known-variables c = c .match .keys1
 read-body-requires : tie.Need-read-body-requires
 read-body-requires c κs =
     let at-header = c .before .before .before .before in
-    let at-start = at-header .before .before in
-    head-read (at-start .args .text .now) (at-header .header .ensures) (c .before .before .variables .given .1)
+    answered atHead (at-header .header .ensures) (c .before .before .variables .given .1)
 
 enum-known-at : tie.Need-enum-known-at
 enum-known-at c = c .match .keys2
@@ -29,7 +30,7 @@ returns-2 : tie.Need-returns-2
 returns-2 c =
     let at-header = c .before .before .before in
     let at-start = at-header .before .before in
-    text-refused (at-start .args .list .now) (head-refused (at-start .args .text .now) (at-header .header .ensures) (c .before .at .given .1))
+    head-refused (at-start .args .text .now) (at-start .args .list .now) (answered atHead (at-header .header .ensures) (c .before .at .given .1))
 
 pub read-spec : {M : Type 1} → statement M
 read-spec =

@@ -1,18 +1,19 @@
--- `dimacs_reader::read_list` meets its contract: the loop keeps `Listing`. Assumes nothing.
+-- `dimacs_reader::read_list` meets its contract: the loop keeps `AtList`. Assumes nothing.
 use Prim.Native.Nat.{ℕ, _-_}
 use native.Mathlib.Omega.{arith}
 use lib.ListN.{length}
-use mathlib.Core.Path.{refl}
 use mathlib.Core.List.{List}
 use Rattle.answers.proofs.Lent.{wrote-length}
-use Rattle.dimacs.specs.Reader.{Header, State, clause}
-use Rattle.dimacs_cursor.specs.Cursors.{headerWith, ElementRead, Elemental}
-use Rattle.dimacs_reader.proofs.Listings.{Listing, list-start, element-read, list-over, list-refused, list-more, list-begun, list-few, list-end}
+use Rattle.dimacs.specs.Reader.{Header, headerWith, State, clause}
+use Rattle.dimacs_cursor.specs.Cursors.{atElement}
+use Rattle.dimacs_cursor.proofs.Answers.{answered}
+use Rattle.dimacs_reader.proofs.Agrees.{agrees-there, agrees-nowhere, ElementRead, line-element-agrees}
+use Rattle.dimacs_reader.proofs.ListLoop.{AtList, list-start, list-over, list-refused, list-more, list-begun, list-few, list-end}
 use Rattle.dimacs_reader.proofs.read_list.Statement.{statement}
 use Rattle.dimacs_reader.proofs.read_list.Tie as tie
 
 abbrev Inv-loop : tie.InvT-loop
-Inv-loop text from variables clauses out₀ at₀ n₀ k₀ begun₀ out at n k begun = Listing text variables clauses from out₀ out at n k begun
+Inv-loop text from variables clauses out₀ at₀ n₀ k₀ begun₀ out at n k begun = AtList text variables clauses from out₀ out at n k begun
 
 abbrev μ-loop : tie.MeasureT-loop
 μ-loop text from variables clauses out₀ at₀ n₀ k₀ begun₀ out at n k begun = length text - at
@@ -37,23 +38,21 @@ same-length c = wrote-length (c .before .before .loop .inv .wrote)
 returns : tie.Need-returns Inv-loop μ-loop
 returns c = list-over (c .before .before .loop .inv) (omega arith) (c .if1 .taken)
 
-element-requires : tie.Need-element-requires Inv-loop μ-loop
-element-requires c κs = omega arith
+line-element-requires : tie.Need-line-element-requires Inv-loop μ-loop
+line-element-requires c κs = tt
 
 enum-known-negative : tie.Need-enum-known-negative Inv-loop μ-loop
 enum-known-negative c = c .match .keys1
 
--- what was found at the place, and the element that was read
-found : (c : tie.After-element Inv-loop μ-loop)
-    → let l = c .before .before .before in Elemental (bytes l) (header l) (l .loop .k) (state l) (l .loop .at) (c .element .result)
-found c = let l = c .before .before .before in c .element .ensures (header l) (l .loop .k) (l .loop .begun) refl (c .before .if1 .left)
-
+-- the element that was read
 read : (c : tie.After-negative Inv-loop μ-loop)
     → let l = c .before .before .before .before .before in let e = c .negative .given .0 in
-    ElementRead (bytes l) (header l) (l .loop .k) (state l) (l .loop .at) (e .0) (e .1 .0) (e .1 .1 .0 .at)
+    ElementRead (bytes l) (header l) (l .loop .k) (state l) (l .loop .at) (e .0, e .1 .0) (e .1 .1 .0 .at)
 read c =
-    let l = c .before .before .before .before .before in
-    element-read (bytes l) (header l) (l .loop .k) (state l) (l .loop .at) (found (c .before .before)) (c .negative .given .1)
+    let at-else1 = c .before .before .before in
+    let l = at-else1 .before .before in
+    agrees-there (line-element-agrees (bytes l) (header l) (l .loop .k) (omega arith) (l .loop .begun) (at-else1 .if1 .left))
+    (answered atElement (c .before .before .line-element .ensures) (c .negative .given .1))
 
 put-literal-requires : tie.Need-put-literal-requires Inv-loop μ-loop
 put-literal-requires c κs =
@@ -92,7 +91,9 @@ returns-2 : tie.Need-returns-2 Inv-loop μ-loop
 returns-2 c =
     let at-element = c .before .before .before in
     let at-loop = at-element .before .before .before in
-    list-refused (at-loop .loop .inv) (found at-element) (c .before .p .given .1)
+    list-refused (at-loop .loop .inv)
+    (agrees-nowhere (line-element-agrees (bytes at-loop) (header at-loop) (at-loop .loop .k) (omega arith) (at-loop .loop .begun) (at-element .before .if1 .left))
+    (answered atElement (at-element .line-element .ensures) (c .before .p .given .1)))
 
 same-length-3 : tie.Need-same-length-3 Inv-loop μ-loop
 same-length-3 c = wrote-length (c .before .before .loop .inv .wrote)
@@ -121,7 +122,7 @@ read-list-spec =
     loop-holds
     same-length
     returns
-    element-requires
+    line-element-requires
     enum-known-negative
     put-literal-requires
     closed-after-requires

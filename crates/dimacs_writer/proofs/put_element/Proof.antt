@@ -4,7 +4,7 @@ use lib.IntN.{ℤ, pos}
 use lib.ListN.{getD}
 use Prim.Native.Nat.{_/_}
 use mathlib.Core.Path.{_≡_}
-use mathlib.Core.List.{List, [], _∷_, _++_}
+use mathlib.Core.List.{[], _∷_, _++_}
 use Rattle.answers.proofs.Lent.{wrote-after, wrote-recast, wrote-length}
 use Rattle.text.specs.Decimal.{lineFeed, space, minus, decimal}
 use Rattle.dimacs_writer.specs.Writer.{written}

@@ -1,14 +1,14 @@
--- `dimacs_cursor::Cursor::after_comments` meets its contract: the loop keeps `Commenting`. Assumes nothing.
+-- `dimacs_cursor::Cursor::after_comments` meets its contract: the loop keeps `AtComments`. Assumes nothing.
 use Prim.Native.Nat.{_-_}
 use native.Mathlib.Omega.{arith}
 use lib.ListN.{length}
 use mathlib.Core.Path.{sym, _∙_}
-use Rattle.dimacs_cursor.proofs.Tokens.{Commenting, comments-start, comments-out, comments-on, comments-end}
+use Rattle.dimacs_cursor.proofs.Loops.{AtComments, comments-start, comments-out, comments-on, comments-end}
 use Rattle.dimacs_cursor.proofs.Cursor.after_comments.Statement.{statement}
 use Rattle.dimacs_cursor.proofs.Cursor.after_comments.Tie as tie
 
 abbrev Inv-loop : tie.InvT-loop
-Inv-loop text at₀ inside₀ at inside = Commenting text at₀ at inside
+Inv-loop text at₀ inside₀ at inside = AtComments text at₀ at inside
 
 abbrev μ-loop : tie.MeasureT-loop
 μ-loop text at₀ inside₀ at inside = length text - at
@@ -41,7 +41,7 @@ loop-again c =
     (sym (c .before .other-line .ensures) ∙ c .if1 .left)
 
 returns-2 : tie.Need-returns-2 Inv-loop μ-loop
-returns-2 c = comments-end (omega arith) (c .before .loop .inside) (c .before .loop .inv)
+returns-2 c = comments-end (omega arith) (c .before .loop .inv)
 
 pub after-comments-spec : {M : Type 1} → statement M
 after-comments-spec =

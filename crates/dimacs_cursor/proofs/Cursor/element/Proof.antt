@@ -1,48 +1,52 @@
 -- `dimacs_cursor::Cursor::element` meets its contract. Assumes nothing.
 use native.Mathlib.Omega.{arith}
-use mathlib.Core.Path.{sym, _∙_}
-use Rattle.dimacs_cursor.proofs.Heads.{element-plus, element-none, element-minus}
+use native.Mathlib.Numerals.{add-one}
+use borrow.Author.Tests.{eq-eqb, ne-eqb, not-true, not-false}
+use mathlib.Core.Path.{_≡_, sym, _∙_}
+use mathlib.Core.Bool.{true}
+use Rattle.text.specs.Decimal.{minus}
+use Rattle.dimacs.specs.Tokens.{hasByte}
+use Rattle.dimacs.proofs.Tokens.{has-inside}
 use Rattle.dimacs_cursor.proofs.Cursor.element.Statement.{statement}
 use Rattle.dimacs_cursor.proofs.Cursor.element.Tie as tie
 
-byte-at-requires : tie.Need-byte-at-requires
-byte-at-requires c κs = c .before .pre
+has-byte-requires : tie.Need-has-byte-requires
+has-byte-requires c κs = tt
 
 unsigned-requires : tie.Need-unsigned-requires
 unsigned-requires c κs = tt
 
 returns : tie.Need-returns
-returns c =
-    let at-start = c .before .before .before .before in
-    λ h k begun p n. element-plus (at-start .pre) (c .before .before .byte-at .ensures) h k begun n (c .before .if1 .taken) (c .unsigned .result)
-    (c .unsigned .ensures h k p)
+returns c = rw (sym (c .before .before .has-byte .ensures) ∙ not-true _ (c .before .if1 .taken)) (c .unsigned .ensures)
+
+-- a minus
+is-minus : (c : tie.Else1) → let s = c .before .before .before in hasByte (s .args .text .now) minus (s .args .self .at) ≡ true
+is-minus c = sym (c .before .has-byte .ensures) ∙ not-false _ (c .if1 .left)
 
 returns-2 : tie.Need-returns-2
-returns-2 c =
-    let at-start = c .before .before .before .before in
-    λ h k begun p n. element-none (at-start .pre) (c .before .before .byte-at .ensures) h k begun n (c .before .if1 .left) (p ∙ c .if2 .taken)
+returns-2 c = rw (is-minus (c .before), eq-eqb (c .before .before .before .before .args .variables) 0 (c .if2 .taken))
 
-add-t6 : tie.Need-add-t6
-add-t6 c = omega arith
+add-t8 : tie.Need-add-t8
+add-t8 c =
+    let at-start = c .before .before .before .before in
+    omega (arith, has-inside (at-start .args .text .now) (at-start .args .self .at) minus (is-minus (c .before)))
 
 unsigned-requires-2 : tie.Need-unsigned-requires-2
 unsigned-requires-2 c κs = tt
 
 returns-3 : tie.Need-returns-3
 returns-3 c =
-    let at-byte-at = c .before .before .before in
-    let at-start = at-byte-at .before .before in
-    λ h k begun p n. element-minus (at-start .pre) (at-byte-at .byte-at .ensures) h k begun n (c .before .before .if1 .left)
-    (λ z. c .before .if2 .left (sym p ∙ z)) (c .unsigned2 .result) (c .unsigned2 .ensures h k p)
+    let at-start = c .before .before .before .before .before in
+    rw (is-minus (c .before .before), ne-eqb (at-start .args .variables) 0 (c .before .if2 .left)) (rw add-one at (c .unsigned2 .ensures))
 
 pub element-spec : {M : Type 1} → statement M
 element-spec =
     tie.close
     (tie.spec
-    byte-at-requires
+    has-byte-requires
     unsigned-requires
     returns
     returns-2
-    add-t6
+    add-t8
     unsigned-requires-2
     returns-3)

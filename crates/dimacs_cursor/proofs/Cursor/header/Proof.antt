@@ -1,8 +1,6 @@
 -- `dimacs_cursor::Cursor::header` meets its contract. Assumes nothing.
-use Rattle.dimacs.specs.Text.{preamble}
-use Rattle.dimacs.specs.Reader.{line, word, first, ofVariables}
-use Rattle.dimacs_cursor.proofs.Runs.{run-then, run-dead}
-use Rattle.dimacs_cursor.proofs.Heads.{head-after, pass-read, pass-refused}
+use Rattle.dimacs_cursor.specs.Cursors.{atPassed}
+use Rattle.dimacs_cursor.proofs.Answers.{answered}
 use Rattle.dimacs_cursor.proofs.Cursor.header.Statement.{statement}
 use Rattle.dimacs_cursor.proofs.Cursor.header.Tie as tie
 
@@ -31,29 +29,23 @@ returns : tie.Need-returns
 returns c =
     let at-word = c .before .before .before .before in
     let at-first = at-word .before .before in
-    let at-after-comments = at-first .before .before in
-    let at-start = at-after-comments .before .before in
-    head-after (run-then (pass-read (at-start .args .text .now) line (at-start .args .self .at) (word preamble)
-    (at-after-comments .after-comments .ensures) (at-first .first .given .1))
-    (pass-read (at-start .args .text .now) (word preamble) (at-first .first .given .0 .0 .at) (first ofVariables) (at-word .word .ensures)
-    (c .before .before .next .given .1))) (c .counts .result) (c .counts .ensures)
+    rw (
+      answered atPassed (at-first .before .before .after-comments .ensures) (at-first .first .given .1),
+      answered atPassed (at-word .word .ensures) (c .before .before .next .given .1),
+    )
+    (c .counts .ensures)
 
 returns-2 : tie.Need-returns-2
 returns-2 c =
     let at-word = c .before .before .before in
     let at-first = at-word .before .before in
-    let at-after-comments = at-first .before .before in
-    let at-start = at-after-comments .before .before in
-    run-dead (pass-read (at-start .args .text .now) line (at-start .args .self .at) (word preamble) (at-after-comments .after-comments .ensures)
-    (at-first .first .given .1)) (pass-refused (at-start .args .text .now) (word preamble) (at-first .first .given .0 .0 .at) (first ofVariables)
-    (at-word .word .ensures) (c .before .at .given .1))
+    rw (
+      answered atPassed (at-first .before .before .after-comments .ensures) (at-first .first .given .1),
+      answered atPassed (at-word .word .ensures) (c .before .at .given .1),
+    )
 
 returns-3 : tie.Need-returns-3
-returns-3 c =
-    let at-after-comments = c .before .before .before in
-    let at-start = at-after-comments .before .before in
-    pass-refused (at-start .args .text .now) line (at-start .args .self .at) (word preamble) (at-after-comments .after-comments .ensures)
-    (c .before .at2 .given .1)
+returns-3 c = rw (answered atPassed (c .before .before .before .after-comments .ensures) (c .before .at2 .given .1))
 
 pub header-spec : {M : Type 1} → statement M
 header-spec =

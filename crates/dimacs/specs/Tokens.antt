@@ -1,0 +1,99 @@
+-- What stands at a place of a text: "reading a number at a place gives the number and the place after it".
+use Prim.Native.Nat.{ℕ, suc, _+_, _*_, _-_, _^_}
+use lib.Dec.{eqb, ltb}
+use lib.ListN.{length, getD, drop}
+use mathlib.Core.Bool.{Bool, true, false, not, _&&_, cond}
+use mathlib.Core.List.{List, [], _∷_}
+use Rattle.cnf.specs.Literals.{mostVariables}
+use Rattle.text.specs.Decimal.{lineFeed, space, minus}
+use Rattle.dimacs.specs.Text.{preamble}
+use Rattle.dimacs.specs.Reader.{Header, headerWith, isDigit, isFirst, isNext}
+
+-- what stands there and the place after it, or the place of the refusal
+pub data At (A : Type 0) : Type 0 where
+  stands : A → ℕ → At A
+  refused : ℕ → At A
+
+-- what comes after it
+abbrev pub andThen : {A B : Type 0} → At A → (A → ℕ → At B) → At B
+andThen (stands a after) go = go a after
+andThen (refused p) go = refused p
+
+-- this byte stands there
+abbrev pub hasByte : List ℕ → ℕ → ℕ → Bool
+hasByte text b at = ltb at (length text) && eqb (getD text at 0) b
+
+-- what was read, and this byte behind it
+abbrev pub followedBy : {A : Type 0} → List ℕ → ℕ → A → ℕ → At A
+followedBy text b a at = cond (hasByte text b at) (stands a (suc at)) (refused at)
+
+-- Numbers. The digits after the first, with the number so far; a digit after a leading 0 is refused, and one that takes the number
+-- past its bound. The byte that ends a number is not looked at, and the text's end ends one too.
+unfoldable pub digitsFrom : ℕ → ℕ → List ℕ → ℕ → At ℕ
+digitsFrom bound x [] at = stands x at
+digitsFrom bound x (b ∷ bs) at =
+    cond (isDigit b)
+    (cond (isNext x (b - 48) bound) (digitsFrom bound (x * 10 + (b - 48)) bs (suc at)) (refused at))
+    (stands x at)
+
+abbrev pub numberFrom : ℕ → Bool → List ℕ → ℕ → At ℕ
+numberFrom bound zero [] at = refused at
+numberFrom bound zero (b ∷ bs) at = cond (isFirst b bound zero) (digitsFrom bound (b - 48) bs (suc at)) (refused at)
+
+-- a number to a bound, 0 among them or not
+abbrev pub numberAt : List ℕ → ℕ → Bool → ℕ → At ℕ
+numberAt text bound zero at = numberFrom bound zero (drop at text) at
+
+-- The header. A byte of the comment lines: inside a line, any byte, LF ends it; at a line's first byte, `c`, else they are over.
+abbrev pub commentByte : Bool → ℕ → ℕ → (Bool → At Unit) → At Unit
+commentByte true b at go = cond (eqb b lineFeed) (go false) (cond (ltb b 256) (go true) (refused at))
+commentByte false b at go = cond (eqb b 99) (go true) (stands tt at)
+
+unfoldable pub commentsFrom : Bool → List ℕ → ℕ → At Unit
+commentsFrom inside [] at = refused at
+commentsFrom inside (b ∷ bs) at = commentByte inside b at (λ t. commentsFrom t bs (suc at))
+
+abbrev pub commentsAt : List ℕ → ℕ → At Unit
+commentsAt text at = commentsFrom false (drop at text) at
+
+-- these bytes
+unfoldable pub wordAt : List ℕ → List ℕ → ℕ → At Unit
+wordAt text [] at = stands tt at
+wordAt text (w ∷ ws) at = andThen (followedBy {A = Unit} text w tt at) (λ _ next. wordAt text ws next)
+
+-- a number of the header, and the byte behind it
+abbrev pub fieldAt : List ℕ → ℕ → ℕ → ℕ → At ℕ
+fieldAt text bound end at = andThen (numberAt text bound true at) (λ x after. followedBy text end x after)
+
+-- V, at most 16,777,216, and a space; C, below 2^64, and LF
+abbrev pub countsAt : List ℕ → ℕ → At Header
+countsAt text at =
+    andThen (fieldAt text mostVariables space at)
+    (λ v next. andThen (fieldAt text (2 ^ 64 - 1) lineFeed next)
+    (λ c after. stands (headerWith v c) after))
+
+-- comment lines, `p cnf `, V and C
+abbrev pub headerAt : List ℕ → ℕ → At Header
+headerAt text at =
+    andThen (commentsAt text at)
+    (λ _ first. andThen (wordAt text preamble first)
+    (λ _ next. countsAt text next))
+
+-- The body. An element, by whether a minus is before it and its number: after the sign (no −0) ..
+abbrev pub unsignedAt : List ℕ → ℕ → Bool → ℕ → At (Bool × ℕ)
+unsignedAt text v negative at = andThen (numberAt text v (not negative) at) (λ x after. stands (negative, x) after)
+
+-- .. and with it; a minus only if there is a variable
+abbrev pub elementAt : List ℕ → ℕ → ℕ → At (Bool × ℕ)
+elementAt text v at =
+    cond (hasByte text minus at)
+    (cond (eqb v 0) (refused at) (unsignedAt text v true (suc at)))
+    (unsignedAt text v false at)
+
+-- LF after a closing 0, a space after a literal
+abbrev pub behindNumber : ℕ → ℕ
+behindNumber x = cond (eqb x 0) lineFeed space
+
+-- an element of a line, and the byte behind it
+abbrev pub lineElementAt : List ℕ → ℕ → ℕ → At (Bool × ℕ)
+lineElementAt text v at = andThen (elementAt text v at) (λ e after. followedBy text (behindNumber (e .1)) e after)

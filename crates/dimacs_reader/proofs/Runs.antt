@@ -1,0 +1,68 @@
+-- Laws of the automaton's runs over a text: one step, one after the other, and where a byte is refused. Assumes nothing.
+use Prim.Native.Nat.{ℕ, suc, _≤_, _<_}
+use lib.IntN.{ℤ}
+use lib.ListN.{length, getD, drop, drop-of-length-le}
+use lib.Seq.{drop-cons}
+use mathlib.Core.Path.{_≡_, refl, sym, _∙_, ap}
+use mathlib.Core.Bool.{false}
+use mathlib.Core.Option.{none, some}
+use mathlib.Core.List.{List, [], _++_, append-assoc}
+use Rattle.dimacs.specs.Automaton.{endFrom, refusedFrom}
+use Rattle.dimacs.specs.Reader.{State, stepByte, accepts, ended, listFrom}
+
+-- from state s at place a the text goes on as from state t at place b, with these elements between
+pub record Run (text : List ℕ) (s : State) (a : ℕ) (ls : List ℤ) (t : State) (b : ℕ) : Type 0 where
+  pub refused : refusedFrom stepByte accepts s (drop a text) a ≡ refusedFrom stepByte accepts t (drop b text) b
+  pub list : listFrom s (drop a text) ≡ ls ++ listFrom t (drop b text)
+  pub ends : endFrom stepByte s (drop a text) ≡ endFrom stepByte t (drop b text)
+
+-- from state s at place a the text is refused at place p, with these elements before it
+pub record Dead (text : List ℕ) (s : State) (a : ℕ) (ls : List ℤ) (p : ℕ) : Type 0 where
+  pub place : refusedFrom stepByte accepts s (drop a text) a ≡ some p
+  pub list : listFrom s (drop a text) ≡ ls
+
+pub run-stay : (text : List ℕ) (s : State) (a : ℕ) → Run text s a [] s a
+run-stay text s a = record { refused = refl; list = refl; ends = refl }
+
+pub run-then : {text : List ℕ} {s t u : State} {a b c : ℕ} {ls ms : List ℤ} → Run text s a ls t b → Run text t b ms u c → Run text s a (ls ++ ms) u c
+run-then {text = text} {u = u} {c = c} {ls = ls} {ms = ms} p q =
+    record {
+      refused = p .refused ∙ q .refused;
+      list = p .list ∙ ap (λ (rest : List ℤ). ls ++ rest) (q .list) ∙ sym (append-assoc ls ms (listFrom u (drop c text)));
+      ends = p .ends ∙ q .ends;
+    }
+
+pub run-dead : {text : List ℕ} {s t : State} {a b p : ℕ} {ls ms : List ℤ} → Run text s a ls t b → Dead text t b ms p → Dead text s a (ls ++ ms) p
+run-dead {ls = ls} r d = record { place = r .refused ∙ d .place; list = r .list ∙ ap (λ (rest : List ℤ). ls ++ rest) (d .list) }
+
+module _ {text : List ℕ} {a : ℕ} (h : a < length text) where
+  -- the byte at a place takes the automaton on
+  pub run-step : {s t : State} {es : List ℤ} → stepByte s (getD text a 0) ≡ some t → ended s (getD text a 0) ≡ es → Run text s a es t (suc a)
+  unfolding refusedFrom listFrom endFrom
+  run-step e f =
+      record {
+        refused = rw (drop-cons text a 0 h, e);
+        list = rw (drop-cons text a 0 h, e, f);
+        ends = rw (drop-cons text a 0 h, e);
+      }
+
+  -- the byte is refused there
+  pub dead-step : {s : State} → stepByte s (getD text a 0) ≡ none → Dead text s a [] a
+  unfolding refusedFrom listFrom
+  dead-step e = record { place = rw (drop-cons text a 0 h, e); list = rw (drop-cons text a 0 h, e) }
+
+  -- two states that the byte treats alike
+  pub run-alike : {s t : State} → stepByte s (getD text a 0) ≡ stepByte t (getD text a 0) → ended s (getD text a 0) ≡ ended t (getD text a 0)
+      → Run text s a [] t a
+  unfolding refusedFrom listFrom endFrom
+  run-alike e f =
+      record {
+        refused = rw (drop-cons text a 0 h, e);
+        list = rw (drop-cons text a 0 h, e, f);
+        ends = rw (drop-cons text a 0 h, e);
+      }
+
+-- the text ends
+pub dead-end : {text : List ℕ} {s : State} {a : ℕ} → length text ≤ a → accepts s ≡ false → Dead text s a [] a
+unfolding refusedFrom listFrom
+dead-end {text} h e = record { place = rw (drop-of-length-le text h, e); list = rw (drop-of-length-le text h) }
