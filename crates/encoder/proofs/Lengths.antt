@@ -2,7 +2,7 @@
 use Prim.Native.Nat.{ℕ, suc, _+_, _*_, _-_, _≤_, _<_, _^_}
 use native.Mathlib.Omega.{arith}
 use native.Mathlib.Nat.{suc-mul, mul-le-mul, mul-le-mul-right}
-use lib.Dec.{eqb, ltb}
+use lib.Dec.{eqb}
 use lib.IntN.{pos}
 use lib.ListN.{length, length-append, length-map}
 use mathlib.Core.Bool.{Bool, true, false}
@@ -11,13 +11,13 @@ use Rattle.answers.specs.Lists.{All, _∈_}
 use Rattle.rules.specs.declared.Direction.the-variants.{East as east}
 use Rattle.rules.specs.Board.{Clue, Board}
 use Rattle.answers.specs.Lists.{from, upTo, each, joined}
-use Rattle.encoder.specs.Variables.{Variable, Z, S, Q, T, directions, opens, openCount, neighbours, out, outgoing, distancesAt, countsAt}
+use Rattle.encoder.specs.Variables.{Variable, Z, S, Q, T, directions, opens, openCount, neighbours, out, outgoing, distancesAt, countsAt, lower}
 use Rattle.encoder.specs.Clauses.{plus, minus, Clause, notBoth, pairs, orAny, eastSouth, touch, touchingAt, oneMore, countStep, cellParts, cellClauses}
-use Rattle.encoder.specs.Clauses.{lineClauses, noneBlack, clueParts, clueClauses, back, incoming, bothWhite, oneWay, linkParts, linksAt, lower}
+use Rattle.encoder.specs.Clauses.{lineClauses, noneBlack, clueParts, clueClauses, back, incoming, bothWhite, oneWay, linkParts, linksAt}
 use Rattle.encoder.specs.Clauses.{blackBefore, eastward, startParts, startAt, someStart, noDistance, notAhead, nearer, fromOne, nearerEach, distanceParts}
 use Rattle.encoder.specs.Clauses.{distanceAt, families, clauses, signed, written, clauseList}
 use Rattle.encoder.specs.Small.{Small}
-use Rattle.answers.proofs.Elements.{all-append, all-at, all-each, all-map, length-from, length-each-most, keep-most, map-most}
+use Rattle.answers.proofs.Elements.{all-append, all-at, all-each, all-map, of-upTo, of-keep, length-from, length-each-most, keep-most, map-most}
 use Rattle.encoder.proofs.Bounds.{neighbours-most, open-few}
 
 -- at most n clauses, none with more than 2026 literals
@@ -155,13 +155,14 @@ module _ (b : Board) (small : Small b) where
       )
 
   -- 4. Start
-  start-few : (x : ℕ) → Few 2027 (startAt b x)
-  start-few x =
+  start-few : (x : ℕ) → x ∈ opens b → Few 2027 (startAt b x)
+  start-few x m =
+      let i = of-upTo (b .size) (of-keep (b .isOpen) (upTo (b .size)) m .0) in
       let ys = neighbours b x (east ∷ []) in
       few-joined (1 ∷ 2025 ∷ 1 ∷ []) (startParts b x) (
         few-one _ (omega arith),
         (
-          few-map (blackBefore x) (lower b x) 2025 (omega (arith, keep-most (λ y. ltb y x) (opens b), few-opens)) (λ y. omega arith),
+          few-map (blackBefore x) (lower b x) 2025 (omega (arith, keep-most (b .isOpen) (upTo x), length-from 0 x, small .cells)) (λ y. omega arith),
           (few-one (eastward b x) (omega (arith, length-map (map (out x) ys) plus, length-map ys (out x), neighbours-most b x (east ∷ []))), tt),
         ),
       )
@@ -200,7 +201,7 @@ module _ (b : Board) (small : Small b) where
             (
               few-append (someStart b ∷ []) (each (opens b) (startAt b))
                   (few-one (someStart b) (omega (arith, length-map (map (λ x. S x) (opens b)) plus, length-map (opens b) (λ x. S x), few-opens)))
-                  (few-each (startAt b) (opens b) 2025 2027 few-opens (λ x m. start-few x)),
+                  (few-each (startAt b) (opens b) 2025 2027 few-opens start-few),
               (few-each (distanceAt b) (opens b) 2025 12153 few-opens (λ x m. distance-few x), tt),
             ),
           ),

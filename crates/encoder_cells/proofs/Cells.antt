@@ -12,13 +12,14 @@ use Rattle.rules.specs.declared.Direction.the-variants.{North as north, East as
 use Rattle.rules.specs.Board.{Board}
 use Rattle.rules.proofs.Boards.{Laws}
 use Rattle.answers.specs.Lists.{upTo, each, joined}
-use Rattle.encoder.specs.Variables.{Variable, Z, S, Q, directions, openCount, Neighbour, ifOpen, ifThere, neighbours, out, distancesAt, number}
-use Rattle.encoder.specs.Clauses.{plus, notBoth, pairs, orAny, eastSouth, touch, touchingAt, back, bothWhite, oneWay, linkParts, linksAt, lower, blackBefore}
-use Rattle.encoder.specs.Clauses.{eastward, startParts, startAt, noDistance, notAhead, nearer, fromOne, nearerEach, distanceParts, distanceAt, signed, written}
+use Rattle.encoder.specs.Variables.{Variable, Z, S, Q, directions, openCount, Neighbour, ifOpen, ifThere, neighbours, out, distancesAt, number, lower}
+use Rattle.encoder.specs.Variables.{rank, atCell}
+use Rattle.encoder.specs.Clauses.{plus, notBoth, pairs, orAny, eastSouth, touch, touchingAt, back, bothWhite, oneWay, linkParts, linksAt, blackBefore, eastward}
+use Rattle.encoder.specs.Clauses.{startParts, startAt, noDistance, notAhead, nearer, fromOne, nearerEach, distanceParts, distanceAt, signed, written, listOf}
 use Rattle.answers.proofs.Elements.{each-append}
 use Rattle.encoder.proofs.Neighbours.{Beside}
-use Rattle.encoder.proofs.Places.{below, rank, place-z}
-use Rattle.encoder.proofs.ClauseLists.{each-next, each-shift, atCell, each-cell, at-open, at-shut, rank-open, rank-shut, lower-is, listOf, list-append}
+use Rattle.encoder.proofs.Places.{place-z}
+use Rattle.encoder.proofs.ClauseLists.{each-next, each-shift, each-cell, at-open, at-shut, rank-open, rank-shut, list-append}
 use Rattle.encoder.proofs.ClauseLists.{list-joined, list-each, list-map, number-q}
 use Rattle.encoder_shapes.specs.Shapes.{notBoth as notPair, implies, orNot, bothImply, eachImplies, orAtLeastOne, eachNotBoth}
 use Rattle.encoder_numbers.specs.declared.NeighbourNumbers.{NeighbourNumbers}
@@ -39,12 +40,12 @@ literals-each b f (x ∷ xs) = ap (λ l. pos (number b (f x)) ∷ l) (literals-e
 
 -- the open cells before x, by their ranks
 module _ (b : Board) (G F : ℕ → List ℤ) (same : (y : ℕ) → b .isOpen y ≡ true → G y ≡ F (rank b y)) where
-  pub each-ranked : (x : ℕ) → each (below b x) G ≡ each (upTo (rank b x)) F
+  pub each-ranked : (x : ℕ) → each (lower b x) G ≡ each (upTo (rank b x)) F
   each-ranked zero = refl
   each-ranked (suc x) =
-      ap (λ n. each (below b n) G) (sym (add-one x)) ∙ each-cell b x G ∙ by (b .isOpen x) refl (each-ranked x) ∙ ap (λ n. each (upTo (rank b n)) F) (add-one x)
+      ap (λ n. each (lower b n) G) (sym (add-one x)) ∙ each-cell b x G ∙ by (b .isOpen x) refl (each-ranked x) ∙ ap (λ n. each (upTo (rank b n)) F) (add-one x)
     where
-      by : (t : Bool) → b .isOpen x ≡ t → each (below b x) G ≡ each (upTo (rank b x)) F → each (below b x) G ++ atCell b G x ≡ each (upTo (rank b (x + 1))) F
+      by : (t : Bool) → b .isOpen x ≡ t → each (lower b x) G ≡ each (upTo (rank b x)) F → each (lower b x) G ++ atCell b G x ≡ each (upTo (rank b (x + 1))) F
       by true h so-far =
           let e : 0 + rank b x ≡ rank b x = omega arith in
           (λ t. so-far t ++ (at-open b x G h ∙ same x h ∙ ap F (sym e)) t) ∙ sym (each-next F 0 (rank b x)) ∙ ap (λ n. each (upTo n) F) (sym (rank-open b x h))
@@ -166,8 +167,7 @@ module _ (b : Board) (law : Laws b) (x : ℕ) (h : b .isOpen x ≡ true) where
     where
       lowers : listOf b (map (blackBefore x) (lower b x)) ≡ eachImplies (number b (S x)) 1 (rank b x)
       lowers =
-          let l : x ≤ b .size = (let k = law .open-stays x h in omega arith) in
-          list-map b (blackBefore x) (lower b x) ∙ ap (λ l. each l (λ y. written b (blackBefore x y))) (lower-is b x l)
+          list-map b (blackBefore x) (lower b x)
           ∙ each-ranked b (λ y. written b (blackBefore x y)) (λ k. implies (number b (S x)) (1 + k))
           (λ y o. ap (implies (number b (S x))) (let e = place-z b law y o in omega arith)) x
 

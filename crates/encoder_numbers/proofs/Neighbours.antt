@@ -15,9 +15,9 @@ use Rattle.rules.specs.Record.{size, puzzle, mostCells, RecordFits}
 use Rattle.rules.specs.Board.{Board, gridBoard}
 use Rattle.rules.proofs.Boards.{Laws, laws}
 use Rattle.rules.proofs.Records.{held-filled}
-use Rattle.encoder.specs.Variables.{Z, S, E, Q, neighbours, openCount, number}
+use Rattle.encoder.specs.Variables.{Z, S, E, Q, neighbours, openCount, number, rank, linksBelow, earlier}
 use Rattle.encoder.proofs.Neighbours.{in-opens}
-use Rattle.encoder.proofs.Places.{rank, linksBelow, earlier, place-z, place-s, place-e, place-q}
+use Rattle.encoder.proofs.Places.{place-z, place-s, place-e, place-q}
 use Rattle.encoder_numbers.specs.declared.Sizes.{Sizes}
 use Rattle.encoder_numbers.specs.declared.NeighbourNumbers.{NeighbourNumbers}
 use Rattle.encoder_numbers.specs.declared.CellNumbers.{CellNumbers}

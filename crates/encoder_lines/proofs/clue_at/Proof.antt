@@ -4,7 +4,7 @@ use Rattle.answers.proofs.Lent.{wrote-nothing, wrote-recast}
 use Rattle.rules.specs.Record.{puzzle}
 use Rattle.rules.specs.Board.{gridBoard}
 use Rattle.answers.specs.Lists.{joined}
-use Rattle.encoder.proofs.ClauseLists.{listOf}
+use Rattle.encoder.specs.Clauses.{listOf}
 use Rattle.encoder_shapes.proofs.Written.{writable-recast}
 use Rattle.encoder_lines.specs.Line.{blacksOf, clueNumbers, clueAt}
 use Rattle.encoder_lines.proofs.Family.{clue-none, clue-some}

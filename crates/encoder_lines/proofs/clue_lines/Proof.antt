@@ -5,7 +5,7 @@ use mathlib.Core.Path.{sym}
 use Rattle.answers.proofs.Lent.{wrote-recast}
 use Rattle.rules.specs.Record.{puzzle}
 use Rattle.rules.specs.Board.{gridBoard}
-use Rattle.encoder.proofs.ClauseLists.{listOf}
+use Rattle.encoder.specs.Clauses.{listOf}
 use Rattle.encoder_shapes.proofs.Written.{writable-recast, Writing, write-start, write-needs, write-on, write-end, write-kept}
 use Rattle.encoder_lines.specs.Line.{clueAt}
 use Rattle.encoder_lines.proofs.Family.{lines-each}

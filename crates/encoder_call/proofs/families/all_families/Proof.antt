@@ -4,8 +4,8 @@ use mathlib.Core.Path.{refl, sym}
 use mathlib.Core.List.{List, map}
 use Rattle.answers.proofs.Lent.{wrote-recast}
 use Rattle.rules.specs.Board.{Board, gridBoard}
-use Rattle.encoder.specs.Clauses.{families}
-use Rattle.encoder.proofs.ClauseLists.{listOf, list-families}
+use Rattle.encoder.specs.Clauses.{families, listOf}
+use Rattle.encoder.proofs.ClauseLists.{list-families}
 use Rattle.encoder_shapes.proofs.Written.{in-parts, writable-recast}
 use borrow.Author.Needs.{needs}
 use Rattle.encoder_shapes.proofs.Written.{Progress, begun, part-needs, part-on, parts-end}

@@ -4,7 +4,8 @@ use borrow.Author.Tests.{not-true, not-false}
 use Rattle.answers.proofs.Lent.{wrote-nothing, wrote-recast}
 use Rattle.rules.specs.Board.{gridBoard}
 use Rattle.answers.specs.Lists.{joined}
-use Rattle.encoder.proofs.ClauseLists.{listOf, atCell}
+use Rattle.encoder.specs.Clauses.{listOf}
+use Rattle.encoder.specs.Variables.{atCell}
 use Rattle.encoder_shapes.proofs.Written.{writable-recast}
 use Rattle.encoder_numbers.specs.Tables.{OpenCell}
 use Rattle.encoder_call.specs.Families.{familyAt, familyParts}

@@ -7,8 +7,8 @@ use mathlib.Core.List.{List}
 use Rattle.answers.proofs.Lent.{wrote-recast}
 use Rattle.rules.specs.Board.{gridBoard}
 use Rattle.answers.specs.Lists.{upTo, each}
-use Rattle.encoder.specs.Variables.{opens}
-use Rattle.encoder.proofs.ClauseLists.{listOf, atCell}
+use Rattle.encoder.specs.Variables.{opens, atCell}
+use Rattle.encoder.specs.Clauses.{listOf}
 use Rattle.encoder_shapes.proofs.Written.{writable-recast, Writing, write-start, write-needs, write-on, write-end, write-kept}
 use Rattle.encoder_call.specs.Families.{familyAt}
 use Rattle.encoder_call.proofs.EachCell.{cells-each}

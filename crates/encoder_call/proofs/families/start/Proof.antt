@@ -8,8 +8,7 @@ use Rattle.answers.proofs.Lent.{wrote-recast}
 use Rattle.rules.specs.Board.{Board, gridBoard}
 use Rattle.answers.specs.Lists.{each, joined}
 use Rattle.encoder.specs.Variables.{opens}
-use Rattle.encoder.specs.Clauses.{start as startClauses, startAt}
-use Rattle.encoder.proofs.ClauseLists.{listOf}
+use Rattle.encoder.specs.Clauses.{start as startClauses, startAt, listOf}
 use Rattle.encoder_shapes.specs.Shapes.{atLeastOne}
 use Rattle.encoder_shapes.proofs.Written.{in-parts, writable-recast}
 use Rattle.encoder_numbers.specs.declared.Sizes.{Sizes}
