@@ -1,4 +1,4 @@
--- How many clauses there are and how long the list is, for small boards: what the code counts fits. Assumes nothing.
+-- How many clauses there are and how long the list is, for bounded boards: what the code counts fits. Assumes nothing.
 use Prim.Native.Nat.{ℕ, suc, _+_, _*_, _-_, _≤_, _<_, _^_}
 use native.Mathlib.Omega.{arith}
 use native.Mathlib.Nat.{suc-mul, mul-le-mul, mul-le-mul-right}
@@ -16,7 +16,7 @@ use Rattle.encoder.specs.Clauses.{plus, minus, Clause, notBoth, pairs, o
 use Rattle.encoder.specs.Clauses.{lineClauses, noneBlack, clueParts, clueClauses, back, incoming, bothWhite, oneWay, linkParts, linksAt}
 use Rattle.encoder.specs.Clauses.{blackBefore, eastward, startParts, startAt, someStart, noDistance, notAhead, nearer, fromOne, nearerEach, distanceParts}
 use Rattle.encoder.specs.Clauses.{distanceAt, families, clauses, signed, written, clauseList}
-use Rattle.encoder.specs.Small.{Small}
+use Rattle.encoder.specs.Bounds.{BoundedBoard}
 use Rattle.answers.proofs.Elements.{all-append, all-at, all-each, all-map, of-upTo, of-keep, length-from, length-each-most, keep-most, map-most}
 use Rattle.encoder.proofs.Bounds.{neighbours-most, open-few}
 
@@ -54,13 +54,13 @@ abbrev sum : List ℕ → ℕ
 sum [] = 0
 sum (n ∷ ns) = n + sum ns
 
-abbrev Parts : List ℕ → List (List Clause) → Type 0
-Parts [] [] = Unit
-Parts [] (p ∷ ps) = ⊥
-Parts (n ∷ ns) [] = ⊥
-Parts (n ∷ ns) (p ∷ ps) = Few n p × Parts ns ps
+abbrev PartsFew : List ℕ → List (List Clause) → Type 0
+PartsFew [] [] = Unit
+PartsFew [] (p ∷ ps) = ⊥
+PartsFew (n ∷ ns) [] = ⊥
+PartsFew (n ∷ ns) (p ∷ ps) = Few n p × PartsFew ns ps
 
-few-joined : (ns : List ℕ) (ps : List (List Clause)) → Parts ns ps → Few (sum ns) (joined ps)
+few-joined : (ns : List ℕ) (ps : List (List Clause)) → PartsFew ns ps → Few (sum ns) (joined ps)
 few-joined [] [] h = few-none
 few-joined [] (p ∷ ps) h = absurd h
 few-joined (n ∷ ns) [] h = absurd h
@@ -78,9 +78,9 @@ few-pairs vs m h = few-more (mul-le-mul-right m h) (some-pairs vs m h)
 few-any : (v : Variable) (vs : List Variable) → length vs ≤ 2025 → Few 1 (orAny v vs ∷ [])
 few-any v vs h = few-one (orAny v vs) (omega (arith, length-map vs plus))
 
-module _ (b : Board) (small : Small b) where
+module _ (b : Board) (bounded : BoundedBoard b) where
   few-opens : openCount b ≤ 2025
-  few-opens = open-few small
+  few-opens = open-few bounded
 
   -- 1. Touching
   touching-few : (x : ℕ) → Few 2 (touchingAt b x)
@@ -162,7 +162,7 @@ module _ (b : Board) (small : Small b) where
       few-joined (1 ∷ 2025 ∷ 1 ∷ []) (startParts b x) (
         few-one _ (omega arith),
         (
-          few-map (blackBefore x) (lower b x) 2025 (omega (arith, keep-most (b .isOpen) (upTo x), length-from 0 x, small .cells)) (λ y. omega arith),
+          few-map (blackBefore x) (lower b x) 2025 (omega (arith, keep-most (b .isOpen) (upTo x), length-from 0 x, bounded .cells)) (λ y. omega arith),
           (few-one (eastward b x) (omega (arith, length-map (map (out x) ys) plus, length-map ys (out x), neighbours-most b x (east ∷ []))), tt),
         ),
       )
@@ -194,8 +194,8 @@ module _ (b : Board) (small : Small b) where
       few-more (omega arith) (few-joined (4050 ∷ 188539650 ∷ 89100 ∷ 4104676 ∷ 24609825 ∷ []) (families b) (
         few-each (touchingAt b) (opens b) 2025 2 few-opens (λ x m. touching-few x),
         (
-          few-each (clueClauses (b .isOpen)) (b .clues) 2025 93106 (small .clues)
-              (λ c m. let (l, n) = all-at (λ (c : Clue). (length (c .line) ≤ 44) × (c .number ≤ 44)) (small .short) m in clue-few c l n),
+          few-each (clueClauses (b .isOpen)) (b .clues) 2025 93106 (bounded .clues)
+              (λ c m. let (l, n) = all-at (λ (c : Clue). (length (c .line) ≤ 44) × (c .number ≤ 44)) (bounded .short) m in clue-few c l n),
           (
             few-each (linksAt b) (opens b) 2025 44 few-opens (λ x m. links-few x),
             (

@@ -4,5 +4,5 @@ pub mod Variables
 pub mod Clauses
 pub mod Encoding
 pub mod Decoding
-pub mod Small
+pub mod Bounds
 pub mod Cases

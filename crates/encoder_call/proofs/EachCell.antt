@@ -10,7 +10,7 @@ use Rattle.rules.specs.Board.{Board, gridBoard}
 use Rattle.rules.proofs.Boards.{Laws}
 use Rattle.cnf.specs.Literals.{mostVariables}
 use Rattle.answers.specs.Lists.{upTo, each, joined}
-use Rattle.encoder.specs.Variables.{S, opens, openCount, number, lower, rank, atCell}
+use Rattle.encoder.specs.Variables.{S, opens, openCount, number, rank, atCell}
 use Rattle.encoder.specs.Clauses.{Clause, someStart, start, startAt, signed, listOf}
 use Rattle.encoder.proofs.Places.{place-s}
 use Rattle.encoder.proofs.ClauseLists.{lower-each, at-open, at-shut, list-each}

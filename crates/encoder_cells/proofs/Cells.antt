@@ -1,5 +1,5 @@
 -- The clauses of an open cell by numbers are those of document 01, family by family. Assumes nothing.
-use Prim.Native.Nat.{ℕ, zero, suc, _+_, _-_, _≤_, _<_}
+use Prim.Native.Nat.{ℕ, zero, suc, _+_, _-_, _<_}
 use native.Mathlib.Omega.{arith}
 use native.Mathlib.Numerals.{add-one}
 use lib.IntN.{ℤ, pos, negℤ}
@@ -24,7 +24,7 @@ use Rattle.encoder.proofs.ClauseLists.{list-joined, list-each, list-map, number
 use Rattle.encoder_shapes.specs.Shapes.{notBoth as notPair, implies, orNot, bothImply, eachImplies, orAtLeastOne, eachNotBoth}
 use Rattle.encoder_numbers.specs.declared.NeighbourNumbers.{NeighbourNumbers}
 use Rattle.encoder_cells.specs.Cell as cell
-use Rattle.encoder_cells.specs.Cell.{literalIf, notBothIf, anyParts, pairParts}
+use Rattle.encoder_cells.specs.Cell.{literalIfPresent, notBothIfPresent, anyParts, pairParts}
 use Rattle.encoder_numbers.specs.Numbered.{noNeighbour, neighbourNumbersTo, neighbourNumbersIf, neighbourNumbersOf, cellNumbersOf}
 
 -- 1. What is made of the open neighbours, and of the open cells before one
@@ -85,13 +85,13 @@ module _ (b : Board) (x : ℕ) where
         append-nil _
         ∙ ap (λ l. pos (number b v) ∷ (l ++ (pos 0 ∷ [])))
         (literals-each b f (neighbours b x (n ∷ e ∷ s ∷ w ∷ []))
-        ∙ side-each (λ y. pos (number b (f y)) ∷ []) (λ s. literalIf (g s)) (ap literalIf off) (λ y k. ap literalIf (on y)) (n ∷ e ∷ s ∷ w ∷ []))
+        ∙ side-each (λ y. pos (number b (f y)) ∷ []) (λ s. literalIfPresent (g s)) (ap literalIfPresent off) (λ y k. ap literalIfPresent (on y)) (n ∷ e ∷ s ∷ w ∷ []))
         ∙ simp (append-assoc)
 
     -- each pair of them
     abbrev pairsOf : List Direction → List ℤ
     pairsOf [] = []
-    pairsOf (d ∷ ds) = each ds (λ e. notBothIf (g (neighbourNumbersOf b x d)) (g (neighbourNumbersOf b x e))) ++ pairsOf ds
+    pairsOf (d ∷ ds) = each ds (λ e. notBothIfPresent (g (neighbourNumbersOf b x d)) (g (neighbourNumbersOf b x e))) ++ pairsOf ds
 
     pairs-from : (ds : List Direction) → listOf b (pairs (map f (neighbours b x ds))) ≡ pairsOf ds
     pairs-from [] = refl
@@ -101,29 +101,29 @@ module _ (b : Board) (x : ℕ) where
         ns = neighbours b x ds
 
         -- without a first one, and with it
-        nothing : (es : List Direction) → [] ≡ each es (λ e. notBothIf (g noNeighbour) (g (neighbourNumbersOf b x e)))
+        nothing : (es : List Direction) → [] ≡ each es (λ e. notBothIfPresent (g noNeighbour) (g (neighbourNumbersOf b x e)))
         nothing [] = refl
         nothing (e ∷ es) =
             nothing es
-            ∙ ap (λ k. notBothIf k (g (neighbourNumbersOf b x e)) ++ each es (λ e. notBothIf (g noNeighbour) (g (neighbourNumbersOf b x e)))) (sym off)
+            ∙ ap (λ k. notBothIfPresent k (g (neighbourNumbersOf b x e)) ++ each es (λ e. notBothIfPresent (g noNeighbour) (g (neighbourNumbersOf b x e)))) (sym off)
 
         with : (y : Neighbour)
-            → listOf b (map (notBoth (f y)) (map f ns)) ≡ each ds (λ e. notBothIf (g (neighbourNumbersTo b x y)) (g (neighbourNumbersOf b x e)))
+            → listOf b (map (notBoth (f y)) (map f ns)) ≡ each ds (λ e. notBothIfPresent (g (neighbourNumbersTo b x y)) (g (neighbourNumbersOf b x e)))
         with y =
             list-map b (notBoth (f y)) (map f ns) ∙ each-map f (λ v. written b (notBoth (f y) v)) ns
-            ∙ side-each (λ z. written b (notBoth (f y) (f z))) (λ s. notBothIf (number b (f y)) (g s)) (ap (notBothIf (number b (f y))) off)
-            (λ z k. ap (notBothIf (number b (f y))) (on z)) ds
-            ∙ ap (λ k. each ds (λ e. notBothIf k (g (neighbourNumbersOf b x e)))) (sym (on y))
+            ∙ side-each (λ z. written b (notBoth (f y) (f z))) (λ s. notBothIfPresent (number b (f y)) (g s)) (ap (notBothIfPresent (number b (f y))) off)
+            (λ z k. ap (notBothIfPresent (number b (f y))) (on z)) ds
+            ∙ ap (λ k. each ds (λ e. notBothIfPresent k (g (neighbourNumbersOf b x e)))) (sym (on y))
 
         by : (o : Option ℕ) → listOf b (pairs (map f ns)) ≡ pairsOf ds
             → listOf b (pairs (map f (ifThere b d o ++ ns)))
-            ≡ each ds (λ e. notBothIf (g (neighbourNumbersIf b x (ifThere b d o))) (g (neighbourNumbersOf b x e))) ++ pairsOf ds
+            ≡ each ds (λ e. notBothIfPresent (g (neighbourNumbersIf b x (ifThere b d o))) (g (neighbourNumbersOf b x e))) ++ pairsOf ds
         by none go = (λ t. nothing ds t ++ go t)
         by (some y) go = opened (b .isOpen y)
           where
             opened : (t : Bool)
                 → listOf b (pairs (map f (ifOpen t d y ++ ns)))
-                ≡ each ds (λ e. notBothIf (g (neighbourNumbersIf b x (ifOpen t d y))) (g (neighbourNumbersOf b x e))) ++ pairsOf ds
+                ≡ each ds (λ e. notBothIfPresent (g (neighbourNumbersIf b x (ifOpen t d y))) (g (neighbourNumbersOf b x e))) ++ pairsOf ds
             opened true =
                 let z : Neighbour = record { way = d; cell = y } in list-append b (map (notBoth (f z)) (map f ns)) (pairs (map f ns)) ∙ (λ t. with z t ++ go t)
             opened false = (λ t. nothing ds t ++ go t)
@@ -137,7 +137,7 @@ module _ (b : Board) (x : ℕ) where
   pub touching-list : listOf b (touchingAt b x) ≡ joined (cell.touchingParts (cellNumbersOf b x))
   touching-list =
       list-map b (touch x) (neighbours b x eastSouth)
-      ∙ side-each (λ y. written b (touch x y)) (λ s. notBothIf (number b (Z x)) (s .black)) refl (λ y k. refl) eastSouth
+      ∙ side-each (λ y. written b (touch x y)) (λ s. notBothIfPresent (number b (Z x)) (s .black)) refl (λ y k. refl) eastSouth
 
   -- 3. Links
   pub links-list : listOf b (linksAt b x) ≡ joined (cell.linkParts (cellNumbersOf b x))
@@ -158,7 +158,7 @@ module _ (b : Board) (x : ℕ) where
       linkVariables : listOf b (map (oneWay x) (neighbours b x eastSouth)) ≡ joined (cell.oneWayParts (cellNumbersOf b x))
       linkVariables =
           list-map b (oneWay x) (neighbours b x eastSouth)
-          ∙ side-each (λ y. written b (oneWay x y)) (λ s. notBothIf (s .out) (s .back)) refl (λ y k. refl) eastSouth
+          ∙ side-each (λ y. written b (oneWay x y)) (λ s. notBothIfPresent (s .out) (s .back)) refl (λ y k. refl) eastSouth
 
 module _ (b : Board) (law : Laws b) (x : ℕ) (h : b .isOpen x ≡ true) where
   -- 4. Start
@@ -176,7 +176,7 @@ module _ (b : Board) (law : Laws b) (x : ℕ) (h : b .isOpen x ≡ true) where
           append-nil _
           ∙ ap (λ l. negℤ (pos (number b (S x))) ∷ (l ++ (pos 0 ∷ [])))
           (literals-each b (out x) (neighbours b x (east ∷ []))
-          ∙ side-each b x (λ y. pos (number b (out x y)) ∷ []) (λ s. literalIf (s .out)) refl (λ y k. refl) (east ∷ []))
+          ∙ side-each b x (λ y. pos (number b (out x y)) ∷ []) (λ s. literalIfPresent (s .out)) refl (λ y k. refl) (east ∷ []))
           ∙ simp (append-assoc)
 
   -- 5. Distance: the numbers of Q go on by one

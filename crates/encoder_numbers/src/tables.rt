@@ -9,7 +9,7 @@ ghost use Rattle.answers.specs.Lent.{filled, Wrote};
 ghost use Rattle.rules.specs.Record.{size, RecordFits};
 ghost use Rattle.rules.specs.Board.{gridBoard};
 ghost use Rattle.encoder.specs.Variables.{directions, neighbours, variableCount, earlier};
-ghost use Rattle.encoder_numbers.specs.Tables.{sizesBelow, sizesOf, rowOf, tableOf, Tables, openNeighbour, OpenCell};
+ghost use Rattle.encoder_numbers.specs.Tables.{sizesBelow, sizesOf, rowOf, tableOf, Tables, openNeighbour};
 use super::Sizes;
 use answers::Place;
 use judge_cells::cells::is_open;

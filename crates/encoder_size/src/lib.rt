@@ -1,7 +1,7 @@
 // Counts a grid's clauses and their elements without writing them: of each cell by products, so that no clause is visited.
 ghost use mathlib.Core.Path.{_≡_};
 ghost use Prim.Native.Nat.{_*_, _≤_, _<_, _^_};
-ghost use lib.ListN.{length, getD};
+ghost use lib.ListN.{getD};
 ghost use Rattle.answers.specs.Lists.{howMany};
 ghost use Rattle.rules.specs.declared.Cell.the-variants.{Open, Clue};
 ghost use Rattle.rules.specs.Directions.{bit};
