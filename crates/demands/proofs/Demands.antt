@@ -66,7 +66,7 @@ demand-2 =
       clauses = λ b. refl;
       encoded = λ s out e.
           let outcome = clear-answered (encoderRows s out) _ (answered-clear (encoderRows s out) _ refl e) in (
-            outcome ∙ ap (answer (length (clauseList (boardOf s))) (variableCount (boardOf s))) (sym (encoder.clauses-outcome (boardOf s))),
+            outcome ∙ ap (answer (length (clauseList (boardOf s))) (variableCount (boardOf s))) (sym (encoder.clause-count (boardOf s))),
             ap (λ (t : Outcome). unlessRefused t out (filled out (clauseList (boardOf s)))) outcome,
           );
       text = λ v ls buf e.

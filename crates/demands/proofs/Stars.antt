@@ -22,7 +22,8 @@ use Rattle.text.specs.Decimal.{decimalIn}
 use Rattle.dimacs.specs.Text.{lines}
 use Rattle.encoder.specs.Variables.{same, variables, variableCount, place}
 use Rattle.encoder.specs.Clauses.{clauses, clauseList}
-use Rattle.encoder.proofs.Cases as grids
+use Rattle.encoder.specs.Cases as grids
+use Rattle.encoder.proofs.Cases.{cases-hold}
 use Rattle.answers.proofs.Elements.{all-append}
 use Rattle.search.specs.Trail.{trailOf, variableValue}
 use Rattle.search.specs.Step.{everyLiteral, firstClause, forcedAt, failedClause, forcedPlace, lowestUnassigned, undo, step}
@@ -133,7 +134,7 @@ module _ (g : GridStar) (e : computes g ≡ claims g) (encoded : grids.encodes (
       })
 
 grids-hold : All GridHolds gridStars
-grids-hold = by (at-each computes claims gridStars computed) (at-each grids.encodes (λ g. g) grids.cases grids.cases-hold)
+grids-hold = by (at-each computes claims gridStars computed) (at-each grids.encodes (λ g. g) grids.cases cases-hold)
   where
     by : All (λ g. computes g ≡ claims g) gridStars → All (λ g. grids.encodes g ≡ g) grids.cases → All GridHolds gridStars
     by c e = (

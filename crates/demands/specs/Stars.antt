@@ -13,7 +13,7 @@ use Rattle.rules.specs.Solutions.{Solutions}
 use Rattle.rules_theory.specs.Cases as records
 use Rattle.dimacs.specs.Text.{textOf}
 use Rattle.dimacs.specs.Sample.{oneCellText}
-use Rattle.encoder.proofs.Cases as grids
+use Rattle.encoder.specs.Cases as grids
 use Rattle.search.specs.Cases as lists
 
 -- a grid: its record, what the encoder tells (elements, V, clauses) and writes; its solutions; what the search begun empty tells (1 found or 2 none,

@@ -1,4 +1,4 @@
--- V, the number of clauses and the list's length are small, and the list is right for V. Assumes nothing.
+-- V is not too large for bounded boards, and the list is one for V. Assumes nothing.
 use Prim.Native.Nat.{ℕ, zero, suc, _+_, _*_, _-_, _≤_, _<_}
 use native.Mathlib.Omega.{arith}
 use native.Mathlib.Nat.{mul-le-mul}
@@ -24,7 +24,7 @@ use Rattle.answers.specs.Lists.{upTo, each}
 use Rattle.encoder.specs.Variables.{Variable, directions, opens, openCount, ifOpen, ifThere, neighbours, out, outgoing, linkVariables, clueCounts, counts}
 use Rattle.encoder.specs.Variables.{variables, variableCount, same, placeStep, place, number}
 use Rattle.encoder.specs.Clauses.{Literal, plus, minus, Clause, clauses, signed, written, clauseList}
-use Rattle.encoder.specs.Small.{Small}
+use Rattle.encoder.specs.Bounds.{NotBeyond, BoundedBoard}
 use Rattle.answers.proofs.Elements.{all-append, all-at, all-each, all-map, length-from, length-each-most, keep-most, map-most}
 use Rattle.encoder.proofs.Occurs.{variableOf, Inside, clauses-within}
 use Rattle.encoder.proofs.Places.{clue-long, total}
@@ -47,9 +47,9 @@ opens-most b = omega (arith, keep-most (b .isOpen) (upTo (b .size)), length-from
 
 -- 2. V
 
-module _ {b : Board} (small : Small b) where
+module _ {b : Board} (bounded : BoundedBoard b) where
   pub open-few : openCount b ≤ 2025
-  open-few = let c = small .cells in omega (arith, opens-most b)
+  open-few = let c = bounded .cells in omega (arith, opens-most b)
 
   links-few : length (linkVariables b) ≤ 8100
   links-few =
@@ -58,8 +58,8 @@ module _ {b : Board} (small : Small b) where
 
   counts-few : length (counts b) ≤ 2025 * 2025
   counts-few =
-      let c = small .clues in
-      let h = length-each-most clueCounts 2025 (b .clues) (λ c m. let (l, n) = all-at (λ (c : Clue). (length (c .line) ≤ 44) × (c .number ≤ 44)) (small .short) m in
+      let c = bounded .clues in
+      let h = length-each-most clueCounts 2025 (b .clues) (λ c m. let (l, n) = all-at (λ (c : Clue). (length (c .line) ≤ 44) × (c .number ≤ 44)) (bounded .short) m in
       let p : suc (length (c .line)) * suc (c .number) ≤ 45 * 45 = mul-le-mul {n₂ = 45} {m₂ = 45} (omega arith) (omega arith) in omega (arith, clue-long c)) in
       omega arith
 
@@ -69,7 +69,7 @@ module _ {b : Board} (small : Small b) where
       let q : openCount b * openCount b ≤ 2025 * 2025 = mul-le-mul open-few open-few in
       omega (arith, total b, open-few, links-few, counts-few)
 
--- 3. The list is right for V: each number is one of 1 to V, and 0 stands at the end
+-- 3. The list is one for V: no literal is beyond V, and 0 stands at the end
 
 pub place-below : (v : Variable) {us : List Variable} → v ∈ us → place v us < length us
 unfolding place
@@ -87,17 +87,14 @@ place-below v (List·Memᴰ·tail {x = u} {xs = us} m) = by (same v u) (place-be
 pub number-most : (b : Board) {v : Variable} → v ∈ variables b → number b v ≤ variableCount b
 number-most b {v} m = place-below v m
 
-abbrev pub Right : ℕ → ℤ → Type 0
-Right v l = natAbs l ≤ v
+literal-not-beyond : (b : Board) (l : Literal) → variableOf l ∈ variables b → NotBeyond (variableCount b) (signed b l)
+literal-not-beyond b (plus v) m = number-most b m
+literal-not-beyond b (minus v) m = number-most b m
 
-literal-right : (b : Board) (l : Literal) → variableOf l ∈ variables b → Right (variableCount b) (signed b l)
-literal-right b (plus v) m = number-most b m
-literal-right b (minus v) m = number-most b m
-
-written-right : (b : Board) (c : Clause) → Inside (variables b) c → All (Right (variableCount b)) (written b c)
-written-right b c h =
-    all-append (Right (variableCount b)) (map (signed b) c) (pos 0 ∷ [])
-    (all-map (Right (variableCount b)) (signed b) c (λ l m. literal-right b l (all-at (λ (l : Literal). variableOf l ∈ variables b) h m))) (omega arith, tt)
+written-not-beyond : (b : Board) (c : Clause) → Inside (variables b) c → All (NotBeyond (variableCount b)) (written b c)
+written-not-beyond b c h =
+    all-append (NotBeyond (variableCount b)) (map (signed b) c) (pos 0 ∷ [])
+    (all-map (NotBeyond (variableCount b)) (signed b) c (λ l m. literal-not-beyond b l (all-at (λ (l : Literal). variableOf l ∈ variables b) h m))) (omega arith, tt)
 
 all-get : {A : Type 0} (P : A → Type 0) (d : A) (xs : List A) → All P xs → (i : ℕ) → i < length xs → P (getD xs i d)
 all-get P d [] h i l = absurd (omega arith)
@@ -129,18 +126,18 @@ count-each : (b : Board) (cs : List Clause) → clauseCount (each cs (written b)
 count-each b [] = refl
 count-each b (c ∷ cs) = count-written b c (each cs (written b)) ∙ ap suc (count-each b cs)
 
-pub count-clauses : (b : Board) → clauseCount (clauseList b) ≡ length (clauses b)
+pub clause-count : (b : Board) → clauseCount (clauseList b) ≡ length (clauses b)
 unfolding clauseList
-count-clauses b = count-each b (clauses b)
+clause-count b = count-each b (clauses b)
 
-pub list-within : (b : Board) → Laws b → All (Right (variableCount b)) (clauseList b)
+pub list-not-beyond : (b : Board) → Laws b → All (NotBeyond (variableCount b)) (clauseList b)
 unfolding clauseList
-list-within b law =
-    all-each (Right (variableCount b)) (written b) (clauses b) (λ c m. written-right b c (all-at (Inside (variables b)) (clauses-within b law) m))
+list-not-beyond b law =
+    all-each (NotBeyond (variableCount b)) (written b) (clauses b) (λ c m. written-not-beyond b c (all-at (Inside (variables b)) (clauses-within b law) m))
 
 -- search and writer never find the list wrong
-pub list-right : (b : Board) → Laws b → wrongList (variableCount b) (clauseList b) ≡ none
+pub list-not-wrong : (b : Board) → Laws b → wrongList (variableCount b) (clauseList b) ≡ none
 unfolding clauseList
-list-right b law =
-    let within : firstWhere (beyondAt (variableCount b) (clauseList b)) (length (clauseList b)) ≡ none = none-first _ _ (λ i h. le-ltb _ _ (all-get (Right (variableCount b)) (pos 0) (clauseList b) (list-within b law) i h)) in
+list-not-wrong b law =
+    let within : firstWhere (beyondAt (variableCount b) (clauseList b)) (length (clauseList b)) ≡ none = none-first _ _ (λ i h. le-ltb _ _ (all-get (NotBeyond (variableCount b)) (pos 0) (clauseList b) (list-not-beyond b law) i h)) in
     (λ t. orElse (within t) (found (list-closed b (clauses b) t) (length (clauseList b)) none))

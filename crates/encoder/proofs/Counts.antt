@@ -12,22 +12,12 @@ use Rattle.answers.specs.Lists.{_∈_}
 use Rattle.rules.specs.declared.Direction.the-variants.{East as east}
 use Rattle.rules.specs.Board.{Board}
 use Rattle.answers.specs.Lists.{from, upTo, each, joined}
-use Rattle.encoder.specs.Variables.{Variable, Z, S, T, directions, opens, openCount, Neighbour, neighbours, out, outgoing, distancesAt, countsAt}
+use Rattle.encoder.specs.Variables.{Variable, Z, S, T, directions, opens, openCount, Neighbour, neighbours, out, outgoing, distancesAt, countsAt, lower}
 use Rattle.encoder.specs.Clauses.{plus, minus, Clause, notBoth, pairs, orAny, eastSouth, touch, touchingAt, oneMore, countStep, cellClauses, lineClauses}
-use Rattle.encoder.specs.Clauses.{noneBlack, clueParts, back, incoming, bothWhite, oneWay, linksAt, lower, blackBefore, eastward, startAt, someStart}
-use Rattle.encoder.specs.Clauses.{noDistance, notAhead, nearer, fromOne, nearerEach, distanceAt, signed, written}
-use Rattle.answers.proofs.Elements.{of-upTo, each-append, length-from}
-use Rattle.encoder.proofs.ClauseLists.{each-next}
-
--- n clauses, e elements with their zeros
-pub record Sized (b : Board) (cs : List Clause) (n e : ℕ) : Type 0 where
-  pub clauses : length cs ≡ n
-  pub elements : length (each cs (written b)) ≡ e
-
--- how many pairs n have
-abbrev pub pairCount : ℕ → ℕ
-pairCount zero = 0
-pairCount (suc n) = n + pairCount n
+use Rattle.encoder.specs.Clauses.{noneBlack, clueParts, back, incoming, bothWhite, oneWay, linksAt, blackBefore, eastward, startAt, someStart}
+use Rattle.encoder.specs.Clauses.{noDistance, notAhead, nearer, fromOne, nearerEach, distanceAt, signed, written, pairCount, listOf, Sized}
+use Rattle.answers.proofs.Elements.{of-upTo, length-from}
+use Rattle.encoder.proofs.ClauseLists.{each-next, list-append}
 
 pub pair-count : (n : ℕ) → pairCount n * 2 ≡ n * (n - 1)
 pair-count zero = refl
@@ -52,7 +42,7 @@ module _ (b : Board) where
       let l = q .elements in
       record {
         clauses = length-append cs ds ∙ omega arith;
-        elements = ap length (each-append (written b) cs ds) ∙ length-append (each cs (written b)) (each ds (written b)) ∙ omega arith;
+        elements = ap length (list-append b cs ds) ∙ length-append (listOf b cs) (listOf b ds) ∙ omega arith;
       }
 
   sized-one : (c : Clause) {k : ℕ} → length c ≡ k → Sized b (c ∷ []) 1 (suc k)

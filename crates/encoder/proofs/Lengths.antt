@@ -1,8 +1,8 @@
--- How many clauses there are and how long the list is, for small boards: what the code counts fits. Assumes nothing.
+-- How many clauses there are and how long the list is, for bounded boards: what the code counts fits. Assumes nothing.
 use Prim.Native.Nat.{ℕ, suc, _+_, _*_, _-_, _≤_, _<_, _^_}
 use native.Mathlib.Omega.{arith}
 use native.Mathlib.Nat.{suc-mul, mul-le-mul, mul-le-mul-right}
-use lib.Dec.{eqb, ltb}
+use lib.Dec.{eqb}
 use lib.IntN.{pos}
 use lib.ListN.{length, length-append, length-map}
 use mathlib.Core.Bool.{Bool, true, false}
@@ -11,13 +11,13 @@ use Rattle.answers.specs.Lists.{All, _∈_}
 use Rattle.rules.specs.declared.Direction.the-variants.{East as east}
 use Rattle.rules.specs.Board.{Clue, Board}
 use Rattle.answers.specs.Lists.{from, upTo, each, joined}
-use Rattle.encoder.specs.Variables.{Variable, Z, S, Q, T, directions, opens, openCount, neighbours, out, outgoing, distancesAt, countsAt}
+use Rattle.encoder.specs.Variables.{Variable, Z, S, Q, T, directions, opens, openCount, neighbours, out, outgoing, distancesAt, countsAt, lower}
 use Rattle.encoder.specs.Clauses.{plus, minus, Clause, notBoth, pairs, orAny, eastSouth, touch, touchingAt, oneMore, countStep, cellParts, cellClauses}
-use Rattle.encoder.specs.Clauses.{lineClauses, noneBlack, clueParts, clueClauses, back, incoming, bothWhite, oneWay, linkParts, linksAt, lower}
+use Rattle.encoder.specs.Clauses.{lineClauses, noneBlack, clueParts, clueClauses, back, incoming, bothWhite, oneWay, linkParts, linksAt}
 use Rattle.encoder.specs.Clauses.{blackBefore, eastward, startParts, startAt, someStart, noDistance, notAhead, nearer, fromOne, nearerEach, distanceParts}
 use Rattle.encoder.specs.Clauses.{distanceAt, families, clauses, signed, written, clauseList}
-use Rattle.encoder.specs.Small.{Small}
-use Rattle.answers.proofs.Elements.{all-append, all-at, all-each, all-map, length-from, length-each-most, keep-most, map-most}
+use Rattle.encoder.specs.Bounds.{BoundedBoard}
+use Rattle.answers.proofs.Elements.{all-append, all-at, all-each, all-map, of-upTo, of-keep, length-from, length-each-most, keep-most, map-most}
 use Rattle.encoder.proofs.Bounds.{neighbours-most, open-few}
 
 -- at most n clauses, none with more than 2026 literals
@@ -54,13 +54,13 @@ abbrev sum : List ℕ → ℕ
 sum [] = 0
 sum (n ∷ ns) = n + sum ns
 
-abbrev Parts : List ℕ → List (List Clause) → Type 0
-Parts [] [] = Unit
-Parts [] (p ∷ ps) = ⊥
-Parts (n ∷ ns) [] = ⊥
-Parts (n ∷ ns) (p ∷ ps) = Few n p × Parts ns ps
+abbrev PartsFew : List ℕ → List (List Clause) → Type 0
+PartsFew [] [] = Unit
+PartsFew [] (p ∷ ps) = ⊥
+PartsFew (n ∷ ns) [] = ⊥
+PartsFew (n ∷ ns) (p ∷ ps) = Few n p × PartsFew ns ps
 
-few-joined : (ns : List ℕ) (ps : List (List Clause)) → Parts ns ps → Few (sum ns) (joined ps)
+few-joined : (ns : List ℕ) (ps : List (List Clause)) → PartsFew ns ps → Few (sum ns) (joined ps)
 few-joined [] [] h = few-none
 few-joined [] (p ∷ ps) h = absurd h
 few-joined (n ∷ ns) [] h = absurd h
@@ -78,9 +78,9 @@ few-pairs vs m h = few-more (mul-le-mul-right m h) (some-pairs vs m h)
 few-any : (v : Variable) (vs : List Variable) → length vs ≤ 2025 → Few 1 (orAny v vs ∷ [])
 few-any v vs h = few-one (orAny v vs) (omega (arith, length-map vs plus))
 
-module _ (b : Board) (small : Small b) where
+module _ (b : Board) (bounded : BoundedBoard b) where
   few-opens : openCount b ≤ 2025
-  few-opens = open-few small
+  few-opens = open-few bounded
 
   -- 1. Touching
   touching-few : (x : ℕ) → Few 2 (touchingAt b x)
@@ -155,13 +155,14 @@ module _ (b : Board) (small : Small b) where
       )
 
   -- 4. Start
-  start-few : (x : ℕ) → Few 2027 (startAt b x)
-  start-few x =
+  start-few : (x : ℕ) → x ∈ opens b → Few 2027 (startAt b x)
+  start-few x m =
+      let i = of-upTo (b .size) (of-keep (b .isOpen) (upTo (b .size)) m .0) in
       let ys = neighbours b x (east ∷ []) in
       few-joined (1 ∷ 2025 ∷ 1 ∷ []) (startParts b x) (
         few-one _ (omega arith),
         (
-          few-map (blackBefore x) (lower b x) 2025 (omega (arith, keep-most (λ y. ltb y x) (opens b), few-opens)) (λ y. omega arith),
+          few-map (blackBefore x) (lower b x) 2025 (omega (arith, keep-most (b .isOpen) (upTo x), length-from 0 x, bounded .cells)) (λ y. omega arith),
           (few-one (eastward b x) (omega (arith, length-map (map (out x) ys) plus, length-map ys (out x), neighbours-most b x (east ∷ []))), tt),
         ),
       )
@@ -193,14 +194,14 @@ module _ (b : Board) (small : Small b) where
       few-more (omega arith) (few-joined (4050 ∷ 188539650 ∷ 89100 ∷ 4104676 ∷ 24609825 ∷ []) (families b) (
         few-each (touchingAt b) (opens b) 2025 2 few-opens (λ x m. touching-few x),
         (
-          few-each (clueClauses (b .isOpen)) (b .clues) 2025 93106 (small .clues)
-              (λ c m. let (l, n) = all-at (λ (c : Clue). (length (c .line) ≤ 44) × (c .number ≤ 44)) (small .short) m in clue-few c l n),
+          few-each (clueClauses (b .isOpen)) (b .clues) 2025 93106 (bounded .clues)
+              (λ c m. let (l, n) = all-at (λ (c : Clue). (length (c .line) ≤ 44) × (c .number ≤ 44)) (bounded .short) m in clue-few c l n),
           (
             few-each (linksAt b) (opens b) 2025 44 few-opens (λ x m. links-few x),
             (
               few-append (someStart b ∷ []) (each (opens b) (startAt b))
                   (few-one (someStart b) (omega (arith, length-map (map (λ x. S x) (opens b)) plus, length-map (opens b) (λ x. S x), few-opens)))
-                  (few-each (startAt b) (opens b) 2025 2027 few-opens (λ x m. start-few x)),
+                  (few-each (startAt b) (opens b) 2025 2027 few-opens start-few),
               (few-each (distanceAt b) (opens b) 2025 12153 few-opens (λ x m. distance-few x), tt),
             ),
           ),

@@ -1,4 +1,4 @@
--- Laws that the proofs of this crate and of those above share. Cases.antt: the starred grids.
+-- Laws that the proofs of this crate and of those above share. Cases.antt: the cases hold.
 pub mod Neighbours
 pub mod Distinct
 pub mod Known

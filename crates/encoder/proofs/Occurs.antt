@@ -2,7 +2,7 @@
 use Prim.Native.Nat.{ℕ, suc, _+_, _-_, _≤_, _<_}
 use native.Mathlib.Omega.{arith}
 use lib.ListN.{length}
-use lib.Dec.{eqb, ltb}
+use lib.Dec.{eqb}
 use borrow.Author.Tests.{eqb-false}
 use mathlib.Core.Path.{_≡_, refl}
 use mathlib.Core.Bool.{Bool, true, false}
@@ -15,9 +15,9 @@ use Rattle.rules.specs.Board.{Clue, Board}
 use Rattle.rules.proofs.Boards.{Laws}
 use Rattle.answers.specs.Lists.{from, upTo}
 use Rattle.encoder.specs.Variables.{Variable, Z, S, Q, T, directions, opens, openCount, Neighbour, neighbours, out, outgoing, distancesAt, countsAt}
-use Rattle.encoder.specs.Variables.{variables}
+use Rattle.encoder.specs.Variables.{variables, lower}
 use Rattle.encoder.specs.Clauses.{Literal, plus, minus, Clause, notBoth, pairs, eastSouth, touch, touchingAt, oneMore, countStep, cellParts, cellClauses}
-use Rattle.encoder.specs.Clauses.{lineClauses, noneBlack, clueParts, clueClauses, back, incoming, bothWhite, oneWay, linkParts, linksAt, lower}
+use Rattle.encoder.specs.Clauses.{lineClauses, noneBlack, clueParts, clueClauses, back, incoming, bothWhite, oneWay, linkParts, linksAt}
 use Rattle.encoder.specs.Clauses.{blackBefore, startParts, startAt, noDistance, notAhead, nearer, fromOne, nearerEach, distanceParts, distanceAt}
 use Rattle.encoder.specs.Clauses.{families, clauses}
 use Rattle.answers.proofs.Elements.{all-append, all-at, all-each, all-map, all-joined, of-from, of-upTo, of-keep}
@@ -162,7 +162,7 @@ module _ (b : Board) (law : Laws b) where
         all-joined Fine (startParts b x) (
           ((s, (z, tt)), tt),
           (
-            all-map Fine (blackBefore x) (lower b x) (λ y n. (s, (in-variables b law (Z y) (of-opens b (of-keep (λ y. ltb y x) (opens b) n .0)), tt))),
+            all-map Fine (blackBefore x) (lower b x) (λ y n. (s, (in-variables b law (Z y) (of-keep (b .isOpen) (upTo x) n .1), tt))),
             (((s, any-fine (map (out x) (neighbours b x (east ∷ []))) (all-map In (out x) (neighbours b x (east ∷ [])) (out-in (east ∷ [])))), tt), tt),
           ),
         )

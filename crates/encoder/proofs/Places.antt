@@ -14,7 +14,7 @@ use Rattle.rules.proofs.Boards.{Laws}
 use Rattle.answers.specs.Lists.{from, upTo, each, joined, keepStep, keep}
 use Rattle.encoder.specs.Variables.{Variable, Z, S, E, Q, T, directions, opens, openCount, ifThere, neighbours, out, outgoing, blacks, starts}
 use Rattle.encoder.specs.Variables.{linkVariables, distancesAt, distances, countsAt, clueCounts, counts, letters, variables, variableCount, same}
-use Rattle.encoder.specs.Variables.{placeStep, place}
+use Rattle.encoder.specs.Variables.{placeStep, place, lower, rank, earlier, linksBelow}
 use Rattle.answers.proofs.Elements.{each-append, keep-append, length-from, length-each}
 use Rattle.encoder.proofs.Distinct.{variables-apart}
 
@@ -74,24 +74,6 @@ place-is vs v us h p = rw (p .is) (place-at v us (p .rest) (rw (p .is) at h))
 
 -- 3. The letters
 
--- the open cells before x, and how many they are: the rank of an open x
-abbrev pub below : Board → ℕ → List ℕ
-below b x = keep (b .isOpen) (upTo x)
-
-abbrev pub rank : Board → ℕ → ℕ
-rank b x = length (below b x)
-
--- the number of E variables of the cells before x
-abbrev pub linksBelow : Board → ℕ → ℕ
-linksBelow b x = length (each (below b x) (outgoing b))
-
--- the directions before d
-abbrev pub earlier : Direction → List Direction
-earlier north = []
-earlier east = north ∷ []
-earlier south = north ∷ east ∷ []
-earlier west = north ∷ east ∷ south ∷ []
-
 at-direction : (d : Direction) → At directions d (earlier d)
 at-direction north = record { rest = east ∷ south ∷ west ∷ []; is = refl }
 at-direction east = record { rest = south ∷ west ∷ []; is = refl }
@@ -142,35 +124,35 @@ module _ (b : Board) where
   total = after-q (counts b ++ []) ∙ (let e : length (counts b ++ []) ≡ length (counts b) = ap length (append-nil (counts b)) in omega arith)
 
   module _ (law : Laws b) where
-    at-opens : (x : ℕ) → b .isOpen x ≡ true → At (opens b) x (below b x)
+    at-opens : (x : ℕ) → b .isOpen x ≡ true → At (opens b) x (lower b x)
     at-opens x h = at-keep (b .isOpen) (at-upTo (b .size) x (law .open-stays x h)) h
 
     pub place-z : (x : ℕ) → b .isOpen x ≡ true → place (Z x) (variables b) ≡ rank b x
     unfolding variables
     place-z x h =
-        place-is (joined (letters b)) (Z x) (map (λ x. Z x) (below b x)) (variables-apart b law) (at-left _ (at-map (λ x. Z x) (at-opens x h)))
-        ∙ length-map (below b x) (λ x. Z x)
+        place-is (joined (letters b)) (Z x) (map (λ x. Z x) (lower b x)) (variables-apart b law) (at-left _ (at-map (λ x. Z x) (at-opens x h)))
+        ∙ length-map (lower b x) (λ x. Z x)
 
     pub place-s : (x : ℕ) → b .isOpen x ≡ true → place (S x) (variables b) ≡ openCount b + rank b x
     unfolding variables
     place-s x h =
-        let us = map (λ x. S x) (below b x) in
+        let us = map (λ x. S x) (lower b x) in
         place-is (joined (letters b)) (S x) (blacks b ++ us) (variables-apart b law) (at-right (blacks b) (at-left _ (at-map (λ x. S x) (at-opens x h))))
-        ∙ after-z us ∙ ap (λ n. openCount b + n) (length-map (below b x) (λ x. S x))
+        ∙ after-z us ∙ ap (λ n. openCount b + n) (length-map (lower b x) (λ x. S x))
 
     pub place-e : (x : ℕ) (d : Direction) (y : ℕ) → b .isOpen x ≡ true → b .next d x ≡ some y → b .isOpen y ≡ true
         → place (E x d) (variables b) ≡ openCount b + openCount b + (linksBelow b x + length (neighbours b x (earlier d)))
     unfolding variables
     place-e x d y h e o =
         let before = neighbours b x (earlier d) ++ [] in
-        let us = each (below b x) (outgoing b) ++ map (out x) before in
+        let us = each (lower b x) (outgoing b) ++ map (out x) before in
         place-is (joined (letters b)) (E x d) (blacks b ++ (starts b ++ us)) (variables-apart b law)
         (at-right (blacks b)
         (at-right (starts b)
         (at-left _ (at-each (outgoing b) (at-opens x h) (at-map (out x) (at-each (λ d. ifThere b d (b .next d x)) (at-direction d) one))))))
         ∙ after-s us
         ∙ ap (λ n. openCount b + openCount b + n)
-        (length-append (each (below b x) (outgoing b)) (map (out x) before)
+        (length-append (each (lower b x) (outgoing b)) (map (out x) before)
         ∙ ap (λ n. linksBelow b x + n) (length-map before (out x) ∙ ap length (append-nil (neighbours b x (earlier d)))))
       where
         one : At (ifThere b d (b .next d x)) (record { way = d; cell = y }) []
@@ -180,9 +162,9 @@ module _ (b : Board) where
         → place (Q x k) (variables b) ≡ openCount b + openCount b + length (linkVariables b) + (rank b x * openCount b + k)
     unfolding variables
     place-q x k h l =
-        let us = each (below b x) (distancesAt b) in
+        let us = each (lower b x) (distancesAt b) in
         let vs = map (λ k. Q x k) (upTo k) in
-        let p : length us ≡ rank b x * openCount b = length-each (distancesAt b) (openCount b) (below b x) distances-at in
+        let p : length us ≡ rank b x * openCount b = length-each (distancesAt b) (openCount b) (lower b x) distances-at in
         let q : length vs ≡ k = length-map (upTo k) (λ k. Q x k) ∙ length-from 0 k in
         place-is (joined (letters b)) (Q x k) (blacks b ++ (starts b ++ (linkVariables b ++ (us ++ vs)))) (variables-apart b law)
         (at-right (blacks b)

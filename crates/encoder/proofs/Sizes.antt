@@ -1,4 +1,4 @@
--- Which boards are small: those of grids with sides to 45 and numbers to 44; so those of accepted records. Assumes nothing.
+-- Which boards are bounded: those of grids with sides to 45 and numbers to 44; so those of accepted records. Assumes nothing.
 use Prim.Native.Nat.{ℕ, suc, _+_, _*_, _/_, _%_, _≤_}
 use native.Mathlib.Omega.{arith}
 use native.Mathlib.Nat.{mul-le-mul}
@@ -18,7 +18,7 @@ use Rattle.rules.specs.Record.{Puzzle, directionOf, isCell, cellOf, sides, size
 use Rattle.rules.specs.Board.{Clue, cluesFrom, board, boardOf}
 use Rattle.rules.proofs.Boards.{Filled}
 use Rattle.rules.proofs.Records.{held-filled, accepted-clear, accepted-fits}
-use Rattle.encoder.specs.Small.{Small}
+use Rattle.encoder.specs.Bounds.{BoundedBoard}
 use Rattle.answers.proofs.Elements.{all-map}
 use Rattle.encoder.proofs.Lines.{line-short}
 
@@ -40,8 +40,8 @@ module _ (p : Puzzle) (rows : p .grid .rows ≤ 45) (columns : p .grid .columns 
   clues-short x (Clued d n ∷ cs) h k =
       let l = line-short p 45 rows columns d x (omega arith) in ((omega arith, k .0), clues-short (suc x) cs (omega arith) (k .1))
 
-  pub small-board : Filled p → All (λ c. numberOf c ≤ 44) (p .cells) → Small (board p)
-  small-board filled numbers =
+  pub bounded-board : Filled p → All (λ c. numberOf c ≤ 44) (p .cells) → BoundedBoard (board p)
+  bounded-board filled numbers =
       let m : size (p .grid) ≤ 45 * 45 = mul-le-mul rows columns in
       let f = clues-few 0 (p .cells) in
       record { cells = omega arith; clues = omega (arith, filled); short = clues-short 0 (p .cells) (omega (arith, filled)) numbers }
@@ -59,9 +59,9 @@ cell-small v = by (eqb v 0) (leb 0x10 v && leb v 0x4F)
 side-small : (n : ℕ) → isSide n ≡ true → n ≤ 45
 side-small n h = let l : n ≤ 24 = leb-true _ _ (and-both (leb 1 n) (leb n 24) h .1) in omega arith
 
-pub accepted-small : (s : List ℕ) → IsAccepted s → Small (boardOf s)
-accepted-small s acc =
+pub accepted-bounded : (s : List ℕ) → IsAccepted s → BoundedBoard (boardOf s)
+accepted-bounded s acc =
     let (c1, (c2, (c3, c))) = accepted-clear s acc in
     let w = or-neither (not (isSide (sides s .rows))) (not (isSide (sides s .columns))) (no-cause _ c3) in
-    small-board (puzzle (sides s) s) (side-small _ (not-false _ (w .0))) (side-small _ (not-false _ (w .1))) (held-filled (accepted-fits s acc))
+    bounded-board (puzzle (sides s) s) (side-small _ (not-false _ (w .0))) (side-small _ (not-false _ (w .1))) (held-filled (accepted-fits s acc))
     (all-map (λ c. numberOf c ≤ 44) cellOf (drop 6 s) (λ v m. cell-small v))

@@ -1,17 +1,18 @@
 -- "Clauses, in order" of document 01: five families of clauses, each in parts, and their list of signed numbers.
-use Prim.Native.Nat.{ℕ, suc, _-_}
+use Prim.Native.Nat.{ℕ, zero, suc, _+_, _-_}
 use lib.ListN.{length}
 use lib.IntN.{ℤ, pos, negℤ}
-use lib.Dec.{eqb, ltb}
+use lib.Dec.{eqb}
+use mathlib.Core.Path.{_≡_}
 use mathlib.Core.Bool.{Bool, true, false}
 use mathlib.Core.List.{List, [], _∷_, _++_, map}
 use Rattle.rules.specs.declared.Direction.{Direction}
 use Rattle.rules.specs.declared.Direction.the-variants.{East as east, South as south}
 use Rattle.rules.specs.Directions.{opposite}
 use Rattle.rules.specs.Board.{Clue, Board}
-use Rattle.answers.specs.Lists.{from, upTo, each, joined, keep}
-use Rattle.encoder.specs.Variables.{Variable, Z, S, E, Q, T, directions, opens, openCount, Neighbour, neighbours, out, starts, outgoing, distancesAt}
-use Rattle.encoder.specs.Variables.{countsAt, number}
+use Rattle.answers.specs.Lists.{from, upTo, each, joined}
+use Rattle.encoder.specs.Variables.{Variable, Z, S, E, Q, T, directions, opens, openCount, lower, Neighbour, neighbours, out, starts, outgoing}
+use Rattle.encoder.specs.Variables.{distancesAt, countsAt, number}
 
 -- minus for "not"
 pub data Literal : Type 0 where
@@ -29,6 +30,11 @@ notBoth u v = minus u ∷ minus v ∷ []
 abbrev pub pairs : List Variable → List Clause
 pairs [] = []
 pairs (v ∷ vs) = map (notBoth v) vs ++ pairs vs
+
+-- how many pairs n variables have
+abbrev pub pairCount : ℕ → ℕ
+pairCount zero = 0
+pairCount (suc n) = n + pairCount n
 
 -- [v, all of these]
 abbrev pub orAny : Variable → List Variable → Clause
@@ -121,11 +127,7 @@ linksAt b x = joined (linkParts b x)
 abbrev pub links : Board → List Clause
 links b = each (opens b) (linksAt b)
 
--- 4. Start. Each y of lower rank: the open cells before x
-abbrev pub lower : Board → ℕ → List ℕ
-lower b x = keep (λ y. ltb y x) (opens b)
-
--- [−Sx Zy]
+-- 4. Start: [−Sx Zy], for each y of lower rank
 abbrev pub blackBefore : ℕ → ℕ → Clause
 blackBefore x y = minus (S x) ∷ plus (Z y) ∷ []
 
@@ -199,6 +201,15 @@ signed b (minus v) = negℤ (pos (number b v))
 abbrev pub written : Board → Clause → List ℤ
 written b c = map (signed b) c ++ (pos 0 ∷ [])
 
+-- some clauses, one after the other
+abbrev pub listOf : Board → List Clause → List ℤ
+listOf b cs = each cs (written b)
+
+-- they are n clauses and e elements, with the zeros that close them
+pub record Sized (b : Board) (cs : List Clause) (n e : ℕ) : Type 0 where
+  pub clauses : length cs ≡ n
+  pub elements : length (listOf b cs) ≡ e
+
 -- a grid's clauses as the encoder writes them
 unfoldable pub clauseList : Board → List ℤ
-clauseList b = each (clauses b) (written b)
+clauseList b = listOf b (clauses b)

@@ -3,7 +3,7 @@ use Prim.Native.Nat.{ℕ, zero, suc}
 use lib.ListN.{length}
 use native.Mathlib.Decide.{ℕ-discrete}
 use mathlib.Core.Path.{_≡_, refl, sym, _∙_, ap}
-use mathlib.Core.Bool.{Bool, true, false}
+use mathlib.Core.Bool.{Bool, true, false, cond}
 use mathlib.Core.Option.{Option, none, some}
 use mathlib.Core.List.{List, [], _∷_, map}
 use Rattle.rules.specs.declared.Direction.{Direction}
@@ -25,6 +25,13 @@ pub data Variable : Type 0 where
 abbrev pub directions : List Direction
 directions = north ∷ east ∷ south ∷ west ∷ []
 
+-- the directions before d
+abbrev pub earlier : Direction → List Direction
+earlier north = []
+earlier east = north ∷ []
+earlier south = north ∷ east ∷ []
+earlier west = north ∷ east ∷ south ∷ []
+
 -- the open cells, in cell order
 abbrev pub opens : Board → List ℕ
 opens b = keep (b .isOpen) (upTo (b .size))
@@ -32,6 +39,18 @@ opens b = keep (b .isOpen) (upTo (b .size))
 -- F
 abbrev pub openCount : Board → ℕ
 openCount b = length (opens b)
+
+-- the open cells before x: those of lower rank
+abbrev pub lower : Board → ℕ → List ℕ
+lower b x = keep (b .isOpen) (upTo x)
+
+-- open cells are ranked 0 to F − 1 in cell order
+abbrev pub rank : Board → ℕ → ℕ
+rank b x = length (lower b x)
+
+-- what an open cell gives; a clue gives nothing
+abbrev pub atCell : {A : Type 0} → Board → (ℕ → List A) → ℕ → List A
+atCell b f x = cond (b .isOpen x) (f x) []
 
 -- an open neighbour: the way to it, and its cell
 pub record Neighbour : Type 0 where
@@ -68,6 +87,10 @@ outgoing b x = map (out x) (neighbours b x directions)
 
 abbrev pub linkVariables : Board → List Variable
 linkVariables b = each (opens b) (outgoing b)
+
+-- how many of them the cells before x have
+abbrev pub linksBelow : Board → ℕ → ℕ
+linksBelow b x = length (each (lower b x) (outgoing b))
 
 -- Q, per open cell, k = 0 to F − 1
 abbrev pub distancesAt : Board → ℕ → List Variable

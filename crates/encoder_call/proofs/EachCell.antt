@@ -10,10 +10,10 @@ use Rattle.rules.specs.Board.{Board, gridBoard}
 use Rattle.rules.proofs.Boards.{Laws}
 use Rattle.cnf.specs.Literals.{mostVariables}
 use Rattle.answers.specs.Lists.{upTo, each, joined}
-use Rattle.encoder.specs.Variables.{S, opens, openCount, number}
-use Rattle.encoder.specs.Clauses.{Clause, someStart, start, startAt, signed}
-use Rattle.encoder.proofs.Places.{below, rank, place-s}
-use Rattle.encoder.proofs.ClauseLists.{atCell, below-each, at-open, at-shut, listOf, list-each}
+use Rattle.encoder.specs.Variables.{S, opens, openCount, number, rank, atCell}
+use Rattle.encoder.specs.Clauses.{Clause, someStart, start, startAt, signed, listOf}
+use Rattle.encoder.proofs.Places.{place-s}
+use Rattle.encoder.proofs.ClauseLists.{lower-each, at-open, at-shut, list-each}
 use Rattle.encoder_shapes.specs.Shapes.{literals, atLeastOne}
 use Rattle.encoder_numbers.specs.declared.CellNumbers.{CellNumbers}
 use Rattle.encoder_numbers.specs.Numbered.{cellNumbersOf}
@@ -36,7 +36,7 @@ family-list Distance b law x h = distance-list b law x h
 module _ (b : Board) where
   pub cells-each : (F : ℕ → List Clause) {n : ℕ} → n ≡ b .size → listOf b (each (opens b) F) ≡ each (upTo n) (λ x. listOf b (atCell b F x))
   cells-each F q =
-      ap (listOf b) (below-each b F (b .size)) ∙ list-each b (atCell b F) (upTo (b .size)) ∙ ap (λ n. each (upTo n) (λ x. listOf b (atCell b F x))) (sym q)
+      ap (listOf b) (lower-each b F (b .size)) ∙ list-each b (atCell b F) (upTo (b .size)) ∙ ap (λ n. each (upTo n) (λ x. listOf b (atCell b F x))) (sym q)
 
   -- [all S]
   pub start-parts : Laws b → {f : ℕ} → f ≡ openCount b → listOf b (start b) ≡ joined (atLeastOne (f + 1) f ∷ listOf b (each (opens b) (startAt b)) ∷ [])

@@ -18,16 +18,17 @@ use Rattle.rules.specs.declared.Parsed.the-variants.{Accepted, Refused as NotRe
 use Rattle.rules.specs.declared.RecordRefusal.{RecordRefusal}
 use Rattle.rules.specs.Record.{recordAnswer, recordRefusalOutcome, parsedOutcome}
 use Rattle.rules.specs.Board.{gridBoard, boardOf}
+use Rattle.cnf.specs.Literals.{mostVariables}
 use Rattle.rules.proofs.Records.{refusal-number, passes-up, read-sides, read-fits, is-accepted, goes-on}
 use Rattle.encoder.specs.Variables.{variableCount}
 use Rattle.encoder.specs.Clauses.{clauseList}
 use Rattle.encoder.specs.Encoding.{encoderAnswer, encoderLeaves}
-use Rattle.encoder.specs.Small.{Small}
+use Rattle.encoder.specs.Bounds.{NotBeyond, BoundedBoard}
 use Rattle.answers.proofs.Elements.{all-in, all-at}
-use Rattle.encoder.proofs.Bounds.{Right, few-variables, list-within}
+use Rattle.encoder.proofs.Bounds.{few-variables, list-not-beyond}
 use Rattle.encoder.proofs.Lengths.{short-list}
-use Rattle.encoder.proofs.Sizes.{accepted-small}
-use Rattle.encoder_shapes.specs.Writable as emit
+use Rattle.encoder.proofs.Sizes.{accepted-bounded}
+use Rattle.encoder_shapes.specs.Limits.{WithinLimits}
 use Rattle.encoder_numbers.proofs.Neighbours.{held-laws}
 use Rattle.encoder_size.specs.declared.Counts.{Counts}
 use Rattle.encoder_size.specs.Counts.{countsOf}
@@ -46,17 +47,17 @@ module _ {g : Grid} {s : List ℕ} (w : Encodable g s) where
   list = clauseList (gridBoard g s)
 
   few : length list < 2 ^ 64
-  few = omega (arith, short-list (gridBoard g s) (w .small))
+  few = omega (arith, short-list (gridBoard g s) (w .bounded))
 
   -- the list can be written from its first place on
-  pub writable : emit.Writable 0 list
-  writable =
-      let many = few-variables (w .small) in
+  pub list-limits : WithinLimits 0 list
+  list-limits =
+      let many = few-variables (w .bounded) in
       record {
-        room = omega (arith, few);
-        right =
-            all-in emit.Right list
-            (λ l m. let h = all-at (Right (variableCount (gridBoard g s))) (list-within (gridBoard g s) (held-laws (w .recordFits))) m in omega arith);
+        place = omega (arith, few);
+        literals =
+            all-in (NotBeyond mostVariables) list
+            (λ l m. let h = all-at (NotBeyond (variableCount (gridBoard g s))) (list-not-beyond (gridBoard g s) (held-laws (w .recordFits))) m in omega arith);
       }
 
   -- what the call tells after the reader's rows, and leaves
@@ -82,7 +83,7 @@ module _ {g : Grid} {s : List ℕ} (w : Encodable g s) where
 -- what the reader sees to
 pub read-encodable : (s : List ℕ) {p : Parsed} {g : Grid} → p ≡ Accepted g → parsedOutcome p ≡ recordAnswer s → Encodable g s
 read-encodable s q e =
-    record { recordFits = read-fits s q e; small = subst (λ g. Small (gridBoard g s)) (sym (read-sides s q e)) (accepted-small s (is-accepted s q e)) }
+    record { recordFits = read-fits s q e; bounded = subst (λ g. BoundedBoard (gridBoard g s)) (sym (read-sides s q e)) (accepted-bounded s (is-accepted s q e)) }
 
 -- the whole call
 module _ (s : List ℕ) (out : List ℤ) where

@@ -10,7 +10,7 @@ use Rattle.rules.specs.declared.Grid.{Grid}
 use Rattle.rules.specs.Record.{recordRefusalOutcome, RecordFits}
 use Rattle.rules.specs.Board.{Board, gridBoard}
 use Rattle.encoder.specs.Clauses.{clauseList}
-use Rattle.encoder.specs.Small.{Small}
+use Rattle.encoder.specs.Bounds.{BoundedBoard}
 use Rattle.encoder_size.specs.declared.Counts.{Counts}
 use Rattle.encoder_call.specs.declared.EncodeRefusal.{EncodeRefusal}
 use Rattle.encoder_call.specs.declared.EncodeRefusal.the-variants.{Record, TooShort}
@@ -36,4 +36,4 @@ roomRows b out = row 6 (tooShort (length out) (length (clauseList b))) ∷ []
 -- what the functions ask that write a grid's clauses: its record, and that nothing is too large (the reader sees to both)
 pub record Encodable (g : Grid) (s : List ℕ) : Type 0 where
   pub recordFits : RecordFits g s
-  pub small : Small (gridBoard g s)
+  pub bounded : BoundedBoard (gridBoard g s)

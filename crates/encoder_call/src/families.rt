@@ -5,10 +5,9 @@ ghost use Rattle.rules.specs.Record.{size};
 ghost use Rattle.rules.specs.Board.{gridBoard};
 ghost use Rattle.cnf.specs.Literals.{mostVariables};
 ghost use Rattle.answers.specs.Lists.{each, joined};
-ghost use Rattle.encoder.specs.Variables.{opens};
-ghost use Rattle.encoder.specs.Clauses.{start, clauseList};
-ghost use Rattle.encoder.proofs.ClauseLists.{listOf, atCell};
-ghost use Rattle.encoder_shapes.specs.Writable.{Writable, Parts};
+ghost use Rattle.encoder.specs.Variables.{opens, atCell};
+ghost use Rattle.encoder.specs.Clauses.{start, clauseList, listOf};
+ghost use Rattle.encoder_shapes.specs.Limits.{WithinLimits, PartsWithinLimits};
 ghost use Rattle.encoder_numbers.specs.Tables.{Tables};
 ghost use Rattle.encoder_call.specs.Families.{familyAt, familyParts};
 use super::Family;
@@ -26,7 +25,7 @@ use rules::Grid;
 
 // What a family says of an open cell.
 fn open_cell(family: Family, list: &mut [i32], at: usize, f: usize, x: CellNumbers) -> usize
-    requires { ⌜ Parts at (familyParts «family» f x) ⌝ }
+    requires { ⌜ PartsWithinLimits at (familyParts «family» f x) ⌝ }
     requires { ⌜ (0 < f) × (x .distance ≤ mostVariables) ⌝ }
     ensures { λ r. ⌜ Wrote (now (list .entry)) at (joined (familyParts «family» f x)) (now (list .exit)) r ⌝ }
 {
@@ -49,7 +48,7 @@ fn cell(
     table: &[usize],
     x: usize,
 ) -> usize
-    requires { ⌜ Writable at (listOf (gridBoard g (now «record»)) (atCell (gridBoard g (now «record»)) (familyAt «family» (gridBoard g (now «record»))) x)) ⌝ }
+    requires { ⌜ WithinLimits at (listOf (gridBoard g (now «record»)) (atCell (gridBoard g (now «record»)) (familyAt «family» (gridBoard g (now «record»))) x)) ⌝ }
     requires { ⌜ Tables g (now «record») sizes (now table) ⌝ }
     requires { ⌜ x < size g ⌝ }
     ensures { λ r. ⌜ Wrote (now (list .entry)) at (listOf (gridBoard g (now («record» .entry))) (atCell (gridBoard g (now («record» .entry))) (familyAt «family» (gridBoard g (now («record» .entry)))) x)) (now (list .exit)) r ⌝ }
@@ -72,7 +71,7 @@ fn cells(
     sizes: Sizes,
     table: &[usize],
 ) -> usize
-    requires { ⌜ Writable at (listOf (gridBoard g (now «record»)) (each (opens (gridBoard g (now «record»))) (familyAt «family» (gridBoard g (now «record»))))) ⌝ }
+    requires { ⌜ WithinLimits at (listOf (gridBoard g (now «record»)) (each (opens (gridBoard g (now «record»))) (familyAt «family» (gridBoard g (now «record»))))) ⌝ }
     requires { ⌜ Tables g (now «record») sizes (now table) ⌝ }
     ensures { λ r. ⌜ Wrote (now (list .entry)) at (listOf (gridBoard g (now («record» .entry))) (each (opens (gridBoard g (now («record» .entry)))) (familyAt «family» (gridBoard g (now («record» .entry)))))) (now (list .exit)) r ⌝ }
 {
@@ -95,7 +94,7 @@ fn start(
     sizes: Sizes,
     table: &[usize],
 ) -> usize
-    requires { ⌜ Writable at (listOf (gridBoard g (now «record»)) (start (gridBoard g (now «record»)))) ⌝ }
+    requires { ⌜ WithinLimits at (listOf (gridBoard g (now «record»)) (start (gridBoard g (now «record»)))) ⌝ }
     requires { ⌜ Tables g (now «record») sizes (now table) ⌝ }
     ensures { λ r. ⌜ Wrote (now (list .entry)) at (listOf (gridBoard g (now («record» .entry))) (start (gridBoard g (now («record» .entry))))) (now (list .exit)) r ⌝ }
 {
@@ -113,7 +112,7 @@ pub fn all_families(
     sizes: Sizes,
     table: &[usize],
 ) -> usize
-    requires { ⌜ Writable at (clauseList (gridBoard g (now «record»))) ⌝ }
+    requires { ⌜ WithinLimits at (clauseList (gridBoard g (now «record»))) ⌝ }
     requires { ⌜ Tables g (now «record») sizes (now table) ⌝ }
     ensures { λ r. ⌜ Wrote (now (list .entry)) at (clauseList (gridBoard g (now («record» .entry)))) (now (list .exit)) r ⌝ }
 {

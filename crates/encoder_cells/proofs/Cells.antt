@@ -1,5 +1,5 @@
 -- The clauses of an open cell by numbers are those of document 01, family by family. Assumes nothing.
-use Prim.Native.Nat.{ℕ, zero, suc, _+_, _-_, _≤_, _<_}
+use Prim.Native.Nat.{ℕ, zero, suc, _+_, _-_, _<_}
 use native.Mathlib.Omega.{arith}
 use native.Mathlib.Numerals.{add-one}
 use lib.IntN.{ℤ, pos, negℤ}
@@ -12,18 +12,19 @@ use Rattle.rules.specs.declared.Direction.the-variants.{North as north, East as
 use Rattle.rules.specs.Board.{Board}
 use Rattle.rules.proofs.Boards.{Laws}
 use Rattle.answers.specs.Lists.{upTo, each, joined}
-use Rattle.encoder.specs.Variables.{Variable, Z, S, Q, directions, openCount, Neighbour, ifOpen, ifThere, neighbours, out, distancesAt, number}
-use Rattle.encoder.specs.Clauses.{plus, notBoth, pairs, orAny, eastSouth, touch, touchingAt, back, bothWhite, oneWay, linkParts, linksAt, lower, blackBefore}
-use Rattle.encoder.specs.Clauses.{eastward, startParts, startAt, noDistance, notAhead, nearer, fromOne, nearerEach, distanceParts, distanceAt, signed, written}
+use Rattle.encoder.specs.Variables.{Variable, Z, S, Q, directions, openCount, Neighbour, ifOpen, ifThere, neighbours, out, distancesAt, number, lower}
+use Rattle.encoder.specs.Variables.{rank, atCell}
+use Rattle.encoder.specs.Clauses.{plus, notBoth, pairs, orAny, eastSouth, touch, touchingAt, back, bothWhite, oneWay, linkParts, linksAt, blackBefore, eastward}
+use Rattle.encoder.specs.Clauses.{startParts, startAt, noDistance, notAhead, nearer, fromOne, nearerEach, distanceParts, distanceAt, signed, written, listOf}
 use Rattle.answers.proofs.Elements.{each-append}
 use Rattle.encoder.proofs.Neighbours.{Beside}
-use Rattle.encoder.proofs.Places.{below, rank, place-z}
-use Rattle.encoder.proofs.ClauseLists.{each-next, each-shift, atCell, each-cell, at-open, at-shut, rank-open, rank-shut, lower-is, listOf, list-append}
+use Rattle.encoder.proofs.Places.{place-z}
+use Rattle.encoder.proofs.ClauseLists.{each-next, each-shift, each-cell, at-open, at-shut, rank-open, rank-shut, list-append}
 use Rattle.encoder.proofs.ClauseLists.{list-joined, list-each, list-map, number-q}
 use Rattle.encoder_shapes.specs.Shapes.{notBoth as notPair, implies, orNot, bothImply, eachImplies, orAtLeastOne, eachNotBoth}
 use Rattle.encoder_numbers.specs.declared.NeighbourNumbers.{NeighbourNumbers}
 use Rattle.encoder_cells.specs.Cell as cell
-use Rattle.encoder_cells.specs.Cell.{literalIf, notBothIf, anyParts, pairParts}
+use Rattle.encoder_cells.specs.Cell.{literalIfPresent, notBothIfPresent, anyParts, pairParts}
 use Rattle.encoder_numbers.specs.Numbered.{noNeighbour, neighbourNumbersTo, neighbourNumbersIf, neighbourNumbersOf, cellNumbersOf}
 
 -- 1. What is made of the open neighbours, and of the open cells before one
@@ -39,12 +40,12 @@ literals-each b f (x ∷ xs) = ap (λ l. pos (number b (f x)) ∷ l) (literals-e
 
 -- the open cells before x, by their ranks
 module _ (b : Board) (G F : ℕ → List ℤ) (same : (y : ℕ) → b .isOpen y ≡ true → G y ≡ F (rank b y)) where
-  pub each-ranked : (x : ℕ) → each (below b x) G ≡ each (upTo (rank b x)) F
+  pub each-ranked : (x : ℕ) → each (lower b x) G ≡ each (upTo (rank b x)) F
   each-ranked zero = refl
   each-ranked (suc x) =
-      ap (λ n. each (below b n) G) (sym (add-one x)) ∙ each-cell b x G ∙ by (b .isOpen x) refl (each-ranked x) ∙ ap (λ n. each (upTo (rank b n)) F) (add-one x)
+      ap (λ n. each (lower b n) G) (sym (add-one x)) ∙ each-cell b x G ∙ by (b .isOpen x) refl (each-ranked x) ∙ ap (λ n. each (upTo (rank b n)) F) (add-one x)
     where
-      by : (t : Bool) → b .isOpen x ≡ t → each (below b x) G ≡ each (upTo (rank b x)) F → each (below b x) G ++ atCell b G x ≡ each (upTo (rank b (x + 1))) F
+      by : (t : Bool) → b .isOpen x ≡ t → each (lower b x) G ≡ each (upTo (rank b x)) F → each (lower b x) G ++ atCell b G x ≡ each (upTo (rank b (x + 1))) F
       by true h so-far =
           let e : 0 + rank b x ≡ rank b x = omega arith in
           (λ t. so-far t ++ (at-open b x G h ∙ same x h ∙ ap F (sym e)) t) ∙ sym (each-next F 0 (rank b x)) ∙ ap (λ n. each (upTo n) F) (sym (rank-open b x h))
@@ -84,13 +85,13 @@ module _ (b : Board) (x : ℕ) where
         append-nil _
         ∙ ap (λ l. pos (number b v) ∷ (l ++ (pos 0 ∷ [])))
         (literals-each b f (neighbours b x (n ∷ e ∷ s ∷ w ∷ []))
-        ∙ side-each (λ y. pos (number b (f y)) ∷ []) (λ s. literalIf (g s)) (ap literalIf off) (λ y k. ap literalIf (on y)) (n ∷ e ∷ s ∷ w ∷ []))
+        ∙ side-each (λ y. pos (number b (f y)) ∷ []) (λ s. literalIfPresent (g s)) (ap literalIfPresent off) (λ y k. ap literalIfPresent (on y)) (n ∷ e ∷ s ∷ w ∷ []))
         ∙ simp (append-assoc)
 
     -- each pair of them
     abbrev pairsOf : List Direction → List ℤ
     pairsOf [] = []
-    pairsOf (d ∷ ds) = each ds (λ e. notBothIf (g (neighbourNumbersOf b x d)) (g (neighbourNumbersOf b x e))) ++ pairsOf ds
+    pairsOf (d ∷ ds) = each ds (λ e. notBothIfPresent (g (neighbourNumbersOf b x d)) (g (neighbourNumbersOf b x e))) ++ pairsOf ds
 
     pairs-from : (ds : List Direction) → listOf b (pairs (map f (neighbours b x ds))) ≡ pairsOf ds
     pairs-from [] = refl
@@ -100,29 +101,29 @@ module _ (b : Board) (x : ℕ) where
         ns = neighbours b x ds
 
         -- without a first one, and with it
-        nothing : (es : List Direction) → [] ≡ each es (λ e. notBothIf (g noNeighbour) (g (neighbourNumbersOf b x e)))
+        nothing : (es : List Direction) → [] ≡ each es (λ e. notBothIfPresent (g noNeighbour) (g (neighbourNumbersOf b x e)))
         nothing [] = refl
         nothing (e ∷ es) =
             nothing es
-            ∙ ap (λ k. notBothIf k (g (neighbourNumbersOf b x e)) ++ each es (λ e. notBothIf (g noNeighbour) (g (neighbourNumbersOf b x e)))) (sym off)
+            ∙ ap (λ k. notBothIfPresent k (g (neighbourNumbersOf b x e)) ++ each es (λ e. notBothIfPresent (g noNeighbour) (g (neighbourNumbersOf b x e)))) (sym off)
 
         with : (y : Neighbour)
-            → listOf b (map (notBoth (f y)) (map f ns)) ≡ each ds (λ e. notBothIf (g (neighbourNumbersTo b x y)) (g (neighbourNumbersOf b x e)))
+            → listOf b (map (notBoth (f y)) (map f ns)) ≡ each ds (λ e. notBothIfPresent (g (neighbourNumbersTo b x y)) (g (neighbourNumbersOf b x e)))
         with y =
             list-map b (notBoth (f y)) (map f ns) ∙ each-map f (λ v. written b (notBoth (f y) v)) ns
-            ∙ side-each (λ z. written b (notBoth (f y) (f z))) (λ s. notBothIf (number b (f y)) (g s)) (ap (notBothIf (number b (f y))) off)
-            (λ z k. ap (notBothIf (number b (f y))) (on z)) ds
-            ∙ ap (λ k. each ds (λ e. notBothIf k (g (neighbourNumbersOf b x e)))) (sym (on y))
+            ∙ side-each (λ z. written b (notBoth (f y) (f z))) (λ s. notBothIfPresent (number b (f y)) (g s)) (ap (notBothIfPresent (number b (f y))) off)
+            (λ z k. ap (notBothIfPresent (number b (f y))) (on z)) ds
+            ∙ ap (λ k. each ds (λ e. notBothIfPresent k (g (neighbourNumbersOf b x e)))) (sym (on y))
 
         by : (o : Option ℕ) → listOf b (pairs (map f ns)) ≡ pairsOf ds
             → listOf b (pairs (map f (ifThere b d o ++ ns)))
-            ≡ each ds (λ e. notBothIf (g (neighbourNumbersIf b x (ifThere b d o))) (g (neighbourNumbersOf b x e))) ++ pairsOf ds
+            ≡ each ds (λ e. notBothIfPresent (g (neighbourNumbersIf b x (ifThere b d o))) (g (neighbourNumbersOf b x e))) ++ pairsOf ds
         by none go = (λ t. nothing ds t ++ go t)
         by (some y) go = opened (b .isOpen y)
           where
             opened : (t : Bool)
                 → listOf b (pairs (map f (ifOpen t d y ++ ns)))
-                ≡ each ds (λ e. notBothIf (g (neighbourNumbersIf b x (ifOpen t d y))) (g (neighbourNumbersOf b x e))) ++ pairsOf ds
+                ≡ each ds (λ e. notBothIfPresent (g (neighbourNumbersIf b x (ifOpen t d y))) (g (neighbourNumbersOf b x e))) ++ pairsOf ds
             opened true =
                 let z : Neighbour = record { way = d; cell = y } in list-append b (map (notBoth (f z)) (map f ns)) (pairs (map f ns)) ∙ (λ t. with z t ++ go t)
             opened false = (λ t. nothing ds t ++ go t)
@@ -136,7 +137,7 @@ module _ (b : Board) (x : ℕ) where
   pub touching-list : listOf b (touchingAt b x) ≡ joined (cell.touchingParts (cellNumbersOf b x))
   touching-list =
       list-map b (touch x) (neighbours b x eastSouth)
-      ∙ side-each (λ y. written b (touch x y)) (λ s. notBothIf (number b (Z x)) (s .black)) refl (λ y k. refl) eastSouth
+      ∙ side-each (λ y. written b (touch x y)) (λ s. notBothIfPresent (number b (Z x)) (s .black)) refl (λ y k. refl) eastSouth
 
   -- 3. Links
   pub links-list : listOf b (linksAt b x) ≡ joined (cell.linkParts (cellNumbersOf b x))
@@ -157,7 +158,7 @@ module _ (b : Board) (x : ℕ) where
       linkVariables : listOf b (map (oneWay x) (neighbours b x eastSouth)) ≡ joined (cell.oneWayParts (cellNumbersOf b x))
       linkVariables =
           list-map b (oneWay x) (neighbours b x eastSouth)
-          ∙ side-each (λ y. written b (oneWay x y)) (λ s. notBothIf (s .out) (s .back)) refl (λ y k. refl) eastSouth
+          ∙ side-each (λ y. written b (oneWay x y)) (λ s. notBothIfPresent (s .out) (s .back)) refl (λ y k. refl) eastSouth
 
 module _ (b : Board) (law : Laws b) (x : ℕ) (h : b .isOpen x ≡ true) where
   -- 4. Start
@@ -166,8 +167,7 @@ module _ (b : Board) (law : Laws b) (x : ℕ) (h : b .isOpen x ≡ true) where
     where
       lowers : listOf b (map (blackBefore x) (lower b x)) ≡ eachImplies (number b (S x)) 1 (rank b x)
       lowers =
-          let l : x ≤ b .size = (let k = law .open-stays x h in omega arith) in
-          list-map b (blackBefore x) (lower b x) ∙ ap (λ l. each l (λ y. written b (blackBefore x y))) (lower-is b x l)
+          list-map b (blackBefore x) (lower b x)
           ∙ each-ranked b (λ y. written b (blackBefore x y)) (λ k. implies (number b (S x)) (1 + k))
           (λ y o. ap (implies (number b (S x))) (let e = place-z b law y o in omega arith)) x
 
@@ -176,7 +176,7 @@ module _ (b : Board) (law : Laws b) (x : ℕ) (h : b .isOpen x ≡ true) where
           append-nil _
           ∙ ap (λ l. negℤ (pos (number b (S x))) ∷ (l ++ (pos 0 ∷ [])))
           (literals-each b (out x) (neighbours b x (east ∷ []))
-          ∙ side-each b x (λ y. pos (number b (out x y)) ∷ []) (λ s. literalIf (s .out)) refl (λ y k. refl) (east ∷ []))
+          ∙ side-each b x (λ y. pos (number b (out x y)) ∷ []) (λ s. literalIfPresent (s .out)) refl (λ y k. refl) (east ∷ []))
           ∙ simp (append-assoc)
 
   -- 5. Distance: the numbers of Q go on by one

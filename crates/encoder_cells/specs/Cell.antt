@@ -8,38 +8,38 @@ use Rattle.encoder_numbers.specs.declared.NeighbourNumbers.{NeighbourNumbers}
 use Rattle.encoder_numbers.specs.declared.CellNumbers.{CellNumbers}
 
 -- nothing for a variable that is not there
-abbrev pub optional : ℕ → List ℤ → List ℤ
-optional zero xs = []
-optional (suc n) xs = xs
+abbrev pub ifPresent : ℕ → List ℤ → List ℤ
+ifPresent zero xs = []
+ifPresent (suc n) xs = xs
 
 -- a literal, and [−a −b], where they are there
-abbrev pub literalIf : ℕ → List ℤ
-literalIf a = optional a (pos a ∷ [])
+abbrev pub literalIfPresent : ℕ → List ℤ
+literalIfPresent a = ifPresent a (pos a ∷ [])
 
-abbrev pub notBothIf : ℕ → ℕ → List ℤ
-notBothIf a b = optional a (optional b (notBoth a b))
+abbrev pub notBothIfPresent : ℕ → ℕ → List ℤ
+notBothIfPresent a b = ifPresent a (ifPresent b (notBoth a b))
 
 -- [z, those of four that are there], and the pairs of these
 abbrev pub anyParts : ℕ → ℕ → ℕ → ℕ → ℕ → List (List ℤ)
-anyParts z n e s w = (pos z ∷ []) ∷ literalIf n ∷ literalIf e ∷ literalIf s ∷ literalIf w ∷ (pos 0 ∷ []) ∷ []
+anyParts z n e s w = (pos z ∷ []) ∷ literalIfPresent n ∷ literalIfPresent e ∷ literalIfPresent s ∷ literalIfPresent w ∷ (pos 0 ∷ []) ∷ []
 
 abbrev pub pairParts : ℕ → ℕ → ℕ → ℕ → List (List ℤ)
-pairParts n e s w = notBothIf n e ∷ notBothIf n s ∷ notBothIf n w ∷ notBothIf e s ∷ notBothIf e w ∷ notBothIf s w ∷ []
+pairParts n e s w = notBothIfPresent n e ∷ notBothIfPresent n s ∷ notBothIfPresent n w ∷ notBothIfPresent e s ∷ notBothIfPresent e w ∷ notBothIfPresent s w ∷ []
 
 -- 1. Touching: [−Zx −Zy], east then south
 abbrev pub touchingParts : CellNumbers → List (List ℤ)
-touchingParts x = notBothIf (x .black) (x .east .black) ∷ notBothIf (x .black) (x .south .black) ∷ []
+touchingParts x = notBothIfPresent (x .black) (x .east .black) ∷ notBothIfPresent (x .black) (x .south .black) ∷ []
 
 -- 3. Links: [−e −Zx] [−e −Zy]
 abbrev pub whiteEnds : ℕ → NeighbourNumbers → List ℤ
-whiteEnds z y = optional (y .out) (notBoth (y .out) z ++ notBoth (y .out) (y .black))
+whiteEnds z y = ifPresent (y .out) (notBoth (y .out) z ++ notBoth (y .out) (y .black))
 
 abbrev pub whiteParts : CellNumbers → List (List ℤ)
 whiteParts x = whiteEnds (x .black) (x .north) ∷ whiteEnds (x .black) (x .east) ∷ whiteEnds (x .black) (x .south) ∷ whiteEnds (x .black) (x .west) ∷ []
 
 -- [−(x→y) −(y→x)], east then south
 abbrev pub oneWayParts : CellNumbers → List (List ℤ)
-oneWayParts x = notBothIf (x .east .out) (x .east .back) ∷ notBothIf (x .south .out) (x .south .back) ∷ []
+oneWayParts x = notBothIfPresent (x .east .out) (x .east .back) ∷ notBothIfPresent (x .south .out) (x .south .back) ∷ []
 
 abbrev pub linkParts : CellNumbers → List (List ℤ)
 linkParts x =
@@ -53,7 +53,7 @@ linkParts x =
 
 -- 4. Start: [−Sx x→east], or [−Sx]
 abbrev pub eastwardParts : ℕ → ℕ → List (List ℤ)
-eastwardParts s e = (no s ∷ []) ∷ literalIf e ∷ (pos 0 ∷ []) ∷ []
+eastwardParts s e = (no s ∷ []) ∷ literalIfPresent e ∷ (pos 0 ∷ []) ∷ []
 
 -- [−Sx −Zx]; [−Sx Zy] for those of lower rank, whose numbers are 1 to the rank of x
 abbrev pub startParts : CellNumbers → List (List ℤ)
@@ -61,7 +61,7 @@ startParts x = notBoth (x .start) (x .black) ∷ eachImplies (x .start) 1 (x .ra
 
 -- 5. Distance, with F open cells: [−(x→y) −Q(x,k) Q(y,k−1)] for k = 1 to F − 1
 abbrev pub nearer : ℕ → ℕ → NeighbourNumbers → List ℤ
-nearer q f y = optional (y .out) (eachBothImply (y .out) (q + 1) (y .distance) (f - 1))
+nearer q f y = ifPresent (y .out) (eachBothImply (y .out) (q + 1) (y .distance) (f - 1))
 
 abbrev pub nearerParts : ℕ → CellNumbers → List (List ℤ)
 nearerParts f x =

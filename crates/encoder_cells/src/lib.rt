@@ -3,8 +3,8 @@ ghost use Prim.Native.Nat.{_+_, _-_, _≤_, _<_};
 ghost use Rattle.answers.specs.Lent.{Wrote};
 ghost use Rattle.cnf.specs.Literals.{mostVariables};
 ghost use Rattle.answers.specs.Lists.{joined};
-ghost use Rattle.encoder_shapes.specs.Writable.{Writable, Parts};
-ghost use Rattle.encoder_cells.specs.Cell.{literalIf, notBothIf, anyParts, pairParts, touchingParts, whiteEnds, whiteParts, oneWayParts, linkParts};
+ghost use Rattle.encoder_shapes.specs.Limits.{WithinLimits, PartsWithinLimits};
+ghost use Rattle.encoder_cells.specs.Cell.{literalIfPresent, notBothIfPresent, anyParts, pairParts, touchingParts, whiteEnds, whiteParts, oneWayParts, linkParts};
 ghost use Rattle.encoder_cells.specs.Cell.{eastwardParts, startParts, nearer, nearerParts, distanceParts};
 use cnf::put;
 use cnf::put_not;
@@ -18,9 +18,9 @@ use encoder_shapes::not_both;
 use encoder_shapes::or_at_least_one;
 use encoder_shapes::or_not;
 
-fn literal_if(list: &mut [i32], at: usize, a: usize) -> usize
-    requires { ⌜ Writable at (literalIf a) ⌝ }
-    ensures { λ r. ⌜ Wrote (now (list .entry)) at (literalIf a) (now (list .exit)) r ⌝ }
+fn literal_if_present(list: &mut [i32], at: usize, a: usize) -> usize
+    requires { ⌜ WithinLimits at (literalIfPresent a) ⌝ }
+    ensures { λ r. ⌜ Wrote (now (list .entry)) at (literalIfPresent a) (now (list .exit)) r ⌝ }
 {
     if a == 0 {
         return at;
@@ -29,9 +29,9 @@ fn literal_if(list: &mut [i32], at: usize, a: usize) -> usize
 }
 
 // [−a −b], if both are there.
-fn not_both_if(list: &mut [i32], at: usize, a: usize, b: usize) -> usize
-    requires { ⌜ Writable at (notBothIf a b) ⌝ }
-    ensures { λ r. ⌜ Wrote (now (list .entry)) at (notBothIf a b) (now (list .exit)) r ⌝ }
+fn not_both_if_present(list: &mut [i32], at: usize, a: usize, b: usize) -> usize
+    requires { ⌜ WithinLimits at (notBothIfPresent a b) ⌝ }
+    ensures { λ r. ⌜ Wrote (now (list .entry)) at (notBothIfPresent a b) (now (list .exit)) r ⌝ }
 {
     if a == 0 {
         return at;
@@ -44,42 +44,42 @@ fn not_both_if(list: &mut [i32], at: usize, a: usize, b: usize) -> usize
 
 // 1. Touching.
 pub fn touching_at(list: &mut [i32], at: usize, x: CellNumbers) -> usize
-    requires { ⌜ Parts at (touchingParts x) ⌝ }
+    requires { ⌜ PartsWithinLimits at (touchingParts x) ⌝ }
     ensures { λ r. ⌜ Wrote (now (list .entry)) at (joined (touchingParts x)) (now (list .exit)) r ⌝ }
 {
-    let i = not_both_if(list, at, x.black, x.east.black);
-    not_both_if(list, i, x.black, x.south.black)
+    let i = not_both_if_present(list, at, x.black, x.east.black);
+    not_both_if_present(list, i, x.black, x.south.black)
 }
 
 // [z, those of the four that are there]
 fn any_four(list: &mut [i32], at: usize, z: usize, n: usize, e: usize, s: usize, w: usize) -> usize
-    requires { ⌜ Parts at (anyParts z n e s w) ⌝ }
+    requires { ⌜ PartsWithinLimits at (anyParts z n e s w) ⌝ }
     ensures { λ r. ⌜ Wrote (now (list .entry)) at (joined (anyParts z n e s w)) (now (list .exit)) r ⌝ }
 {
     let i = put(list, at, z);
-    let i = literal_if(list, i, n);
-    let i = literal_if(list, i, e);
-    let i = literal_if(list, i, s);
-    let i = literal_if(list, i, w);
+    let i = literal_if_present(list, i, n);
+    let i = literal_if_present(list, i, e);
+    let i = literal_if_present(list, i, s);
+    let i = literal_if_present(list, i, w);
     put(list, i, 0)
 }
 
 // [−a −b], for each pair of the four that are there.
 fn pairs_four(list: &mut [i32], at: usize, n: usize, e: usize, s: usize, w: usize) -> usize
-    requires { ⌜ Parts at (pairParts n e s w) ⌝ }
+    requires { ⌜ PartsWithinLimits at (pairParts n e s w) ⌝ }
     ensures { λ r. ⌜ Wrote (now (list .entry)) at (joined (pairParts n e s w)) (now (list .exit)) r ⌝ }
 {
-    let i = not_both_if(list, at, n, e);
-    let i = not_both_if(list, i, n, s);
-    let i = not_both_if(list, i, n, w);
-    let i = not_both_if(list, i, e, s);
-    let i = not_both_if(list, i, e, w);
-    not_both_if(list, i, s, w)
+    let i = not_both_if_present(list, at, n, e);
+    let i = not_both_if_present(list, i, n, s);
+    let i = not_both_if_present(list, i, n, w);
+    let i = not_both_if_present(list, i, e, s);
+    let i = not_both_if_present(list, i, e, w);
+    not_both_if_present(list, i, s, w)
 }
 
 // [−(x→y) −Zx] [−(x→y) −Zy]
 fn white_ends(list: &mut [i32], at: usize, z: usize, y: NeighbourNumbers) -> usize
-    requires { ⌜ Writable at (whiteEnds z y) ⌝ }
+    requires { ⌜ WithinLimits at (whiteEnds z y) ⌝ }
     ensures { λ r. ⌜ Wrote (now (list .entry)) at (whiteEnds z y) (now (list .exit)) r ⌝ }
 {
     if y.out == 0 {
@@ -90,7 +90,7 @@ fn white_ends(list: &mut [i32], at: usize, z: usize, y: NeighbourNumbers) -> usi
 }
 
 fn all_white_ends(list: &mut [i32], at: usize, x: CellNumbers) -> usize
-    requires { ⌜ Parts at (whiteParts x) ⌝ }
+    requires { ⌜ PartsWithinLimits at (whiteParts x) ⌝ }
     ensures { λ r. ⌜ Wrote (now (list .entry)) at (joined (whiteParts x)) (now (list .exit)) r ⌝ }
 {
     let i = white_ends(list, at, x.black, x.north);
@@ -101,16 +101,16 @@ fn all_white_ends(list: &mut [i32], at: usize, x: CellNumbers) -> usize
 
 // [−(x→y) −(y→x)], east then south.
 fn one_ways(list: &mut [i32], at: usize, x: CellNumbers) -> usize
-    requires { ⌜ Parts at (oneWayParts x) ⌝ }
+    requires { ⌜ PartsWithinLimits at (oneWayParts x) ⌝ }
     ensures { λ r. ⌜ Wrote (now (list .entry)) at (joined (oneWayParts x)) (now (list .exit)) r ⌝ }
 {
-    let i = not_both_if(list, at, x.east.out, x.east.back);
-    not_both_if(list, i, x.south.out, x.south.back)
+    let i = not_both_if_present(list, at, x.east.out, x.east.back);
+    not_both_if_present(list, i, x.south.out, x.south.back)
 }
 
 // 3. Links.
 pub fn links_at(list: &mut [i32], at: usize, x: CellNumbers) -> usize
-    requires { ⌜ Parts at (linkParts x) ⌝ }
+    requires { ⌜ PartsWithinLimits at (linkParts x) ⌝ }
     ensures { λ r. ⌜ Wrote (now (list .entry)) at (joined (linkParts x)) (now (list .exit)) r ⌝ }
 {
     let i = all_white_ends(list, at, x);
@@ -146,17 +146,17 @@ pub fn links_at(list: &mut [i32], at: usize, x: CellNumbers) -> usize
 
 // [−Sx x→east], or [−Sx] without an open east neighbour.
 fn eastward(list: &mut [i32], at: usize, s: usize, e: usize) -> usize
-    requires { ⌜ Parts at (eastwardParts s e) ⌝ }
+    requires { ⌜ PartsWithinLimits at (eastwardParts s e) ⌝ }
     ensures { λ r. ⌜ Wrote (now (list .entry)) at (joined (eastwardParts s e)) (now (list .exit)) r ⌝ }
 {
     let i = put_not(list, at, s);
-    let i = literal_if(list, i, e);
+    let i = literal_if_present(list, i, e);
     put(list, i, 0)
 }
 
 // 4. Start.
 pub fn start_at(list: &mut [i32], at: usize, x: CellNumbers) -> usize
-    requires { ⌜ Parts at (startParts x) ⌝ }
+    requires { ⌜ PartsWithinLimits at (startParts x) ⌝ }
     ensures { λ r. ⌜ Wrote (now (list .entry)) at (joined (startParts x)) (now (list .exit)) r ⌝ }
 {
     let i = not_both(list, at, x.start, x.black);
@@ -166,7 +166,7 @@ pub fn start_at(list: &mut [i32], at: usize, x: CellNumbers) -> usize
 
 // [−(x→y) −Q(x,k) Q(y,k−1)], k = 1 to F − 1.
 fn nearer(list: &mut [i32], at: usize, q: usize, f: usize, y: NeighbourNumbers) -> usize
-    requires { ⌜ Writable at (nearer q f y) ⌝ }
+    requires { ⌜ WithinLimits at (nearer q f y) ⌝ }
     requires { ⌜ (0 < f) × (q ≤ mostVariables) ⌝ }
     ensures { λ r. ⌜ Wrote (now (list .entry)) at (nearer q f y) (now (list .exit)) r ⌝ }
 {
@@ -177,7 +177,7 @@ fn nearer(list: &mut [i32], at: usize, q: usize, f: usize, y: NeighbourNumbers) 
 }
 
 fn all_nearer(list: &mut [i32], at: usize, f: usize, x: CellNumbers) -> usize
-    requires { ⌜ Parts at (nearerParts f x) ⌝ }
+    requires { ⌜ PartsWithinLimits at (nearerParts f x) ⌝ }
     requires { ⌜ (0 < f) × (x .distance ≤ mostVariables) ⌝ }
     ensures { λ r. ⌜ Wrote (now (list .entry)) at (joined (nearerParts f x)) (now (list .exit)) r ⌝ }
 {
@@ -189,7 +189,7 @@ fn all_nearer(list: &mut [i32], at: usize, f: usize, x: CellNumbers) -> usize
 
 // 5. Distance.
 pub fn distance_at(list: &mut [i32], at: usize, f: usize, x: CellNumbers) -> usize
-    requires { ⌜ Parts at (distanceParts f x) ⌝ }
+    requires { ⌜ PartsWithinLimits at (distanceParts f x) ⌝ }
     requires { ⌜ (0 < f) × (x .distance ≤ mostVariables) ⌝ }
     ensures { λ r. ⌜ Wrote (now (list .entry)) at (joined (distanceParts f x)) (now (list .exit)) r ⌝ }
 {

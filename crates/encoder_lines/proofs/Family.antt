@@ -1,5 +1,5 @@
 -- The clues of a grid, cell by cell: what a cell gives, and the number of its first T variable. Assumes nothing.
-use Prim.Native.Nat.{ℕ, zero, suc, _+_, _*_, _≤_, _<_, _^_}
+use Prim.Native.Nat.{ℕ, zero, suc, _+_, _*_, _≤_, _<_}
 use native.Mathlib.Omega.{arith}
 use native.Mathlib.Nat.{mul-le-mul}
 use native.Mathlib.Numerals.{add-one}
@@ -16,11 +16,11 @@ use Rattle.rules.specs.Board.{Clue, line, clueOf, cluesFrom, gridBoard}
 use Rattle.rules.proofs.Records.{held-filled}
 use Rattle.answers.specs.Lists.{upTo, each, joined}
 use Rattle.encoder.specs.Variables.{T, number}
-use Rattle.encoder.specs.Clauses.{clueClauses, clueLines}
+use Rattle.encoder.specs.Clauses.{clueClauses, clueLines, listOf}
 use Rattle.answers.proofs.Elements.{each-append}
 use Rattle.encoder.proofs.Places.{place-t}
 use Rattle.encoder.proofs.Clues.{clues-next, at-clue}
-use Rattle.encoder.proofs.ClauseLists.{each-next, listOf, list-each}
+use Rattle.encoder.proofs.ClauseLists.{each-next, list-each}
 use Rattle.encoder_numbers.proofs.Numbers.{line-few}
 use Rattle.encoder_numbers.specs.Tables.{firstCount}
 use Rattle.encoder_numbers.specs.Numbered.{blackOf}

@@ -18,20 +18,21 @@ use Rattle.rules.proofs.Lines.{line-inside, line-go}
 use Rattle.cnf.specs.Literals.{mostVariables}
 use Rattle.answers.specs.Lists.{joined}
 use Rattle.answers.proofs.Elements.{all-right}
-use Rattle.encoder_shapes.specs.Writable.{Right, Writable, Parts}
+use Rattle.encoder.specs.Bounds.{NotBeyond}
+use Rattle.encoder_shapes.specs.Limits.{WithinLimits, PartsWithinLimits}
 use Rattle.encoder_shapes.specs.Shapes.{notBoth, impliesEither}
-use Rattle.encoder_shapes.proofs.Written.{in-parts, begun, part-needs, writable-left, writable-right, no-small, writable-recast}
+use Rattle.encoder_shapes.proofs.Written.{in-parts, begun, part-needs, limits-left, limits-right, no-small, limits-recast}
 use Rattle.encoder_lines.specs.Line.{countStepClue, countStepBelow, countStepRow, countStepParts, countStepEach}
 
 -- a row that can be written begins at a variable's number
-row-few : (row z n : ℕ) {at : ℕ} → Writable at (joined (countStepParts row z n)) → row ≤ mostVariables
+row-few : (row z n : ℕ) {at : ℕ} → WithinLimits at (joined (countStepParts row z n)) → row ≤ mostVariables
 row-few row z n w = by z (part-needs (begun [] (in-parts (countStepParts row z n) w)))
   where
-    by : (z : ℕ) {at : ℕ} → Writable at (countStepRow z row (row + (n + 1)) n) → row ≤ mostVariables
-    by zero w = let v = writable-recast (ap (countStepClue row (row + (n + 1))) (add-one n)) w in omega (arith, no-small (row + 0) (v .right .0))
+    by : (z : ℕ) {at : ℕ} → WithinLimits at (countStepRow z row (row + (n + 1)) n) → row ≤ mostVariables
+    by zero w = let v = limits-recast (ap (countStepClue row (row + (n + 1))) (add-one n)) w in omega (arith, no-small (row + 0) (v .literals .0))
     by (suc z) w =
         let next = row + (n + 1) in
-        let r = all-right Right (countStepBelow row next (suc z) n) (joined (impliesEither (row + n) (suc z) (next + n) ∷ notBoth (row + n) (suc z) ∷ [])) (w .right) in
+        let r = all-right (NotBeyond mostVariables) (countStepBelow row next (suc z) n) (joined (impliesEither (row + n) (suc z) (next + n) ∷ notBoth (row + n) (suc z) ∷ [])) (w .literals) in
         omega (arith, no-small (row + n) (r .0))
 
 -- after j cells from the edge: y comes next; what is written, and what is left
@@ -40,11 +41,11 @@ pub record Lining (p : Puzzle) (d : Direction) (x : ℕ) (black : ℕ → ℕ) (
   pub done : List ℤ
   pub whole : countStepEach first n (map black (line p d x)) ≡ done ++ countStepEach row n (map black (drop j (line p d x)))
   pub wrote : Wrote buf at done new i
-  pub writable : Writable at (countStepEach first n (map black (line p d x)))
+  pub limits : WithinLimits at (countStepEach first n (map black (line p d x)))
 
 pub line-start : {at first n y : ℕ} {buf : List ℤ} (p : Puzzle) (d : Direction) (x : ℕ) (black : ℕ → ℕ) → y ≡ getD (line p d x) 0 x
-    → Writable at (countStepEach first n (map black (line p d x))) → Lining p d x black first n buf at buf y first at 0
-line-start {at} {buf = buf} p d x black e w = record { here = e; done = []; whole = refl; wrote = wrote-nothing buf at; writable = w }
+    → WithinLimits at (countStepEach first n (map black (line p d x))) → Lining p d x black first n buf at buf y first at 0
+line-start {at} {buf = buf} p d x black e w = record { here = e; done = []; whole = refl; wrote = wrote-nothing buf at; limits = w }
 
 module _ {p : Puzzle} {d : Direction} {x : ℕ} {black : ℕ → ℕ} {first n : ℕ} {buf : List ℤ} {at : ℕ} {new : List ℤ} {y row i j : ℕ}
     (w : Lining p d x black first n buf at new y row i j) where
@@ -70,13 +71,13 @@ module _ {p : Puzzle} {d : Direction} {x : ℕ} {black : ℕ → ℕ} {first n :
           w .whole ∙ ap (λ l. w .done ++ countStepEach row n (map black l)) (drop-cons (line p d x) j x h)
           ∙ ap (λ z. w .done ++ (joined (countStepParts row z n) ++ rest)) (ap black (sym (w .here)) ∙ sym e)
 
-      pub line-needs : Parts i (countStepParts row z n)
+      pub line-needs : PartsWithinLimits i (countStepParts row z n)
       line-needs =
           in-parts (countStepParts row z n)
-          (writable-left (joined (countStepParts row z n)) rest (writable-right (w .done) _ (writable-recast split (w .writable)) (w .wrote)))
+          (limits-left (joined (countStepParts row z n)) rest (limits-right (w .done) _ (limits-recast split (w .limits)) (w .wrote)))
 
       pub line-row : row ≤ mostVariables
-      line-row = row-few row z n (line-needs .writable)
+      line-row = row-few row z n (line-needs .limits)
 
       pub line-on : {new₂ : List ℤ} {i₂ y₂ : ℕ} {back : Direction} → Wrote new i (joined (countStepParts row z n)) new₂ i₂ → back ≡ opposite d
           → y₂ ≡ go (neighbour (p .grid)) back y → Lining p d x black first n buf at new₂ y₂ (row + (n + 1)) i₂ (j + 1)
@@ -86,5 +87,5 @@ module _ {p : Puzzle} {d : Direction} {x : ℕ} {black : ℕ → ℕ} {first n :
         done = w .done ++ joined (countStepParts row z n);
         whole = split ∙ sym (append-assoc (w .done) (joined (countStepParts row z n)) rest);
         wrote = wrote-after (w .wrote) v;
-        writable = w .writable;
+        limits = w .limits;
       })

@@ -12,9 +12,9 @@ use Rattle.rules.specs.Board.{Clue, Board}
 use Rattle.rules.proofs.Boards.{Laws}
 use Rattle.answers.specs.Lists.{from, upTo, each, joined}
 use Rattle.encoder.specs.Variables.{Z, T, countsAt, number}
-use Rattle.encoder.specs.Clauses.{notBoth, pairs, countStep, cellParts, cellClauses, lineClauses, noneBlack, clueParts, clueClauses, written}
+use Rattle.encoder.specs.Clauses.{notBoth, pairs, countStep, cellParts, cellClauses, lineClauses, noneBlack, clueParts, clueClauses, written, listOf}
 use Rattle.encoder.proofs.Places.{At}
-use Rattle.encoder.proofs.ClauseLists.{each-next, each-shift, pairs-each, listOf, list-append, list-joined, list-each, list-map, number-t}
+use Rattle.encoder.proofs.ClauseLists.{each-next, each-shift, pairs-each, list-append, list-joined, list-each, list-map, number-t}
 use Rattle.encoder_shapes.specs.Shapes.{unit, unitNot as unitNot#, notBoth as notPair, implies, impliesEither, bothImply, eachUnitNot, eachNotBoth, pairsWith}
 use Rattle.encoder_shapes.specs.Shapes.{atMostOne}
 use Rattle.encoder_numbers.specs.Numbered.{blackOf}

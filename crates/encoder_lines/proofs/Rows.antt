@@ -5,19 +5,19 @@ use mathlib.Core.Path.{_≡_, refl}
 use mathlib.Core.List.{List}
 use Rattle.answers.specs.Lent.{Wrote}
 use Rattle.answers.specs.Lists.{joined}
-use Rattle.encoder_shapes.specs.Writable.{Writable, Parts}
+use Rattle.encoder_shapes.specs.Limits.{WithinLimits, PartsWithinLimits}
 use Rattle.encoder_lines.specs.Line.{countStepClue, countStepOpen, countStepRow}
 
 module _ (z row next n : ℕ) where
-  pub row-clue : {at : ℕ} → z ≡ 0 → Writable at (countStepRow z row next n) → Writable at (countStepClue row next (n + 1))
+  pub row-clue : {at : ℕ} → z ≡ 0 → WithinLimits at (countStepRow z row next n) → WithinLimits at (countStepClue row next (n + 1))
   row-clue e w = rw e at w
 
-  pub row-open : {at : ℕ} → (z ≡ 0 → ⊥) → Writable at (countStepRow z row next n) → Parts at (countStepOpen row next z n)
+  pub row-open : {at : ℕ} → (z ≡ 0 → ⊥) → WithinLimits at (countStepRow z row next n) → PartsWithinLimits at (countStepOpen row next z n)
   row-open k w = by z k w
     where
-      by : {at : ℕ} (z : ℕ) → (z ≡ 0 → ⊥) → Writable at (countStepRow z row next n) → Parts at (countStepOpen row next z n)
+      by : {at : ℕ} (z : ℕ) → (z ≡ 0 → ⊥) → WithinLimits at (countStepRow z row next n) → PartsWithinLimits at (countStepOpen row next z n)
       by zero k w = absurd (k refl)
-      by (suc z) k w = record { writable = w }
+      by (suc z) k w = record { limits = w }
 
   pub wrote-clue : {buf new : List ℤ} {at end : ℕ} → z ≡ 0 → Wrote buf at (countStepClue row next (n + 1)) new end
       → Wrote buf at (countStepRow z row next n) new end

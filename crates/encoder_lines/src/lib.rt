@@ -4,9 +4,8 @@ ghost use Rattle.answers.specs.Lent.{Wrote};
 ghost use Rattle.rules.specs.Record.{size, puzzle};
 ghost use Rattle.rules.specs.Board.{gridBoard};
 ghost use Rattle.answers.specs.Lists.{joined};
-ghost use Rattle.encoder.specs.Clauses.{clueLines};
-ghost use Rattle.encoder.proofs.ClauseLists.{listOf};
-ghost use Rattle.encoder_shapes.specs.Writable.{Writable, Parts};
+ghost use Rattle.encoder.specs.Clauses.{clueLines, listOf};
+ghost use Rattle.encoder_shapes.specs.Limits.{WithinLimits, PartsWithinLimits};
 ghost use Rattle.encoder_numbers.specs.Tables.{Tables};
 ghost use Rattle.encoder_lines.specs.Line.{countStepClue, countStepBoth, countStepBelow, countStepOpen, countStepRow, countStepParts, countStepEach};
 ghost use Rattle.encoder_lines.specs.Line.{blacksOf, LineEnd, clueNumbers, clueAt};
@@ -30,7 +29,7 @@ use rules::board::opposite;
 
 // [−T(j,t) T(j+1,t)], for the n counts t from 0 on.
 fn count_step_clue(list: &mut [i32], at: usize, row: usize, next: usize, n: usize) -> usize
-    requires { ⌜ Writable at (countStepClue row next n) ⌝ }
+    requires { ⌜ WithinLimits at (countStepClue row next n) ⌝ }
     ensures { λ r. ⌜ Wrote (now (list .entry)) at (countStepClue row next n) (now (list .exit)) r ⌝ }
 {
     let mut i = at;
@@ -44,7 +43,7 @@ fn count_step_clue(list: &mut [i32], at: usize, row: usize, next: usize, n: usiz
 
 // [−a z b] [−a −z b+1]
 fn count_step_both(list: &mut [i32], at: usize, a: usize, z: usize, b: usize) -> usize
-    requires { ⌜ Parts at (countStepBoth a z b) ⌝ }
+    requires { ⌜ PartsWithinLimits at (countStepBoth a z b) ⌝ }
     ensures { λ r. ⌜ Wrote (now (list .entry)) at (joined (countStepBoth a z b)) (now (list .exit)) r ⌝ }
 {
     let i = implies_either(list, at, a, z, b);
@@ -60,7 +59,7 @@ fn count_step_below(
     z: usize,
     n: usize,
 ) -> usize
-    requires { ⌜ Writable at (countStepBelow row next z n) ⌝ }
+    requires { ⌜ WithinLimits at (countStepBelow row next z n) ⌝ }
     ensures { λ r. ⌜ Wrote (now (list .entry)) at (countStepBelow row next z n) (now (list .exit)) r ⌝ }
 {
     let mut i = at;
@@ -81,7 +80,7 @@ fn count_step_open(
     z: usize,
     n: usize,
 ) -> usize
-    requires { ⌜ Parts at (countStepOpen row next z n) ⌝ }
+    requires { ⌜ PartsWithinLimits at (countStepOpen row next z n) ⌝ }
     ensures { λ r. ⌜ Wrote (now (list .entry)) at (joined (countStepOpen row next z n)) (now (list .exit)) r ⌝ }
 {
     let i = count_step_below(list, at, row, next, z, n);
@@ -91,7 +90,7 @@ fn count_step_open(
 
 // t = 0 to n, past a cell whose Z is z, or past a clue if z is 0.
 fn count_step_row(list: &mut [i32], at: usize, z: usize, row: usize, next: usize, n: usize) -> usize
-    requires { ⌜ Writable at (countStepRow z row next n) ⌝ }
+    requires { ⌜ WithinLimits at (countStepRow z row next n) ⌝ }
     requires { ⌜ n < 256 ⌝ }
     ensures { λ r. ⌜ Wrote (now (list .entry)) at (countStepRow z row next n) (now (list .exit)) r ⌝ }
 {
@@ -103,7 +102,7 @@ fn count_step_row(list: &mut [i32], at: usize, z: usize, row: usize, next: usize
 
 // Past a cell: from the row that begins at row to the next one.
 fn count_step_cell(list: &mut [i32], at: usize, row: usize, z: usize, n: usize) -> usize
-    requires { ⌜ Parts at (countStepParts row z n) ⌝ }
+    requires { ⌜ PartsWithinLimits at (countStepParts row z n) ⌝ }
     requires { ⌜ (row < 2 ^ 32) × (n < 256) ⌝ }
     ensures { λ r. ⌜ Wrote (now (list .entry)) at (joined (countStepParts row z n)) (now (list .exit)) r ⌝ }
 {
@@ -126,7 +125,7 @@ fn count_step_each(
     n: usize,
     first: usize,
 ) -> usize
-    requires { ⌜ Writable at (countStepEach first n (blacksOf g (now «record») d x)) ⌝ }
+    requires { ⌜ WithinLimits at (countStepEach first n (blacksOf g (now «record») d x)) ⌝ }
     requires { ⌜ Tables g (now «record») sizes (now table) ⌝ }
     requires { ⌜ LineEnd (puzzle g (now «record»)) d x end ⌝ }
     requires { ⌜ (x < size g) × (n < 256) ⌝ }
@@ -161,7 +160,7 @@ fn clue(
     n: usize,
     first: usize,
 ) -> usize
-    requires { ⌜ Parts at (clueNumbers first n (blacksOf g (now «record») d x)) ⌝ }
+    requires { ⌜ PartsWithinLimits at (clueNumbers first n (blacksOf g (now «record») d x)) ⌝ }
     requires { ⌜ Tables g (now «record») sizes (now table) ⌝ }
     requires { ⌜ (x < size g) × (n < 256) ⌝ }
     ensures { λ r. ⌜ Wrote (now (list .entry)) at (joined (clueNumbers first n (blacksOf g (now («record» .entry)) d x))) (now (list .exit)) r ⌝ }
@@ -184,7 +183,7 @@ fn clue_at(
     table: &[usize],
     x: usize,
 ) -> usize
-    requires { ⌜ Writable at (listOf (gridBoard g (now «record»)) (clueAt (puzzle g (now «record»)) x)) ⌝ }
+    requires { ⌜ WithinLimits at (listOf (gridBoard g (now «record»)) (clueAt (puzzle g (now «record»)) x)) ⌝ }
     requires { ⌜ Tables g (now «record») sizes (now table) ⌝ }
     requires { ⌜ x < size g ⌝ }
     ensures { λ r. ⌜ Wrote (now (list .entry)) at (listOf (gridBoard g (now («record» .entry))) (clueAt (puzzle g (now («record» .entry))) x)) (now (list .exit)) r ⌝ }
@@ -206,7 +205,7 @@ pub fn clue_lines(
     sizes: Sizes,
     table: &[usize],
 ) -> usize
-    requires { ⌜ Writable at (listOf (gridBoard g (now «record»)) (clueLines (gridBoard g (now «record»)))) ⌝ }
+    requires { ⌜ WithinLimits at (listOf (gridBoard g (now «record»)) (clueLines (gridBoard g (now «record»)))) ⌝ }
     requires { ⌜ Tables g (now «record») sizes (now table) ⌝ }
     ensures { λ r. ⌜ Wrote (now (list .entry)) at (listOf (gridBoard g (now («record» .entry))) (clueLines (gridBoard g (now («record» .entry))))) (now (list .exit)) r ⌝ }
 {

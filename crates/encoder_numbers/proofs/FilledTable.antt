@@ -1,10 +1,10 @@
 -- The loop that fills the table, a row at a turn, and what the table then holds. Assumes nothing.
 use Prim.Native.Nat.{ℕ, zero, suc, _+_, _*_, _≤_, _<_}
 use native.Mathlib.Omega.{arith}
-use lib.ListN.{length, getD, drop, set, length-append, List·getD-append}
+use lib.ListN.{length, getD, drop, length-append, List·getD-append}
 use lib.Seq.{getD-append-add}
 use mathlib.Core.Path.{_≡_, refl, sym, _∙_, ap}
-use mathlib.Core.List.{List, [], _∷_, _++_}
+use mathlib.Core.List.{List, _++_}
 use Rattle.answers.specs.Lent.{filled, Wrote}
 use Rattle.answers.proofs.Lent.{wrote-nothing, wrote-after, wrote-recast, wrote-length, wrote-filled}
 use Rattle.rules.specs.declared.Grid.{Grid}

@@ -2,8 +2,8 @@
 use Prim.Native.Nat.{ℕ, _+_, _*_, _≤_, _<_}
 use native.Mathlib.Omega.{arith}
 use native.Mathlib.Nat.{mul-le-mul}
-use lib.ListN.{length, getD}
-use mathlib.Core.Path.{_≡_, refl, sym, _∙_, ap}
+use lib.ListN.{length}
+use mathlib.Core.Path.{_≡_, sym, _∙_, ap}
 use mathlib.Core.Bool.{true, false, cond}
 use mathlib.Core.Option.{none, some}
 use mathlib.Core.List.{List, List·Memᴰ·head, List·Memᴰ·tail}
@@ -15,15 +15,15 @@ use Rattle.rules.specs.Record.{size, puzzle, mostCells, RecordFits}
 use Rattle.rules.specs.Board.{Board, gridBoard}
 use Rattle.rules.proofs.Boards.{Laws, laws}
 use Rattle.rules.proofs.Records.{held-filled}
-use Rattle.encoder.specs.Variables.{Z, S, E, Q, neighbours, openCount, number}
+use Rattle.encoder.specs.Variables.{Z, S, E, Q, neighbours, openCount, number, rank, earlier}
 use Rattle.encoder.proofs.Neighbours.{in-opens}
-use Rattle.encoder.proofs.Places.{rank, linksBelow, earlier, place-z, place-s, place-e, place-q}
+use Rattle.encoder.proofs.Places.{place-z, place-s, place-e, place-q}
 use Rattle.encoder_numbers.specs.declared.Sizes.{Sizes}
 use Rattle.encoder_numbers.specs.declared.NeighbourNumbers.{NeighbourNumbers}
 use Rattle.encoder_numbers.specs.declared.CellNumbers.{CellNumbers}
-use Rattle.encoder_numbers.specs.Tables.{sizesBelow, sizesOf, openNeighbour, Tables, OpenCell, OpenPair}
+use Rattle.encoder_numbers.specs.Tables.{sizesBelow, openNeighbour, Tables, OpenCell, OpenPair}
 use Rattle.encoder_numbers.specs.Numbered.{blackOf, noNeighbour, neighbourNumbersIf, neighbourNumbersTo, neighbourNumbersOf, cellNumbersOf}
-use Rattle.encoder_numbers.proofs.Numbers.{Few, sizes-few, there-none, there-some, earlier-few}
+use Rattle.encoder_numbers.proofs.Numbers.{Few, sizes-few, there-none, there-some}
 
 pub held-laws : {g : Grid} {s : List ℕ} → RecordFits g s → Laws (gridBoard g s)
 held-laws {g} {s} h = laws (puzzle g s) (held-filled h)

@@ -18,14 +18,15 @@ use Rattle.rules.specs.Record.{Puzzle, cellByte, size, puzzle, mostCells, Recor
 use Rattle.rules.specs.Board.{Clue, Board, openCell, line, clueOf, cluesFrom, gridBoard}
 use Rattle.rules.proofs.Records.{cell-at, held-filled}
 use Rattle.answers.specs.Lists.{upTo, each}
-use Rattle.encoder.specs.Variables.{directions, openCount, ifOpen, ifThere, neighbours, out, outgoing, linkVariables, clueCounts, counts, variableCount}
+use Rattle.encoder.specs.Variables.{directions, openCount, ifOpen, ifThere, neighbours, out, outgoing, linkVariables, clueCounts, counts, variableCount, lower}
+use Rattle.encoder.specs.Variables.{rank, linksBelow, earlier}
 use Rattle.answers.proofs.Elements.{each-append, length-from, length-each-most, keep-most, map-most}
-use Rattle.encoder.proofs.Places.{below, rank, linksBelow, earlier, clue-long, total}
+use Rattle.encoder.proofs.Places.{clue-long, total}
 use Rattle.encoder.proofs.Clues.{clues-next}
 use Rattle.encoder.proofs.Lines.{line-short}
 use Rattle.encoder.proofs.Bounds.{neighbours-most}
 use Rattle.encoder.proofs.Sizes.{numberOf, cell-small}
-use Rattle.encoder.proofs.ClauseLists.{rank-open, rank-shut, ways-open, ways-shut}
+use Rattle.encoder.proofs.ClauseLists.{rank-open, rank-shut, links-open, links-shut}
 use Rattle.judge_cells.proofs.Checks.{is-opened}
 use Rattle.encoder_numbers.specs.declared.Sizes.{Sizes}
 use Rattle.encoder_numbers.specs.Tables.{countsBelow, sizesBelow, sizesOf, ifOpenCell, openNeighbour}
@@ -93,7 +94,7 @@ module _ (b : Board) (x : ℕ) where
 
   pub links-few : linksBelow b x ≤ x * 4
   links-few =
-      let h = length-each-most (outgoing b) 4 (below b x) (λ y m. map-most (out y) (neighbours b y directions) 4 (neighbours-most b y directions)) in
+      let h = length-each-most (outgoing b) 4 (lower b x) (λ y m. map-most (out y) (neighbours b y directions) 4 (neighbours-most b y directions)) in
       omega (arith, rank-few)
 
 -- 2. T variables
@@ -175,7 +176,7 @@ module _ {g : Grid} {s : List ℕ} (h : RecordFits g s) {x : ℕ} (l : x < size 
       let o : b .isOpen x ≡ true = sym (is-opened h l q) ∙ ap openCell k in
       let i : z .opens + 1 ≡ rank b (x + 1) = ap (λ n. n + 1) opens-is ∙ sym (rank-open b x o) in
       let j : z .links + n ≡ linksBelow b (x + 1) = (λ t. links-is t + m t)
-      ∙ sym (ways-open b x o ∙ ap (λ n. linksBelow b x + n) (length-map (neighbours b x directions) (out x))) in
+      ∙ sym (links-open b x o ∙ ap (λ n. linksBelow b x + n) (length-map (neighbours b x directions) (out x))) in
       let u : z .counts ≡ countsBelow (puzzle g s) (x + 1) = (let f = no-counts (puzzle g s) x k q in omega (arith, counts-next, counts-is)) in
       (λ t. record { opens = i t; links = j t; counts = u t })
 
@@ -185,7 +186,7 @@ module _ {g : Grid} {s : List ℕ} (h : RecordFits g s) {x : ℕ} (l : x < size 
       let b = gridBoard g s in
       let o : b .isOpen x ≡ false = sym (is-opened h l q) ∙ ap openCell w in
       let i : z .opens ≡ rank b (x + 1) = opens-is ∙ sym (rank-shut b x o) in
-      let j : z .links ≡ linksBelow b (x + 1) = links-is ∙ sym (ways-shut b x o) in
+      let j : z .links ≡ linksBelow b (x + 1) = links-is ∙ sym (links-shut b x o) in
       let u : z .counts + (k + 1) * (n + 1) ≡ countsBelow (puzzle g s) (x + 1) = (λ t. counts-is t + clue-counts (puzzle g s) x w q m t) ∙ sym counts-next in
       (λ t. record { opens = i t; links = j t; counts = u t })
 

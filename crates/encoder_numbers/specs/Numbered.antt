@@ -5,9 +5,8 @@ use mathlib.Core.List.{List, [], _∷_}
 use Rattle.rules.specs.declared.Direction.{Direction}
 use Rattle.rules.specs.declared.Direction.the-variants.{North as north, East as east, South as south, West as west}
 use Rattle.rules.specs.Board.{Board}
-use Rattle.encoder.specs.Variables.{Z, S, Q, Neighbour, ifThere, out, number}
+use Rattle.encoder.specs.Variables.{Z, S, Q, Neighbour, ifThere, out, number, rank}
 use Rattle.encoder.specs.Clauses.{back}
-use Rattle.encoder.proofs.Places.{rank}
 use Rattle.encoder_numbers.specs.declared.NeighbourNumbers.{NeighbourNumbers}
 use Rattle.encoder_numbers.specs.declared.CellNumbers.{CellNumbers}
 

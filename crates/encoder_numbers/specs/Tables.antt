@@ -10,8 +10,7 @@ use Rattle.rules.specs.declared.Grid.{Grid}
 use Rattle.rules.specs.Record.{Puzzle, size, puzzle, mostCells, RecordFits}
 use Rattle.rules.specs.Board.{Board, cluesFrom, gridBoard}
 use Rattle.answers.specs.Lists.{upTo, each}
-use Rattle.encoder.specs.Variables.{openCount, linkVariables, clueCounts}
-use Rattle.encoder.proofs.Places.{rank, linksBelow}
+use Rattle.encoder.specs.Variables.{openCount, linkVariables, clueCounts, rank, linksBelow}
 use Rattle.encoder_numbers.specs.declared.Sizes.{Sizes}
 
 -- the number of T variables of the first x cells

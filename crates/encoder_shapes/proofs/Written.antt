@@ -1,4 +1,4 @@
--- What is writable, part by part, and the turn of a loop that writes. Assumes nothing.
+-- What is within the limits, part by part, and the turn of a loop that writes. Assumes nothing.
 use Prim.Native.Nat.{ℕ, zero, suc, _+_, _-_, _≤_, _<_}
 use native.Mathlib.Omega.{arith}
 use lib.IntN.{ℤ, pos}
@@ -10,24 +10,25 @@ use Rattle.answers.proofs.Lent.{wrote-nothing, wrote-after, wrote-recast, wrote
 use Rattle.cnf.specs.Literals.{mostVariables}
 use Rattle.answers.specs.Lists.{from, upTo, each, joined}
 use Rattle.answers.proofs.Elements.{all-left, all-right, each-append, from-append}
+use Rattle.encoder.specs.Bounds.{NotBeyond}
 use Rattle.encoder.proofs.ClauseLists.{each-next}
-use Rattle.encoder_shapes.specs.Writable.{Right, Writable, Parts}
+use Rattle.encoder_shapes.specs.Limits.{WithinLimits, PartsWithinLimits}
 use Rattle.encoder_shapes.specs.Shapes.{no}
 
-pub writable-recast : {at : ℕ} {xs ys : List ℤ} → xs ≡ ys → Writable at xs → Writable at ys
-writable-recast e w = rw (← e) w
+pub limits-recast : {at : ℕ} {xs ys : List ℤ} → xs ≡ ys → WithinLimits at xs → WithinLimits at ys
+limits-recast e w = rw (← e) w
 
 -- a list in two parts
-module _ {at : ℕ} (xs ys : List ℤ) (w : Writable at (xs ++ ys)) where
-  pub writable-left : Writable at xs
-  writable-left = let r = w .room in record { room = omega (arith, length-append xs ys); right = all-left Right xs ys (w .right) }
+module _ {at : ℕ} (xs ys : List ℤ) (w : WithinLimits at (xs ++ ys)) where
+  pub limits-left : WithinLimits at xs
+  limits-left = let r = w .place in record { place = omega (arith, length-append xs ys); literals = all-left (NotBeyond mostVariables) xs ys (w .literals) }
 
-  pub writable-right : {buf new : List ℤ} {next : ℕ} → Wrote buf at xs new next → Writable next ys
-  writable-right p = let r = w .room in let e = p .place in record { room = omega (arith, length-append xs ys); right = all-right Right xs ys (w .right) }
+  pub limits-right : {buf new : List ℤ} {next : ℕ} → Wrote buf at xs new next → WithinLimits next ys
+  limits-right p = let r = w .place in let e = p .place in record { place = omega (arith, length-append xs ys); literals = all-right (NotBeyond mostVariables) xs ys (w .literals) }
 
 -- after one element
-pub writable-next : {at next : ℕ} {x : ℤ} {xs buf new : List ℤ} → Writable at (x ∷ xs) → Wrote buf at (x ∷ []) new next → Writable next xs
-writable-next {x = x} {xs = xs} w p = writable-right (x ∷ []) xs w p
+pub limits-next : {at next : ℕ} {x : ℤ} {xs buf new : List ℤ} → WithinLimits at (x ∷ xs) → Wrote buf at (x ∷ []) new next → WithinLimits next xs
+limits-next {x = x} {xs = xs} w p = limits-right (x ∷ []) xs w p
 
 -- 1. A list in parts, written one after the other
 
@@ -54,13 +55,13 @@ pub record Progress : Type 0 where
   pub done : List ℤ
   pub splits : joined parts ≡ done ++ joined left
   pub wrote : Wrote list from done now at
-  pub writable : Writable at (joined left)
+  pub limits : WithinLimits at (joined left)
 
-pub in-parts : {at : ℕ} (ps : List (List ℤ)) → Writable at (joined ps) → Parts at ps
-in-parts ps w = record { writable = w }
+pub in-parts : {at : ℕ} (ps : List (List ℤ)) → WithinLimits at (joined ps) → PartsWithinLimits at ps
+in-parts ps w = record { limits = w }
 
 -- nothing is written yet
-abbrev pub begun : (list : List ℤ) {at : ℕ} {ps : List (List ℤ)} → Parts at ps → Progress
+abbrev pub begun : (list : List ℤ) {at : ℕ} {ps : List (List ℤ)} → PartsWithinLimits at ps → Progress
 begun list {at} {ps} w =
     record {
       list = list;
@@ -72,16 +73,16 @@ begun list {at} {ps} w =
       done = [];
       splits = refl;
       wrote = wrote-nothing list at;
-      writable = w .writable;
+      limits = w .limits;
     }
 
 module _ (p : Progress) where
-  pub split-left : Writable (p .at) (firstPart (p .left) ++ joined (otherParts (p .left)))
-  split-left = writable-recast (parts-split (p .left)) (p .writable)
+  pub split-left : WithinLimits (p .at) (firstPart (p .left) ++ joined (otherParts (p .left)))
+  split-left = limits-recast (parts-split (p .left)) (p .limits)
 
   -- the next part can be written,
-  pub part-needs : Writable (p .at) (firstPart (p .left))
-  part-needs = writable-left (firstPart (p .left)) (joined (otherParts (p .left))) split-left
+  pub part-needs : WithinLimits (p .at) (firstPart (p .left))
+  part-needs = limits-left (firstPart (p .left)) (joined (otherParts (p .left))) split-left
 
   -- and was written
   abbrev pub part-on : {new : List ℤ} {next : ℕ} → Wrote (p .now) (p .at) (firstPart (p .left)) new next → Progress
@@ -97,7 +98,7 @@ module _ (p : Progress) where
         splits =
             p .splits ∙ ap (λ l. p .done ++ l) (parts-split (p .left)) ∙ sym (append-assoc (p .done) (firstPart (p .left)) (joined (otherParts (p .left))));
         wrote = wrote-after (p .wrote) h;
-        writable = writable-right (firstPart (p .left)) (joined (otherParts (p .left))) split-left h;
+        limits = limits-right (firstPart (p .left)) (joined (otherParts (p .left))) split-left h;
       }
 
   -- all is written
@@ -110,24 +111,24 @@ module _ (p : Progress) where
 abbrev pub Puts : ℕ → ℕ → Type 0
 Puts at v = (v ≤ mostVariables) × (at < 18446744073709551615)
 
-pub put-needs : {at v : ℕ} {xs : List ℤ} → Writable at (pos v ∷ xs) → Puts at v
-put-needs w = let r = w .room in (w .right .0, omega arith)
+pub put-needs : {at v : ℕ} {xs : List ℤ} → WithinLimits at (pos v ∷ xs) → Puts at v
+put-needs w = let r = w .place in (w .literals .0, omega arith)
 
-pub no-small : (v : ℕ) → Right (no v) → v ≤ mostVariables
+pub no-small : (v : ℕ) → NotBeyond mostVariables (no v) → v ≤ mostVariables
 no-small zero h = omega arith
 no-small (suc v) h = h
 
-pub not-needs : {at v : ℕ} {xs : List ℤ} → Writable at (no v ∷ xs) → Puts at v
-not-needs {v = v} w = let r = w .room in (no-small v (w .right .0), omega arith)
+pub not-needs : {at v : ℕ} {xs : List ℤ} → WithinLimits at (no v ∷ xs) → Puts at v
+not-needs {v = v} w = let r = w .place in (no-small v (w .literals .0), omega arith)
 
 -- at the head of a loop over k below n that writes f k: what the numbers before k give is written
 pub record Writing (buf : List ℤ) (at : ℕ) (f : ℕ → List ℤ) (n : ℕ) (new : List ℤ) (next k : ℕ) : Type 0 where
   pub within : k ≤ n
-  pub writable : Writable at (each (upTo n) f)
+  pub limits : WithinLimits at (each (upTo n) f)
   pub wrote : Wrote buf at (each (upTo k) f) new next
 
-pub write-start : {buf : List ℤ} {at n : ℕ} {f : ℕ → List ℤ} → Writable at (each (upTo n) f) → Writing buf at f n buf at 0
-write-start {buf} {at} w = record { within = omega arith; writable = w; wrote = wrote-nothing buf at }
+pub write-start : {buf : List ℤ} {at n : ℕ} {f : ℕ → List ℤ} → WithinLimits at (each (upTo n) f) → Writing buf at f n buf at 0
+write-start {buf} {at} w = record { within = omega arith; limits = w; wrote = wrote-nothing buf at }
 
 module _ {buf new : List ℤ} {at n next k : ℕ} {f : ℕ → List ℤ} (w : Writing buf at f n new next k) where
   so-far : each (upTo (k + 1)) f ≡ each (upTo k) f ++ f k
@@ -139,13 +140,13 @@ module _ {buf new : List ℤ} {at n next k : ℕ} {f : ℕ → List ℤ} (w : Wr
       ap (λ m. each (upTo m) f) e ∙ ap (λ l. each l f) (from-append 0 (k + 1) (n - (k + 1))) ∙ each-append f (upTo (k + 1)) (from (0 + (k + 1)) (n - (k + 1)))
       ∙ ap (λ l. l ++ each (from (0 + (k + 1)) (n - (k + 1))) f) so-far
 
-  pub write-needs : k < n → Writable next (f k)
+  pub write-needs : k < n → WithinLimits next (f k)
   write-needs h =
       let rest = each (from (0 + (k + 1)) (n - (k + 1))) f in
-      writable-right (each (upTo k) f) (f k) (writable-left (each (upTo k) f ++ f k) rest (writable-recast (whole h) (w .writable))) (w .wrote)
+      limits-right (each (upTo k) f) (f k) (limits-left (each (upTo k) f ++ f k) rest (limits-recast (whole h) (w .limits))) (w .wrote)
 
   pub write-on : {next₂ : ℕ} {new₂ : List ℤ} → k < n → Wrote new next (f k) new₂ next₂ → Writing buf at f n new₂ next₂ (k + 1)
-  write-on h p = record { within = omega arith; writable = w .writable; wrote = wrote-recast (sym so-far) (wrote-after (w .wrote) p) }
+  write-on h p = record { within = omega arith; limits = w .limits; wrote = wrote-recast (sym so-far) (wrote-after (w .wrote) p) }
 
   pub write-end : n ≤ k → Wrote buf at (each (upTo n) f) new next
   write-end h = let i = w .within in let e : k ≡ n = omega arith in wrote-recast (ap (λ m. each (upTo m) f) e) (w .wrote)

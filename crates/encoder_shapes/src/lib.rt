@@ -2,7 +2,7 @@
 // Each returns the place after what it wrote; beyond the end of the list nothing is written, and the place is counted all the same.
 ghost use Prim.Native.Nat.{_+_, _<_, _^_};
 ghost use Rattle.answers.specs.Lent.{Wrote};
-ghost use Rattle.encoder_shapes.specs.Writable.{Writable};
+ghost use Rattle.encoder_shapes.specs.Limits.{WithinLimits};
 ghost use Rattle.encoder_shapes.specs.Shapes.{unit, unitNot, notBoth, implies, orNot, impliesEither, bothImply, literals, atLeastOne, orAtLeastOne};
 ghost use Rattle.encoder_shapes.specs.Shapes.{eachUnitNot, eachNotBoth, eachImplies, eachBothImply, atMostOne};
 use cnf::put;
@@ -10,7 +10,7 @@ use cnf::put_not;
 
 // [a]
 pub fn unit(list: &mut [i32], at: usize, a: usize) -> usize
-    requires { ⌜ Writable at (unit a) ⌝ }
+    requires { ⌜ WithinLimits at (unit a) ⌝ }
     ensures { λ r. ⌜ Wrote (now (list .entry)) at (unit a) (now (list .exit)) r ⌝ }
 {
     let i = put(list, at, a);
@@ -19,7 +19,7 @@ pub fn unit(list: &mut [i32], at: usize, a: usize) -> usize
 
 // [−a]
 pub fn unit_not(list: &mut [i32], at: usize, a: usize) -> usize
-    requires { ⌜ Writable at (unitNot a) ⌝ }
+    requires { ⌜ WithinLimits at (unitNot a) ⌝ }
     ensures { λ r. ⌜ Wrote (now (list .entry)) at (unitNot a) (now (list .exit)) r ⌝ }
 {
     let i = put_not(list, at, a);
@@ -28,7 +28,7 @@ pub fn unit_not(list: &mut [i32], at: usize, a: usize) -> usize
 
 // [−a −b]
 pub fn not_both(list: &mut [i32], at: usize, a: usize, b: usize) -> usize
-    requires { ⌜ Writable at (notBoth a b) ⌝ }
+    requires { ⌜ WithinLimits at (notBoth a b) ⌝ }
     ensures { λ r. ⌜ Wrote (now (list .entry)) at (notBoth a b) (now (list .exit)) r ⌝ }
 {
     let i = put_not(list, at, a);
@@ -38,7 +38,7 @@ pub fn not_both(list: &mut [i32], at: usize, a: usize, b: usize) -> usize
 
 // [−a b]
 pub fn implies(list: &mut [i32], at: usize, a: usize, b: usize) -> usize
-    requires { ⌜ Writable at (implies a b) ⌝ }
+    requires { ⌜ WithinLimits at (implies a b) ⌝ }
     ensures { λ r. ⌜ Wrote (now (list .entry)) at (implies a b) (now (list .exit)) r ⌝ }
 {
     let i = put_not(list, at, a);
@@ -48,7 +48,7 @@ pub fn implies(list: &mut [i32], at: usize, a: usize, b: usize) -> usize
 
 // [a −b]
 pub fn or_not(list: &mut [i32], at: usize, a: usize, b: usize) -> usize
-    requires { ⌜ Writable at (orNot a b) ⌝ }
+    requires { ⌜ WithinLimits at (orNot a b) ⌝ }
     ensures { λ r. ⌜ Wrote (now (list .entry)) at (orNot a b) (now (list .exit)) r ⌝ }
 {
     let i = put(list, at, a);
@@ -58,7 +58,7 @@ pub fn or_not(list: &mut [i32], at: usize, a: usize, b: usize) -> usize
 
 // [−a b c]
 pub fn implies_either(list: &mut [i32], at: usize, a: usize, b: usize, c: usize) -> usize
-    requires { ⌜ Writable at (impliesEither a b c) ⌝ }
+    requires { ⌜ WithinLimits at (impliesEither a b c) ⌝ }
     ensures { λ r. ⌜ Wrote (now (list .entry)) at (impliesEither a b c) (now (list .exit)) r ⌝ }
 {
     let i = put_not(list, at, a);
@@ -69,7 +69,7 @@ pub fn implies_either(list: &mut [i32], at: usize, a: usize, b: usize, c: usize)
 
 // [−a −b c]
 pub fn both_imply(list: &mut [i32], at: usize, a: usize, b: usize, c: usize) -> usize
-    requires { ⌜ Writable at (bothImply a b c) ⌝ }
+    requires { ⌜ WithinLimits at (bothImply a b c) ⌝ }
     ensures { λ r. ⌜ Wrote (now (list .entry)) at (bothImply a b c) (now (list .exit)) r ⌝ }
 {
     let i = put_not(list, at, a);
@@ -80,7 +80,7 @@ pub fn both_imply(list: &mut [i32], at: usize, a: usize, b: usize, c: usize) -> 
 
 // The n numbers from the first on.
 fn literals(list: &mut [i32], at: usize, first: usize, n: usize) -> usize
-    requires { ⌜ Writable at (literals first n) ⌝ }
+    requires { ⌜ WithinLimits at (literals first n) ⌝ }
     ensures { λ r. ⌜ Wrote (now (list .entry)) at (literals first n) (now (list .exit)) r ⌝ }
 {
     let mut i = at;
@@ -94,7 +94,7 @@ fn literals(list: &mut [i32], at: usize, first: usize, n: usize) -> usize
 
 // [the n numbers from the first on]
 pub fn at_least_one(list: &mut [i32], at: usize, first: usize, n: usize) -> usize
-    requires { ⌜ Writable at (atLeastOne first n) ⌝ }
+    requires { ⌜ WithinLimits at (atLeastOne first n) ⌝ }
     ensures { λ r. ⌜ Wrote (now (list .entry)) at (atLeastOne first n) (now (list .exit)) r ⌝ }
 {
     let i = literals(list, at, first, n);
@@ -103,7 +103,7 @@ pub fn at_least_one(list: &mut [i32], at: usize, first: usize, n: usize) -> usiz
 
 // [a, the n numbers from the first on]
 pub fn or_at_least_one(list: &mut [i32], at: usize, a: usize, first: usize, n: usize) -> usize
-    requires { ⌜ Writable at (orAtLeastOne a first n) ⌝ }
+    requires { ⌜ WithinLimits at (orAtLeastOne a first n) ⌝ }
     ensures { λ r. ⌜ Wrote (now (list .entry)) at (orAtLeastOne a first n) (now (list .exit)) r ⌝ }
 {
     let i = put(list, at, a);
@@ -112,7 +112,7 @@ pub fn or_at_least_one(list: &mut [i32], at: usize, a: usize, first: usize, n: u
 
 // [−b], for the n numbers b from the first on.
 pub fn each_unit_not(list: &mut [i32], at: usize, first: usize, n: usize) -> usize
-    requires { ⌜ Writable at (eachUnitNot first n) ⌝ }
+    requires { ⌜ WithinLimits at (eachUnitNot first n) ⌝ }
     ensures { λ r. ⌜ Wrote (now (list .entry)) at (eachUnitNot first n) (now (list .exit)) r ⌝ }
 {
     let mut i = at;
@@ -126,7 +126,7 @@ pub fn each_unit_not(list: &mut [i32], at: usize, first: usize, n: usize) -> usi
 
 // [−a −b], for the n numbers b from the first on.
 pub fn each_not_both(list: &mut [i32], at: usize, a: usize, first: usize, n: usize) -> usize
-    requires { ⌜ Writable at (eachNotBoth a first n) ⌝ }
+    requires { ⌜ WithinLimits at (eachNotBoth a first n) ⌝ }
     ensures { λ r. ⌜ Wrote (now (list .entry)) at (eachNotBoth a first n) (now (list .exit)) r ⌝ }
 {
     let mut i = at;
@@ -140,7 +140,7 @@ pub fn each_not_both(list: &mut [i32], at: usize, a: usize, first: usize, n: usi
 
 // [−a b], for the n numbers b from the first on.
 pub fn each_implies(list: &mut [i32], at: usize, a: usize, first: usize, n: usize) -> usize
-    requires { ⌜ Writable at (eachImplies a first n) ⌝ }
+    requires { ⌜ WithinLimits at (eachImplies a first n) ⌝ }
     ensures { λ r. ⌜ Wrote (now (list .entry)) at (eachImplies a first n) (now (list .exit)) r ⌝ }
 {
     let mut i = at;
@@ -154,7 +154,7 @@ pub fn each_implies(list: &mut [i32], at: usize, a: usize, first: usize, n: usiz
 
 // [−a −b c], for n numbers b and c that go on from these.
 pub fn each_both_imply(list: &mut [i32], at: usize, a: usize, b: usize, c: usize, n: usize) -> usize
-    requires { ⌜ Writable at (eachBothImply a b c n) ⌝ }
+    requires { ⌜ WithinLimits at (eachBothImply a b c n) ⌝ }
     ensures { λ r. ⌜ Wrote (now (list .entry)) at (eachBothImply a b c n) (now (list .exit)) r ⌝ }
 {
     let mut i = at;
@@ -168,7 +168,7 @@ pub fn each_both_imply(list: &mut [i32], at: usize, a: usize, b: usize, c: usize
 
 // [−a −b], for each pair of the n numbers from the first on.
 pub fn at_most_one(list: &mut [i32], at: usize, first: usize, n: usize) -> usize
-    requires { ⌜ Writable at (atMostOne first n) ⌝ }
+    requires { ⌜ WithinLimits at (atMostOne first n) ⌝ }
     requires { ⌜ first + n < 2 ^ 64 ⌝ }
     ensures { λ r. ⌜ Wrote (now (list .entry)) at (atMostOne first n) (now (list .exit)) r ⌝ }
 {

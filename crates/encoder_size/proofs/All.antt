@@ -8,12 +8,12 @@ use Rattle.rules.specs.declared.Grid.{Grid}
 use Rattle.rules.specs.Record.{size, puzzle, RecordFits}
 use Rattle.rules.specs.Board.{Board, gridBoard}
 use Rattle.answers.specs.Lists.{upTo, each, keep}
-use Rattle.encoder.specs.Variables.{openCount, variableCount}
+use Rattle.encoder.specs.Variables.{openCount, variableCount, atCell}
 use Rattle.encoder.specs.Clauses.{Clause, touchingAt, linksAt, startAt, distanceAt, someStart, start, touching, clueLines, links, distance, clauses, written}
-use Rattle.encoder.specs.Clauses.{clauseList}
+use Rattle.encoder.specs.Clauses.{clauseList, Sized}
 use Rattle.answers.proofs.Elements.{each-append}
-use Rattle.encoder.proofs.ClauseLists.{each-next, atCell, below-each}
-use Rattle.encoder.proofs.Counts.{Sized, sized-none, sized-append, some-start-sized}
+use Rattle.encoder.proofs.ClauseLists.{each-next, lower-each}
+use Rattle.encoder.proofs.Counts.{sized-none, sized-append, some-start-sized}
 use Rattle.encoder_lines.specs.Line.{clueAt}
 use Rattle.encoder_lines.proofs.Family.{lines-cells}
 use Rattle.encoder_size.specs.declared.Amount.{Amount}
@@ -35,7 +35,7 @@ module _ (many : List Clause → ℕ) (none : many [] ≡ 0) (adds : (cs ds : Li
       let b = gridBoard g s in
       let xs = upTo (size g) in
       let at : (ℕ → List Clause) → ℕ → List Clause = atCell b in
-      let cells : (F : ℕ → List Clause) → many (each (keep (b .isOpen) xs) F) ≡ many (each xs (at F)) = (λ F. ap many (below-each b F (size g))) in
+      let cells : (F : ℕ → List Clause) → many (each (keep (b .isOpen) xs) F) ≡ many (each xs (at F)) = (λ F. ap many (lower-each b F (size g))) in
       let c2 = ap many (lines-cells h) in
       let five = at (distanceAt b) in
       let four : ℕ → List Clause = (λ x. at (startAt b) x ++ five x) in

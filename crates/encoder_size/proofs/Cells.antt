@@ -10,19 +10,17 @@ use mathlib.Core.List.{List, [], _∷_, _++_}
 use Rattle.answers.specs.Lists.{howMany}
 use Rattle.answers.proofs.Lists.{many-most}
 use Rattle.rules.specs.declared.Direction.{Direction}
-use Rattle.rules.specs.declared.Direction.the-variants.{East as east, South as south, West as west}
-use Rattle.rules.specs.declared.Cell.{Cell}
+use Rattle.rules.specs.declared.Direction.the-variants.{East as east, South as south}
 use Rattle.rules.specs.declared.Cell.the-variants.{Open, Clue as Clued}
 use Rattle.rules.specs.declared.Grid.{Grid}
 use Rattle.rules.specs.Record.{size, puzzle, mostCells, RecordFits}
-use Rattle.rules.specs.Board.{Board, Clue, openCell, line, clueOf, gridBoard}
+use Rattle.rules.specs.Board.{Board, openCell, line, clueOf, gridBoard}
 use Rattle.answers.specs.Lists.{each, joined}
-use Rattle.encoder.specs.Variables.{directions, openCount, neighbours}
-use Rattle.encoder.specs.Clauses.{Clause, eastSouth, fromOne, touchingAt, clueParts, clueClauses, linksAt, lower, startAt, distanceAt}
-use Rattle.encoder.proofs.Places.{rank}
+use Rattle.encoder.specs.Variables.{directions, openCount, neighbours, lower, rank, atCell}
+use Rattle.encoder.specs.Clauses.{Clause, eastSouth, fromOne, touchingAt, clueParts, clueClauses, linksAt, startAt, distanceAt, pairCount, Sized}
 use Rattle.encoder.proofs.Bounds.{neighbours-most}
-use Rattle.encoder.proofs.ClauseLists.{atCell, at-open, at-shut, lower-is}
-use Rattle.encoder.proofs.Counts.{pairCount, Sized, sized-none, sized-append, sized-is, around, after, touching-sized, clue-sized, links-sized, start-sized}
+use Rattle.encoder.proofs.ClauseLists.{at-open, at-shut}
+use Rattle.encoder.proofs.Counts.{sized-none, sized-append, sized-is, around, after, touching-sized, clue-sized, links-sized, start-sized}
 use Rattle.encoder.proofs.Counts.{distance-sized, from-one}
 use Rattle.judge_cells.proofs.Checks.{is-opened}
 use Rattle.encoder_numbers.proofs.Numbers.{line-few, rank-few, links-sum}
@@ -54,7 +52,6 @@ module _ {g : Grid} {s : List ℕ} {x : ℕ} (h : RecordFits g s) (inside : x < 
     open-amounts =
         let k = from-one b in
         let m = ap (λ k. around b x * k) k in
-        let l = ap length (lower-is b x (omega arith)) in
         let (f, few, low) = open-few in
         let p = pairs-most (around b x) 4 (neighbours-most b x directions) in
         let q : around b x * (openCount b - 1) ≤ 4 * mostCells = mul-le-mul {m₂ = mostCells} (neighbours-most b x directions) (omega arith) in

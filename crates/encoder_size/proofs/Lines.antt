@@ -9,8 +9,8 @@ use mathlib.Core.List.{List, [], _∷_}
 use Rattle.answers.specs.Lists.{tally, howMany}
 use Rattle.answers.proofs.Lists.{many-most}
 use Rattle.rules.specs.Board.{Board}
-use Rattle.encoder.specs.Clauses.{lineClauses}
-use Rattle.encoder.proofs.Counts.{pairCount, pair-count, Sized, sized-none, sized-append, sized-is, cell-clue, cell-open}
+use Rattle.encoder.specs.Clauses.{lineClauses, pairCount, Sized}
+use Rattle.encoder.proofs.Counts.{pair-count, sized-none, sized-append, sized-is, cell-clue, cell-open}
 
 pub pairs-half : (n : ℕ) → n * (n - 1) / 2 ≡ pairCount n
 pairs-half n = omega (arith, pair-count n)

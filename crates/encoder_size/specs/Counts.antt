@@ -5,10 +5,8 @@ use mathlib.Core.List.{List, _++_}
 use Rattle.rules.specs.declared.Grid.{Grid}
 use Rattle.rules.specs.Record.{puzzle}
 use Rattle.rules.specs.Board.{Board, gridBoard}
-use Rattle.encoder.specs.Variables.{variableCount}
-use Rattle.encoder.specs.Clauses.{Clause, touchingAt, linksAt, startAt, distanceAt, clauses, clauseList}
-use Rattle.encoder.proofs.ClauseLists.{atCell}
-use Rattle.encoder.proofs.Counts.{pairCount, Sized}
+use Rattle.encoder.specs.Variables.{variableCount, atCell}
+use Rattle.encoder.specs.Clauses.{Clause, touchingAt, linksAt, startAt, distanceAt, clauses, clauseList, pairCount, Sized}
 use Rattle.encoder_lines.specs.Line.{clueAt}
 use Rattle.encoder_size.specs.declared.Amount.{Amount}
 use Rattle.encoder_size.specs.declared.Counts.{Counts}

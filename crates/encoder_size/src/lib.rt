@@ -1,16 +1,14 @@
 // Counts a grid's clauses and their elements without writing them: of each cell by products, so that no clause is visited.
 ghost use mathlib.Core.Path.{_≡_};
 ghost use Prim.Native.Nat.{_*_, _≤_, _<_, _^_};
-ghost use lib.ListN.{length, getD};
+ghost use lib.ListN.{getD};
 ghost use Rattle.answers.specs.Lists.{howMany};
 ghost use Rattle.rules.specs.declared.Cell.the-variants.{Open, Clue};
 ghost use Rattle.rules.specs.Directions.{bit};
 ghost use Rattle.rules.specs.Record.{size, puzzle, mostCells, RecordFits};
 ghost use Rattle.rules.specs.Board.{line, gridBoard};
-ghost use Rattle.encoder.specs.Variables.{openCount};
-ghost use Rattle.encoder.specs.Clauses.{clauses};
-ghost use Rattle.encoder.proofs.Counts.{pairCount, Sized};
-ghost use Rattle.encoder.proofs.Places.{rank};
+ghost use Rattle.encoder.specs.Variables.{openCount, rank};
+ghost use Rattle.encoder.specs.Clauses.{clauses, pairCount, Sized};
 ghost use Rattle.encoder_numbers.specs.Tables.{Tables};
 ghost use Rattle.encoder_lines.specs.Line.{LineEnd};
 ghost use Rattle.encoder_size.specs.Counts.{countsOf, amountOf, openAmount, clueAmount, cellFamilies, Amounts};

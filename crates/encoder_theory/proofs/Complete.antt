@@ -1,8 +1,8 @@
 -- The valuation that a solution tells makes the clauses true. Assumes nothing.
 use Prim.Native.Nat.{ℕ, zero, suc, _-_, _≤_, _<_}
 use native.Mathlib.Omega.{arith}
-use lib.Dec.{eqb, ltb}
-use borrow.Author.Tests.{eqb-true, eq-eqb, ltb-true, not-false}
+use lib.Dec.{eqb}
+use borrow.Author.Tests.{eqb-true, eq-eqb, not-false}
 use mathlib.Core.Path.{_≡_, refl, sym, _∙_, ap, subst}
 use mathlib.Core.Bool.{Bool, true, false}
 use mathlib.Core.Option.{some, Option·some-injective}
@@ -18,11 +18,11 @@ use Rattle.rules.specs.Drawing.{Drawing, white, blacksNearest, Solution}
 use Rattle.rules.proofs.Boards.{Laws}
 use Rattle.rules_theory.proofs.Directions.{opposite-injective}
 use Rattle.answers.specs.Lists.{upTo}
-use Rattle.encoder.specs.Variables.{Variable, Z, S, E, Q, directions, opens, openCount, Neighbour, neighbours, out, outgoing, distancesAt}
-use Rattle.encoder.specs.Clauses.{plus, minus, eastSouth, touch, touchingAt, clueClauses, back, incoming, bothWhite, oneWay, linkParts, linksAt, lower}
+use Rattle.encoder.specs.Variables.{Variable, Z, S, E, Q, directions, opens, openCount, Neighbour, neighbours, out, outgoing, distancesAt, lower}
+use Rattle.encoder.specs.Clauses.{plus, minus, eastSouth, touch, touchingAt, clueClauses, back, incoming, bothWhite, oneWay, linkParts, linksAt}
 use Rattle.encoder.specs.Clauses.{blackBefore, startParts, startAt, noDistance, notAhead, nearer, fromOne, nearerEach, distanceParts, distanceAt, families}
 use Rattle.encoder.specs.Clauses.{clauses}
-use Rattle.answers.proofs.Elements.{all-each, all-map, all-at, all-joined, in-upTo, of-from, of-keep}
+use Rattle.answers.proofs.Elements.{all-each, all-map, all-at, all-joined, in-upTo, of-from, of-upTo, of-keep}
 use Rattle.encoder.proofs.Neighbours.{of-opens, in-opens, in-directions, Beside, of-neighbours, in-neighbours, links-apart}
 use Rattle.encoder.proofs.Distinct.{e-way, outgoing-apart}
 use Rattle.encoder_theory.specs.Valuations.{Sat, Holds}
@@ -160,9 +160,9 @@ module _ (b : Board) (law : Laws b) (D : Drawing) (sol : Solution b D) where
       where
         before : (y : ℕ) → y ∈ lower b x → w (S x) ≡ true → D .black y ≡ true
         before y n p =
-            let k = of-keep (λ y. ltb y x) (opens b) n in
-            let f : bright y ≡ false = leads b law D sol .first y (subst (λ z. y < z) (here p) (ltb-true y x (k .1))) in
-            not-false (D .black y) (rw (of-opens b (k .0)) at f)
+            let k = of-keep (b .isOpen) (upTo x) n in
+            let f : bright y ≡ false = leads b law D sol .first y (subst (λ z. y < z) (here p) (of-upTo x (k .0))) in
+            not-false (D .black y) (rw (k .1) at f)
 
         eastbound : w (S x) ≡ true → Sat w (map plus (map (out x) (neighbours b x (east ∷ []))))
         eastbound p =

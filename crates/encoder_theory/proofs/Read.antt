@@ -2,8 +2,6 @@
 use Prim.Native.Nat.{ℕ, suc, _-_, _<_}
 use native.Mathlib.Omega.{arith}
 use native.Mathlib.Decide.{decLt}
-use lib.Dec.{ltb}
-use borrow.Author.Tests.{lt-ltb}
 use mathlib.Core.Path.{_≡_, refl, sym, _∙_, ap}
 use mathlib.Core.Bool.{Bool, true, false, not, _&&_}
 use mathlib.Core.Option.{some, Option·some-injective}
@@ -19,8 +17,8 @@ use Rattle.rules.specs.Drawing.{white}
 use Rattle.rules.proofs.Boards.{Laws}
 use Rattle.rules_theory.proofs.Directions.{opposite-opposite, opposite-injective}
 use Rattle.answers.specs.Lists.{upTo}
-use Rattle.encoder.specs.Variables.{Variable, Z, S, E, Q, directions, opens, openCount, neighbours, out, outgoing, distancesAt}
-use Rattle.encoder.specs.Clauses.{plus, minus, eastSouth, touch, touchingAt, clueClauses, back, incoming, bothWhite, oneWay, linkParts, linksAt, lower}
+use Rattle.encoder.specs.Variables.{Variable, Z, S, E, Q, directions, opens, openCount, neighbours, out, outgoing, distancesAt, lower}
+use Rattle.encoder.specs.Clauses.{plus, minus, eastSouth, touch, touchingAt, clueClauses, back, incoming, bothWhite, oneWay, linkParts, linksAt}
 use Rattle.encoder.specs.Clauses.{blackBefore, startParts, startAt, noDistance, notAhead, nearer, fromOne, nearerEach, distanceParts, distanceAt, families}
 use Rattle.encoder.specs.Clauses.{clauses}
 use Rattle.answers.proofs.Elements.{each-at, map-at, joined-all, in-from, in-upTo, of-upTo, in-keep}
@@ -179,7 +177,7 @@ module _ (b : Board) (law : Laws b) (w : Variable → Bool) (proper : Proper b w
       before k l p = by (b .isOpen k) refl
         where
           by : (t : Bool) → b .isOpen k ≡ t → t && not (w (Z k)) ≡ false
-          by true e = ap not (implies w (S s) (Z k) (map-at (Sat w) (blackBefore s) p (in-keep (λ y. ltb y s) (in-opens b law e) (lt-ltb k s l))) h)
+          by true e = ap not (implies w (S s) (Z k) (map-at (Sat w) (blackBefore s) p (in-keep (b .isOpen) (in-upTo s k l) e)) h)
           by false e = refl
 
   start-east : (s : ℕ) → w (S s) ≡ true → goes s east ≡ true

@@ -23,7 +23,7 @@ use Rattle.cnf.specs.Clauses.{clauseCount}
 use Rattle.encoder.specs.Variables.{T, variableCount}
 use Rattle.encoder.specs.Clauses.{clauses, clauseList}
 use Rattle.encoder.specs.Decoding.{drawn, Satisfying, DecodesTo}
-use Rattle.encoder.specs.Small.{Small}
+use Rattle.encoder.specs.Bounds.{BoundedBoard}
 use Rattle.encoder.proofs.Clues.{clue-in}
 use Rattle.encoder.proofs.Bounds as bounds
 use Rattle.encoder.proofs.Sizes as sizes
@@ -59,24 +59,24 @@ comes-from-only-one s acc ds a c h d k e =
     exactly.the-only (boardOf s) law ds S a (h .gives) (h .satisfies) p
     ∙ sym (exactly.the-only (boardOf s) law ds S c (k .gives) (k .satisfies) (handed s acc c (k .gives) e))
 
--- 3. V is at most 16,777,216 and the list gets no 16 for that V: search and writer never refuse a grid's clauses. First of any small board ..
-pub never-refused-on : {b : Board} → Laws b → Small b
+-- 3. V is at most 16,777,216 and the list gets no 16 for that V: search and writer never refuse a grid's clauses. First of any bounded board ..
+pub never-refused-on : {b : Board} → Laws b → BoundedBoard b
     → (variableCount b ≤ mostVariables) × (tooManyVariables (variableCount b) ≡ false) × (wrongList (variableCount b) (clauseList b) ≡ none)
-never-refused-on {b} law small = let h = bounds.few-variables small in (h, le-ltb mostVariables (variableCount b) h, bounds.list-right b law)
+never-refused-on {b} law bounded = let h = bounds.few-variables bounded in (h, le-ltb mostVariables (variableCount b) h, bounds.list-not-wrong b law)
 
 -- .. as is that of each grid with sides to 45 and numbers to 44 ..
-pub small-board : (p : Puzzle) → p .grid .rows ≤ 45 → p .grid .columns ≤ 45 → Filled p → All (λ c. sizes.numberOf c ≤ 44) (p .cells) → Small (board p)
-small-board = sizes.small-board
+pub bounded-board : (p : Puzzle) → p .grid .rows ≤ 45 → p .grid .columns ≤ 45 → Filled p → All (λ c. sizes.numberOf c ≤ 44) (p .cells) → BoundedBoard (board p)
+bounded-board = sizes.bounded-board
 
 -- .. and so of an accepted record.
 pub never-refused : (s : List ℕ) → IsAccepted s
     → (variableCount (boardOf s) ≤ mostVariables) × (tooManyVariables (variableCount (boardOf s)) ≡ false)
     × (wrongList (variableCount (boardOf s)) (clauseList (boardOf s)) ≡ none)
-never-refused s acc = never-refused-on (accepted-laws s acc) (sizes.accepted-small s acc)
+never-refused s acc = never-refused-on (accepted-laws s acc) (sizes.accepted-bounded s acc)
 
 -- The number of clauses that the encoder tells is the number of those that its list has.
-pub clauses-outcome : (b : Board) → clauseCount (clauseList b) ≡ length (clauses b)
-clauses-outcome = bounds.count-clauses
+pub clause-count : (b : Board) → clauseCount (clauseList b) ≡ length (clauses b)
+clause-count = bounds.clause-count
 
 -- 4. T and the judge's count of a line, side by side (document 02, E3). Of an assignment that satisfies the clauses and the drawing that it decodes to, and a
 -- clue

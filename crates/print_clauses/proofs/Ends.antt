@@ -12,7 +12,7 @@ use Rattle.rules.specs.Board.{boardOf}
 use Rattle.dimacs.specs.Text.{lines, headerLine, textOf}
 use Rattle.encoder.specs.Variables.{variableCount}
 use Rattle.encoder.specs.Clauses.{clauseList}
-use Rattle.encoder.proofs.Bounds.{count-clauses}
+use Rattle.encoder.proofs.Bounds.{clause-count}
 use Rattle.encoder_size.specs.declared.Counts.{Counts}
 use Rattle.encoder_call.specs.Answer.{countsOutcome}
 use Rattle.program_text.specs.Programs.{mostHeld, printedClauses}
@@ -27,7 +27,7 @@ module _ {s : List ℕ} {new : List ℤ} {c : Counts} (w : Encodes s (countsOutc
 
   is-text : put ≡ textOf (variableCount (boardOf s)) (clauseList (boardOf s))
   is-text =
-      λ i. headerLine (variables w refl i) ((ap (λ (t : Outcome). t .third) (counted w refl) ∙ sym (count-clauses (boardOf s))) i) ++ lines (listed w refl i)
+      λ i. headerLine (variables w refl i) ((ap (λ (t : Outcome). t .third) (counted w refl) ∙ sym (clause-count (boardOf s))) i) ++ lines (listed w refl i)
 
   module _ (h : c .variables ≤ mostHeld) where
     pub listed-fits : length (headerLine (c .variables) (c .clauses)) + length (lines (take (c .elements) new)) < 2 ^ 64

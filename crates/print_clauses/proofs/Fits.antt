@@ -16,7 +16,8 @@ use Rattle.text.proofs.Decimals.{digits-few}
 use Rattle.dimacs_writer.proofs.Lines.{header-length}
 use Rattle.encoder.specs.Variables.{variableCount}
 use Rattle.encoder.specs.Clauses.{clauseList}
-use Rattle.encoder.proofs.Bounds.{Right, list-within}
+use Rattle.encoder.specs.Bounds.{NotBeyond}
+use Rattle.encoder.proofs.Bounds.{list-not-beyond}
 use Rattle.program_text.specs.Programs.{mostElements, mostHeld, programNumber, printedClauses}
 use Rattle.program_text.proofs.Limits.{unrefused, printed-fits}
 
@@ -25,7 +26,7 @@ signed-short : (l : ℤ) → natAbs l ≤ mostHeld → length (signed l) ≤ 5
 signed-short (pos n) h = let d = digits-few 3 n (omega arith) in omega arith
 signed-short (negsuc n) h = let d = digits-few 3 (suc n) (omega arith) in omega arith
 
-lines-short : (v : ℕ) (ls : List ℤ) → v ≤ mostHeld → All (Right v) ls → length (lines ls) ≤ length ls * 6
+lines-short : (v : ℕ) (ls : List ℤ) → v ≤ mostHeld → All (NotBeyond v) ls → length (lines ls) ≤ length ls * 6
 unfolding lines
 lines-short v [] few h = omega arith
 lines-short v (l ∷ ls) few h =
@@ -35,7 +36,7 @@ lines-short v (l ∷ ls) few h =
     let i = lines-short v ls few (h .1) in
     omega arith
 
-text-short : (v : ℕ) (ls : List ℤ) → v ≤ mostHeld → length ls ≤ mostElements → All (Right v) ls → length (textOf v ls) ≤ 65536
+text-short : (v : ℕ) (ls : List ℤ) → v ≤ mostHeld → length ls ≤ mostElements → All (NotBeyond v) ls → length (textOf v ls) ≤ 65536
 text-short v ls few short h =
     let a = length-append (headerLine v (clauseCount ls)) (lines ls) in
     let m = many-most closes ls in
@@ -47,7 +48,7 @@ text-short v ls few short h =
 pub text-fits : (s : List ℕ) → programNumber s ≡ 0 → length (textOf (variableCount (boardOf s)) (clauseList (boardOf s))) ≤ 65536
 text-fits s e =
     let (a, short, few) = unrefused s e in
-    text-short (variableCount (boardOf s)) (clauseList (boardOf s)) few short (list-within (boardOf s) (accepted-laws s a))
+    text-short (variableCount (boardOf s)) (clauseList (boardOf s)) few short (list-not-beyond (boardOf s) (accepted-laws s a))
 
 pub clauses-fit : (s : List ℕ) → length (printedClauses s) ≤ 65536
 clauses-fit s = printed-fits s _ 65536 (omega arith) (text-fits s)

@@ -3,7 +3,7 @@ use native.Mathlib.Omega.{arith}
 use lib.ListN.{replicate}
 use Rattle.encoder_numbers.specs.Tables.{tableLength}
 use Rattle.encoder_numbers.proofs.FilledTable.{tables-filled}
-use Rattle.encoder_call.proofs.Ends.{writable, ends-short, ends-listed}
+use Rattle.encoder_call.proofs.Ends.{list-limits, ends-short, ends-listed}
 use borrow.Author.Needs.{needs}
 use Rattle.encoder_call.proofs.encode_grid.Statement.{statement}
 use Rattle.encoder_call.proofs.encode_grid.Tie as tie
@@ -24,7 +24,7 @@ all-families-requires : tie.Need-all-families-requires
 all-families-requires c κs =
     let h = c .before .before .before .before .before .before .before .pre .0 in
     let f = c .before .before .before .fill .ensures in
-    (writable h, tables-filled (h .recordFits) (replicate tableLength 0) (omega (arith, h .recordFits .sides .few)) (f .0) (f .1))
+    (list-limits h, tables-filled (h .recordFits) (replicate tableLength 0) (omega (arith, h .recordFits .sides .few)) (f .0) (f .1))
 
 same-length : tie.Need-same-length
 same-length c = search needs

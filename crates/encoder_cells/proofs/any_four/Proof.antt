@@ -12,17 +12,17 @@ start c = begun (c .args .list .now) (c .pre)
 abbrev p1 : tie.After-put → Progress
 p1 c = part-on (start (c .before .before)) (c .put .ensures)
 
-abbrev p2 : tie.After-literal-if → Progress
-p2 c = part-on (p1 (c .before .before .before)) (c .literal-if .ensures)
+abbrev p2 : tie.After-literal-if-present → Progress
+p2 c = part-on (p1 (c .before .before .before)) (c .literal-if-present .ensures)
 
-abbrev p3 : tie.After-literal-if2 → Progress
-p3 c = part-on (p2 (c .before .before .before)) (c .literal-if2 .ensures)
+abbrev p3 : tie.After-literal-if-present2 → Progress
+p3 c = part-on (p2 (c .before .before .before)) (c .literal-if-present2 .ensures)
 
-abbrev p4 : tie.After-literal-if3 → Progress
-p4 c = part-on (p3 (c .before .before .before)) (c .literal-if3 .ensures)
+abbrev p4 : tie.After-literal-if-present3 → Progress
+p4 c = part-on (p3 (c .before .before .before)) (c .literal-if-present3 .ensures)
 
-abbrev p5 : tie.After-literal-if4 → Progress
-p5 c = part-on (p4 (c .before .before .before)) (c .literal-if4 .ensures)
+abbrev p5 : tie.After-literal-if-present4 → Progress
+p5 c = part-on (p4 (c .before .before .before)) (c .literal-if-present4 .ensures)
 
 abbrev p6 : tie.After-put2 → Progress
 p6 c = part-on (p5 (c .before .before .before)) (c .put2 .ensures)
@@ -30,17 +30,17 @@ p6 c = part-on (p5 (c .before .before .before)) (c .put2 .ensures)
 put-requires : tie.Need-put-requires
 put-requires c κs = put-needs (part-needs (start (c .before)))
 
-literal-if-requires : tie.Need-literal-if-requires
-literal-if-requires c κs = part-needs (p1 (c .before .before))
+literal-if-present-requires : tie.Need-literal-if-present-requires
+literal-if-present-requires c κs = part-needs (p1 (c .before .before))
 
-literal-if-requires-2 : tie.Need-literal-if-requires-2
-literal-if-requires-2 c κs = part-needs (p2 (c .before .before))
+literal-if-present-requires-2 : tie.Need-literal-if-present-requires-2
+literal-if-present-requires-2 c κs = part-needs (p2 (c .before .before))
 
-literal-if-requires-3 : tie.Need-literal-if-requires-3
-literal-if-requires-3 c κs = part-needs (p3 (c .before .before))
+literal-if-present-requires-3 : tie.Need-literal-if-present-requires-3
+literal-if-present-requires-3 c κs = part-needs (p3 (c .before .before))
 
-literal-if-requires-4 : tie.Need-literal-if-requires-4
-literal-if-requires-4 c κs = part-needs (p4 (c .before .before))
+literal-if-present-requires-4 : tie.Need-literal-if-present-requires-4
+literal-if-present-requires-4 c κs = part-needs (p4 (c .before .before))
 
 put-requires-2 : tie.Need-put-requires-2
 put-requires-2 c κs = put-needs (part-needs (p5 (c .before .before)))
@@ -56,10 +56,10 @@ any-four-spec =
     tie.close
     (tie.spec
     put-requires
-    literal-if-requires
-    literal-if-requires-2
-    literal-if-requires-3
-    literal-if-requires-4
+    literal-if-present-requires
+    literal-if-present-requires-2
+    literal-if-present-requires-3
+    literal-if-present-requires-4
     put-requires-2
     same-length
     returns)

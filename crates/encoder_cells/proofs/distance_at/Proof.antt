@@ -65,7 +65,7 @@ each-not-both-requires-2 : tie.Need-each-not-both-requires-2
 each-not-both-requires-2 c κs = part-needs (p4 (c .before .before .before))
 
 all-nearer-requires : tie.Need-all-nearer-requires
-all-nearer-requires c κs = (record { writable = part-needs (p5 (c .before .before)) }, s5 (c .before .before) .pre .1)
+all-nearer-requires c κs = (record { limits = part-needs (p5 (c .before .before)) }, s5 (c .before .before) .pre .1)
 
 same-length : tie.Need-same-length
 same-length c = search needs

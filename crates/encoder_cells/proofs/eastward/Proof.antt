@@ -12,8 +12,8 @@ start c = begun (c .args .list .now) (c .pre)
 abbrev p1 : tie.After-put-not → Progress
 p1 c = part-on (start (c .before .before)) (c .put-not .ensures)
 
-abbrev p2 : tie.After-literal-if → Progress
-p2 c = part-on (p1 (c .before .before .before)) (c .literal-if .ensures)
+abbrev p2 : tie.After-literal-if-present → Progress
+p2 c = part-on (p1 (c .before .before .before)) (c .literal-if-present .ensures)
 
 abbrev p3 : tie.After-put → Progress
 p3 c = part-on (p2 (c .before .before .before)) (c .put .ensures)
@@ -21,8 +21,8 @@ p3 c = part-on (p2 (c .before .before .before)) (c .put .ensures)
 put-not-requires : tie.Need-put-not-requires
 put-not-requires c κs = not-needs (part-needs (start (c .before)))
 
-literal-if-requires : tie.Need-literal-if-requires
-literal-if-requires c κs = part-needs (p1 (c .before .before))
+literal-if-present-requires : tie.Need-literal-if-present-requires
+literal-if-present-requires c κs = part-needs (p1 (c .before .before))
 
 put-requires : tie.Need-put-requires
 put-requires c κs = put-needs (part-needs (p2 (c .before .before)))
@@ -38,7 +38,7 @@ eastward-spec =
     tie.close
     (tie.spec
     put-not-requires
-    literal-if-requires
+    literal-if-present-requires
     put-requires
     same-length
     returns)

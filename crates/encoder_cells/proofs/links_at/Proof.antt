@@ -28,22 +28,22 @@ abbrev p6 : tie.After-one-ways → Progress
 p6 c = part-on (p5 (c .before .before .before)) (c .one-ways .ensures)
 
 all-white-ends-requires : tie.Need-all-white-ends-requires
-all-white-ends-requires c κs = record { writable = part-needs (start (c .before)) }
+all-white-ends-requires c κs = record { limits = part-needs (start (c .before)) }
 
 any-four-requires : tie.Need-any-four-requires
-any-four-requires c κs = record { writable = part-needs (p1 (c .before .before)) }
+any-four-requires c κs = record { limits = part-needs (p1 (c .before .before)) }
 
 pairs-four-requires : tie.Need-pairs-four-requires
-pairs-four-requires c κs = record { writable = part-needs (p2 (c .before .before)) }
+pairs-four-requires c κs = record { limits = part-needs (p2 (c .before .before)) }
 
 any-four-requires-2 : tie.Need-any-four-requires-2
-any-four-requires-2 c κs = record { writable = part-needs (p3 (c .before .before)) }
+any-four-requires-2 c κs = record { limits = part-needs (p3 (c .before .before)) }
 
 pairs-four-requires-2 : tie.Need-pairs-four-requires-2
-pairs-four-requires-2 c κs = record { writable = part-needs (p4 (c .before .before)) }
+pairs-four-requires-2 c κs = record { limits = part-needs (p4 (c .before .before)) }
 
 one-ways-requires : tie.Need-one-ways-requires
-one-ways-requires c κs = record { writable = part-needs (p5 (c .before .before)) }
+one-ways-requires c κs = record { limits = part-needs (p5 (c .before .before)) }
 
 same-length : tie.Need-same-length
 same-length c = search needs

@@ -9,17 +9,17 @@ use Rattle.encoder_cells.proofs.one_ways.Tie as tie
 abbrev start : tie.Start → Progress
 start c = begun (c .args .list .now) (c .pre)
 
-abbrev p1 : tie.After-not-both-if → Progress
-p1 c = part-on (start (c .before .before)) (c .not-both-if .ensures)
+abbrev p1 : tie.After-not-both-if-present → Progress
+p1 c = part-on (start (c .before .before)) (c .not-both-if-present .ensures)
 
-abbrev p2 : tie.After-not-both-if2 → Progress
-p2 c = part-on (p1 (c .before .before .before)) (c .not-both-if2 .ensures)
+abbrev p2 : tie.After-not-both-if-present2 → Progress
+p2 c = part-on (p1 (c .before .before .before)) (c .not-both-if-present2 .ensures)
 
-not-both-if-requires : tie.Need-not-both-if-requires
-not-both-if-requires c κs = part-needs (start (c .before))
+not-both-if-present-requires : tie.Need-not-both-if-present-requires
+not-both-if-present-requires c κs = part-needs (start (c .before))
 
-not-both-if-requires-2 : tie.Need-not-both-if-requires-2
-not-both-if-requires-2 c κs = part-needs (p1 (c .before .before))
+not-both-if-present-requires-2 : tie.Need-not-both-if-present-requires-2
+not-both-if-present-requires-2 c κs = part-needs (p1 (c .before .before))
 
 same-length : tie.Need-same-length
 same-length c = search needs
@@ -28,4 +28,4 @@ returns : tie.Need-returns
 returns c = parts-end (p2 (c .before)) refl
 
 pub one-ways-spec : {M : Type 1} → statement M
-one-ways-spec = tie.close (tie.spec not-both-if-requires not-both-if-requires-2 same-length returns)
+one-ways-spec = tie.close (tie.spec not-both-if-present-requires not-both-if-present-requires-2 same-length returns)

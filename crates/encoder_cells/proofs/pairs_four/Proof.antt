@@ -9,41 +9,41 @@ use Rattle.encoder_cells.proofs.pairs_four.Tie as tie
 abbrev start : tie.Start → Progress
 start c = begun (c .args .list .now) (c .pre)
 
-abbrev p1 : tie.After-not-both-if → Progress
-p1 c = part-on (start (c .before .before)) (c .not-both-if .ensures)
+abbrev p1 : tie.After-not-both-if-present → Progress
+p1 c = part-on (start (c .before .before)) (c .not-both-if-present .ensures)
 
-abbrev p2 : tie.After-not-both-if2 → Progress
-p2 c = part-on (p1 (c .before .before .before)) (c .not-both-if2 .ensures)
+abbrev p2 : tie.After-not-both-if-present2 → Progress
+p2 c = part-on (p1 (c .before .before .before)) (c .not-both-if-present2 .ensures)
 
-abbrev p3 : tie.After-not-both-if3 → Progress
-p3 c = part-on (p2 (c .before .before .before)) (c .not-both-if3 .ensures)
+abbrev p3 : tie.After-not-both-if-present3 → Progress
+p3 c = part-on (p2 (c .before .before .before)) (c .not-both-if-present3 .ensures)
 
-abbrev p4 : tie.After-not-both-if4 → Progress
-p4 c = part-on (p3 (c .before .before .before)) (c .not-both-if4 .ensures)
+abbrev p4 : tie.After-not-both-if-present4 → Progress
+p4 c = part-on (p3 (c .before .before .before)) (c .not-both-if-present4 .ensures)
 
-abbrev p5 : tie.After-not-both-if5 → Progress
-p5 c = part-on (p4 (c .before .before .before)) (c .not-both-if5 .ensures)
+abbrev p5 : tie.After-not-both-if-present5 → Progress
+p5 c = part-on (p4 (c .before .before .before)) (c .not-both-if-present5 .ensures)
 
-abbrev p6 : tie.After-not-both-if6 → Progress
-p6 c = part-on (p5 (c .before .before .before)) (c .not-both-if6 .ensures)
+abbrev p6 : tie.After-not-both-if-present6 → Progress
+p6 c = part-on (p5 (c .before .before .before)) (c .not-both-if-present6 .ensures)
 
-not-both-if-requires : tie.Need-not-both-if-requires
-not-both-if-requires c κs = part-needs (start (c .before))
+not-both-if-present-requires : tie.Need-not-both-if-present-requires
+not-both-if-present-requires c κs = part-needs (start (c .before))
 
-not-both-if-requires-2 : tie.Need-not-both-if-requires-2
-not-both-if-requires-2 c κs = part-needs (p1 (c .before .before))
+not-both-if-present-requires-2 : tie.Need-not-both-if-present-requires-2
+not-both-if-present-requires-2 c κs = part-needs (p1 (c .before .before))
 
-not-both-if-requires-3 : tie.Need-not-both-if-requires-3
-not-both-if-requires-3 c κs = part-needs (p2 (c .before .before))
+not-both-if-present-requires-3 : tie.Need-not-both-if-present-requires-3
+not-both-if-present-requires-3 c κs = part-needs (p2 (c .before .before))
 
-not-both-if-requires-4 : tie.Need-not-both-if-requires-4
-not-both-if-requires-4 c κs = part-needs (p3 (c .before .before))
+not-both-if-present-requires-4 : tie.Need-not-both-if-present-requires-4
+not-both-if-present-requires-4 c κs = part-needs (p3 (c .before .before))
 
-not-both-if-requires-5 : tie.Need-not-both-if-requires-5
-not-both-if-requires-5 c κs = part-needs (p4 (c .before .before))
+not-both-if-present-requires-5 : tie.Need-not-both-if-present-requires-5
+not-both-if-present-requires-5 c κs = part-needs (p4 (c .before .before))
 
-not-both-if-requires-6 : tie.Need-not-both-if-requires-6
-not-both-if-requires-6 c κs = part-needs (p5 (c .before .before))
+not-both-if-present-requires-6 : tie.Need-not-both-if-present-requires-6
+not-both-if-present-requires-6 c κs = part-needs (p5 (c .before .before))
 
 same-length : tie.Need-same-length
 same-length c = search needs
@@ -55,11 +55,11 @@ pub pairs-four-spec : {M : Type 1} → statement M
 pairs-four-spec =
     tie.close
     (tie.spec
-    not-both-if-requires
-    not-both-if-requires-2
-    not-both-if-requires-3
-    not-both-if-requires-4
-    not-both-if-requires-5
-    not-both-if-requires-6
+    not-both-if-present-requires
+    not-both-if-present-requires-2
+    not-both-if-present-requires-3
+    not-both-if-present-requires-4
+    not-both-if-present-requires-5
+    not-both-if-present-requires-6
     same-length
     returns)

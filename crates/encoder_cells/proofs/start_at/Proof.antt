@@ -25,7 +25,7 @@ each-implies-requires : tie.Need-each-implies-requires
 each-implies-requires c κs = part-needs (p1 (c .before .before))
 
 eastward-requires : tie.Need-eastward-requires
-eastward-requires c κs = record { writable = part-needs (p2 (c .before .before)) }
+eastward-requires c κs = record { limits = part-needs (p2 (c .before .before)) }
 
 same-length : tie.Need-same-length
 same-length c = search needs

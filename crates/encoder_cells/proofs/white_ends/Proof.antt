@@ -5,7 +5,7 @@ use mathlib.Core.Path.{refl}
 use mathlib.Core.List.{List, [], _∷_, _++_}
 use Rattle.encoder_shapes.specs.Shapes.{notBoth}
 use Rattle.encoder_shapes.proofs.Written.{Progress, in-parts, begun, part-needs, part-on, parts-end}
-use Rattle.encoder_cells.proofs.Optional.{absent-wrote, there-writable, there-wrote}
+use Rattle.encoder_cells.proofs.Present.{absent-wrote, present-limits, present-wrote}
 use borrow.Author.Needs.{needs}
 use Rattle.encoder_cells.proofs.white_ends.Statement.{statement}
 use Rattle.encoder_cells.proofs.white_ends.Tie as tie
@@ -21,7 +21,7 @@ clauses c = notBoth (out c) (c .args .z) ++ notBoth (out c) (c .args .y .black)
 
 -- what is written after each call, and what is left
 abbrev there : tie.Else1 → Progress
-there c = let s = c .before .before in begun (s .args .list .now) (in-parts (ends s) (there-writable (out s) (clauses s) (c .if1 .left) (s .pre)))
+there c = let s = c .before .before in begun (s .args .list .now) (in-parts (ends s) (present-limits (out s) (clauses s) (c .if1 .left) (s .pre)))
 
 abbrev p1 : tie.After-not-both → Progress
 p1 c = part-on (there (c .before .before)) (c .not-both .ensures)
@@ -45,7 +45,7 @@ returns-2 : tie.Need-returns-2
 returns-2 c =
     let k = c .before in
     let s = k .before .before .before .before .before .before .before in
-    there-wrote (out s) (clauses s) (k .before .before .before .before .before .if1 .left) (parts-end (p2 k) refl)
+    present-wrote (out s) (clauses s) (k .before .before .before .before .before .if1 .left) (parts-end (p2 k) refl)
 
 pub white-ends-spec : {M : Type 1} → statement M
 white-ends-spec = tie.close (tie.spec returns not-both-requires not-both-requires-2 same-length returns-2)

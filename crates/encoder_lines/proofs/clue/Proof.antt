@@ -5,13 +5,12 @@ use lib.ListN.{length}
 use mathlib.Core.Path.{_≡_, refl, sym, ap}
 use Rattle.answers.proofs.Lent.{wrote-recast}
 use Rattle.rules.specs.Record.{puzzle}
-use Rattle.rules.specs.Board.{line}
 use Rattle.cnf.specs.Literals.{mostVariables}
 use Rattle.encoder_shapes.specs.Shapes.{unit}
 use Rattle.encoder_lines.specs.Line.{blacksOf, LineEnd}
 use Rattle.encoder_lines.proofs.Family.{last-is, last-few}
 use borrow.Author.Needs.{needs}
-use Rattle.encoder_shapes.proofs.Written.{writable-recast, Progress, begun, part-needs, part-on, parts-end}
+use Rattle.encoder_shapes.proofs.Written.{limits-recast, Progress, begun, part-needs, part-on, parts-end}
 use Rattle.encoder_lines.proofs.clue.Statement.{statement}
 use Rattle.encoder_lines.proofs.clue.Tie as tie
 
@@ -64,7 +63,7 @@ abbrev p4 : tie.After-unit2 → Progress
 p4 c = part-on (p3 (c .before .before .before)) (wrote-recast (ap unit (last (e3 (c .before .before .before)))) (c .unit2 .ensures))
 
 first-small : (c : tie.Start) → c .args .first ≤ mostVariables
-first-small c = part-needs (start c) .right .0
+first-small c = part-needs (start c) .literals .0
 
 last-small : (c : tie.After-line-end) → let s = c .before .before .before in c .line-end .result .cells * (s .args .n + 1) ≤ 576 * 256
 last-small c =
@@ -101,7 +100,7 @@ add-unit-3 : tie.Need-add-unit-3
 add-unit-3 c = let h = first-small (s3 (c .before .before)) in omega (arith, last-small (e3 (c .before .before)), s3 (c .before .before) .pre .1 .1 .1)
 
 unit-requires-2 : tie.Need-unit-requires-2
-unit-requires-2 c κs = writable-recast (ap unit (sym (last (e3 (c .before .before))))) (part-needs (p3 (c .before .before)))
+unit-requires-2 c κs = limits-recast (ap unit (sym (last (e3 (c .before .before))))) (part-needs (p3 (c .before .before)))
 
 same-length : tie.Need-same-length
 same-length c = search needs

@@ -4,8 +4,8 @@ use Rattle.answers.proofs.Lent.{wrote-nothing, wrote-recast}
 use Rattle.rules.specs.Record.{puzzle}
 use Rattle.rules.specs.Board.{gridBoard}
 use Rattle.answers.specs.Lists.{joined}
-use Rattle.encoder.proofs.ClauseLists.{listOf}
-use Rattle.encoder_shapes.proofs.Written.{writable-recast}
+use Rattle.encoder.specs.Clauses.{listOf}
+use Rattle.encoder_shapes.proofs.Written.{limits-recast}
 use Rattle.encoder_lines.specs.Line.{blacksOf, clueNumbers, clueAt}
 use Rattle.encoder_lines.proofs.Family.{clue-none, clue-some}
 use borrow.Author.Needs.{needs}
@@ -46,7 +46,7 @@ cast-clue c = search needs
 clue-requires : tie.Need-clue-requires
 clue-requires c κs =
     let s = c .before .before .before .before .before .before .before .before in
-    (record { writable = writable-recast (is-clue (c .before)) (s .pre .0) }, (s .pre .1 .0, (s .pre .1 .1, search needs)))
+    (record { limits = limits-recast (is-clue (c .before)) (s .pre .0) }, (s .pre .1 .0, (s .pre .1 .1, search needs)))
 
 same-length : tie.Need-same-length
 same-length c = search needs

@@ -5,8 +5,8 @@ use mathlib.Core.Path.{sym}
 use Rattle.answers.proofs.Lent.{wrote-recast}
 use Rattle.rules.specs.Record.{puzzle}
 use Rattle.rules.specs.Board.{gridBoard}
-use Rattle.encoder.proofs.ClauseLists.{listOf}
-use Rattle.encoder_shapes.proofs.Written.{writable-recast, Writing, write-start, write-needs, write-on, write-end, write-kept}
+use Rattle.encoder.specs.Clauses.{listOf}
+use Rattle.encoder_shapes.proofs.Written.{limits-recast, Writing, write-start, write-needs, write-on, write-end, write-kept}
 use Rattle.encoder_lines.specs.Line.{clueAt}
 use Rattle.encoder_lines.proofs.Family.{lines-each}
 use borrow.Author.Needs.{needs}
@@ -24,7 +24,7 @@ size-requires : tie.Need-size-requires Inv-loop μ-loop
 size-requires c κs = c .before .before .pre .1 .recordFits .sides
 
 loop-holds : tie.Need-loop-holds Inv-loop μ-loop
-loop-holds c = let s = c .before .before .before in write-start (writable-recast (lines-each (s .pre .1 .recordFits) (c .size .ensures)) (s .pre .0))
+loop-holds c = let s = c .before .before .before in write-start (limits-recast (lines-each (s .pre .1 .recordFits) (c .size .ensures)) (s .pre .0))
 
 clue-at-requires : tie.Need-clue-at-requires Inv-loop μ-loop
 clue-at-requires c κs = (

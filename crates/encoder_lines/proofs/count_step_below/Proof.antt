@@ -19,13 +19,13 @@ loop-holds c = write-start (c .pre)
 
 add-count-step-both : tie.Need-add-count-step-both Inv-loop μ-loop
 add-count-step-both c =
-    omega (arith, no-small (c .before .before .before .args .row + (c .before .before .loop .k)) ((write-needs (c .before .before .loop .inv) (c .before .loop-test .taken)) .right .0))
+    omega (arith, no-small (c .before .before .before .args .row + (c .before .before .loop .k)) ((write-needs (c .before .before .loop .inv) (c .before .loop-test .taken)) .literals .0))
 
 add-count-step-both-2 : tie.Need-add-count-step-both-2 Inv-loop μ-loop
-add-count-step-both-2 c = let h = (write-needs (c .before .before .loop .inv) (c .before .loop-test .taken)) .right .1 .1 .0 in omega arith
+add-count-step-both-2 c = let h = (write-needs (c .before .before .loop .inv) (c .before .loop-test .taken)) .literals .1 .1 .0 in omega arith
 
 count-step-both-requires : tie.Need-count-step-both-requires Inv-loop μ-loop
-count-step-both-requires c κs = record { writable = write-needs (c .before .before .loop .inv) (c .before .loop-test .taken) }
+count-step-both-requires c κs = record { limits = write-needs (c .before .before .loop .inv) (c .before .loop-test .taken) }
 
 add-k : tie.Need-add-k Inv-loop μ-loop
 add-k c = search needs

@@ -24,7 +24,7 @@ implies-either-requires : tie.Need-implies-either-requires
 implies-either-requires c κs = part-needs (start (c .before))
 
 add-both-imply : tie.Need-add-both-imply
-add-both-imply c = let h = part-needs (start (s1 (c .before .before))) .right .1 .1 .0 in omega arith
+add-both-imply c = let h = part-needs (start (s1 (c .before .before))) .literals .1 .1 .0 in omega arith
 
 both-imply-requires : tie.Need-both-imply-requires
 both-imply-requires c κs = part-needs (p1 (c .before .before))

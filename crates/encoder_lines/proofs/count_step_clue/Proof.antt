@@ -18,10 +18,10 @@ loop-holds c = write-start (c .pre)
 
 add-implies : tie.Need-add-implies Inv-loop μ-loop
 add-implies c =
-    omega (arith, no-small (c .before .before .before .args .row + (c .before .before .loop .k)) ((write-needs (c .before .before .loop .inv) (c .before .loop-test .taken)) .right .0))
+    omega (arith, no-small (c .before .before .before .args .row + (c .before .before .loop .k)) ((write-needs (c .before .before .loop .inv) (c .before .loop-test .taken)) .literals .0))
 
 add-implies-2 : tie.Need-add-implies-2 Inv-loop μ-loop
-add-implies-2 c = let h = (write-needs (c .before .before .loop .inv) (c .before .loop-test .taken)) .right .1 .0 in omega arith
+add-implies-2 c = let h = (write-needs (c .before .before .loop .inv) (c .before .loop-test .taken)) .literals .1 .0 in omega arith
 
 implies-requires : tie.Need-implies-requires Inv-loop μ-loop
 implies-requires c κs = write-needs (c .before .before .loop .inv) (c .before .loop-test .taken)

@@ -32,16 +32,16 @@ count-step-below-requires c κs = part-needs (start (c .before))
 
 add-implies-either : tie.Need-add-implies-either
 add-implies-either c =
-    omega (arith, no-small (c .before .before .before .before .args .row + c .before .before .before .before .args .n) (part-needs (p1 (c .before .before)) .right .0))
+    omega (arith, no-small (c .before .before .before .before .args .row + c .before .before .before .before .args .n) (part-needs (p1 (c .before .before)) .literals .0))
 
 add-implies-either-2 : tie.Need-add-implies-either-2
-add-implies-either-2 c = let h = part-needs (p1 (c .before .before)) .right .1 .1 .0 in omega arith
+add-implies-either-2 c = let h = part-needs (p1 (c .before .before)) .literals .1 .1 .0 in omega arith
 
 implies-either-requires : tie.Need-implies-either-requires
 implies-either-requires c κs = part-needs (p1 (c .before .before))
 
 add-not-both : tie.Need-add-not-both
-add-not-both c = let s = s2 (c .before .before) in omega (arith, no-small (s .args .row + s .args .n) (part-needs (p2 (c .before .before)) .right .0))
+add-not-both c = let s = s2 (c .before .before) in omega (arith, no-small (s .args .row + s .args .n) (part-needs (p2 (c .before .before)) .literals .0))
 
 not-both-requires : tie.Need-not-both-requires
 not-both-requires c κs = part-needs (p2 (c .before .before))

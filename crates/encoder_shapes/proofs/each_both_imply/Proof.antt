@@ -18,10 +18,10 @@ loop-holds c = write-start (c .pre)
 
 add-both-imply : tie.Need-add-both-imply Inv-loop μ-loop
 add-both-imply c =
-    omega (arith, no-small (c .before .before .before .args .b + c .before .before .loop .k) ((write-needs (c .before .before .loop .inv) (c .before .loop-test .taken)) .right .1 .0))
+    omega (arith, no-small (c .before .before .before .args .b + c .before .before .loop .k) ((write-needs (c .before .before .loop .inv) (c .before .loop-test .taken)) .literals .1 .0))
 
 add-both-imply-2 : tie.Need-add-both-imply-2 Inv-loop μ-loop
-add-both-imply-2 c = let h = (write-needs (c .before .before .loop .inv) (c .before .loop-test .taken)) .right .1 .1 .0 in omega arith
+add-both-imply-2 c = let h = (write-needs (c .before .before .loop .inv) (c .before .loop-test .taken)) .literals .1 .1 .0 in omega arith
 
 both-imply-requires : tie.Need-both-imply-requires Inv-loop μ-loop
 both-imply-requires c κs = write-needs (c .before .before .loop .inv) (c .before .loop-test .taken)

@@ -17,7 +17,7 @@ loop-holds : tie.Need-loop-holds Inv-loop μ-loop
 loop-holds c = write-start (c .pre)
 
 add-implies : tie.Need-add-implies Inv-loop μ-loop
-add-implies c = let h = (write-needs (c .before .before .loop .inv) (c .before .loop-test .taken)) .right .1 .0 in omega arith
+add-implies c = let h = (write-needs (c .before .before .loop .inv) (c .before .loop-test .taken)) .literals .1 .0 in omega arith
 
 implies-requires : tie.Need-implies-requires Inv-loop μ-loop
 implies-requires c κs = write-needs (c .before .before .loop .inv) (c .before .loop-test .taken)

@@ -18,7 +18,7 @@ loop-holds c = write-start (c .pre)
 
 add-not-both : tie.Need-add-not-both Inv-loop μ-loop
 add-not-both c =
-    omega (arith, no-small (c .before .before .before .args .first + c .before .before .loop .k) ((write-needs (c .before .before .loop .inv) (c .before .loop-test .taken)) .right .1 .0))
+    omega (arith, no-small (c .before .before .before .args .first + c .before .before .loop .k) ((write-needs (c .before .before .loop .inv) (c .before .loop-test .taken)) .literals .1 .0))
 
 not-both-requires : tie.Need-not-both-requires Inv-loop μ-loop
 not-both-requires c κs = write-needs (c .before .before .loop .inv) (c .before .loop-test .taken)

@@ -18,7 +18,7 @@ loop-holds : tie.Need-loop-holds Inv-loop μ-loop
 loop-holds c = write-start (c .pre)
 
 add-put : tie.Need-add-put Inv-loop μ-loop
-add-put c = let h = (write-needs (c .before .before .loop .inv) (c .before .loop-test .taken)) .right .0 in omega arith
+add-put c = let h = (write-needs (c .before .before .loop .inv) (c .before .loop-test .taken)) .literals .0 in omega arith
 
 put-requires : tie.Need-put-requires Inv-loop μ-loop
 put-requires c κs = put-needs (write-needs (c .before .before .loop .inv) (c .before .loop-test .taken))

@@ -1,7 +1,7 @@
 -- `encoder_shapes::or_at_least_one` meets its contract. Assumes nothing.
 use borrow.Author.Needs.{needs}
 use Rattle.answers.proofs.Lent.{wrote-after}
-use Rattle.encoder_shapes.proofs.Written.{put-needs, writable-next}
+use Rattle.encoder_shapes.proofs.Written.{put-needs, limits-next}
 use Rattle.encoder_shapes.proofs.or_at_least_one.Statement.{statement}
 use Rattle.encoder_shapes.proofs.or_at_least_one.Tie as tie
 
@@ -9,7 +9,7 @@ put-requires : tie.Need-put-requires
 put-requires c κs = put-needs (c .before .pre)
 
 at-least-one-requires : tie.Need-at-least-one-requires
-at-least-one-requires c κs = writable-next (c .before .before .before .before .pre) (c .before .before .put .ensures)
+at-least-one-requires c κs = limits-next (c .before .before .before .before .pre) (c .before .before .put .ensures)
 
 same-length : tie.Need-same-length
 same-length c = search needs

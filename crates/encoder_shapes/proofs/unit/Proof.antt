@@ -1,7 +1,7 @@
 -- `encoder_shapes::unit` meets its contract. Assumes nothing.
 use borrow.Author.Needs.{needs}
 use Rattle.answers.proofs.Lent.{wrote-after}
-use Rattle.encoder_shapes.proofs.Written.{put-needs, writable-next}
+use Rattle.encoder_shapes.proofs.Written.{put-needs, limits-next}
 use Rattle.encoder_shapes.proofs.unit.Statement.{statement}
 use Rattle.encoder_shapes.proofs.unit.Tie as tie
 
@@ -9,7 +9,7 @@ put-requires : tie.Need-put-requires
 put-requires c κs = put-needs (c .before .pre)
 
 put-requires-2 : tie.Need-put-requires-2
-put-requires-2 c κs = put-needs (writable-next (c .before .before .before .before .pre) (c .before .before .put .ensures))
+put-requires-2 c κs = put-needs (limits-next (c .before .before .before .before .pre) (c .before .before .put .ensures))
 
 same-length : tie.Need-same-length
 same-length c = search needs

@@ -1,8 +1,8 @@
 -- `encoder_size::all_clauses` meets its contract. Assumes nothing.
 use native.Mathlib.Omega.{arith}
-use Prim.Native.Nat.{_-_, _≤_, _<_}
+use Prim.Native.Nat.{_-_, _<_}
 use mathlib.Core.Path.{ap}
-use Rattle.rules.specs.Record.{size, mostCells}
+use Rattle.rules.specs.Record.{size}
 use Rattle.encoder_numbers.specs.declared.Sizes.{Sizes}
 use Rattle.encoder_numbers.proofs.Neighbours.{few}
 use Rattle.encoder_size.proofs.All.{Adding, adding-start, adding-few, adding-on, adding-end}

@@ -1,6 +1,5 @@
 -- `decoder::drawing::byte_at` meets its contract. Assumes nothing.
 use native.Mathlib.Omega.{arith}
-use Prim.Native.Nat.{_≤_}
 use mathlib.Core.Path.{_≡_, sym, _∙_}
 use mathlib.Core.Bool.{Bool}
 use borrow.Author.Tests.{not-true, not-false}
@@ -9,7 +8,6 @@ use Rattle.encoder.specs.Variables.{Variable, Z, variables, place}
 use Rattle.encoder.specs.Decoding.{drawnLink, valueOf}
 use Rattle.encoder_numbers.specs.Tables.{OpenCell}
 use Rattle.decoder.proofs.Values.{known-inside, value-true, value-false, at-z, byte-clue, byte-black, byte-white, link-sum-small}
-use borrow.Author.Needs.{needs}
 use Rattle.decoder.proofs.drawing.byte_at.Statement.{statement}
 use Rattle.decoder.proofs.drawing.byte_at.Tie as tie
 

@@ -1,12 +1,11 @@
 -- `encoder_call::families::all_families` meets its contract. Assumes nothing.
-use lib.IntN.{ℤ}
 use mathlib.Core.Path.{refl, sym}
-use mathlib.Core.List.{List, map}
+use mathlib.Core.List.{map}
 use Rattle.answers.proofs.Lent.{wrote-recast}
 use Rattle.rules.specs.Board.{Board, gridBoard}
-use Rattle.encoder.specs.Clauses.{families}
-use Rattle.encoder.proofs.ClauseLists.{listOf, list-families}
-use Rattle.encoder_shapes.proofs.Written.{in-parts, writable-recast}
+use Rattle.encoder.specs.Clauses.{families, listOf}
+use Rattle.encoder.proofs.ClauseLists.{list-families}
+use Rattle.encoder_shapes.proofs.Written.{in-parts, limits-recast}
 use borrow.Author.Needs.{needs}
 use Rattle.encoder_shapes.proofs.Written.{Progress, begun, part-needs, part-on, parts-end}
 use Rattle.encoder_call.proofs.families.all_families.Statement.{statement}
@@ -33,7 +32,7 @@ s5 c = s4 (c .before .before .before)
 
 -- what is written after each call, and what is left
 abbrev start : tie.Start → Progress
-start c = begun (c .args .list .now) (in-parts (map (listOf (b c)) (families (b c))) (writable-recast (list-families (b c)) (c .pre .0)))
+start c = begun (c .args .list .now) (in-parts (map (listOf (b c)) (families (b c))) (limits-recast (list-families (b c)) (c .pre .0)))
 
 abbrev p1 : tie.After-cells → Progress
 p1 c = part-on (start (c .before .before .before .before)) (c .cells .ensures)

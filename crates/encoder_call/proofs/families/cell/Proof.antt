@@ -4,8 +4,9 @@ use borrow.Author.Tests.{not-true, not-false}
 use Rattle.answers.proofs.Lent.{wrote-nothing, wrote-recast}
 use Rattle.rules.specs.Board.{gridBoard}
 use Rattle.answers.specs.Lists.{joined}
-use Rattle.encoder.proofs.ClauseLists.{listOf, atCell}
-use Rattle.encoder_shapes.proofs.Written.{writable-recast}
+use Rattle.encoder.specs.Clauses.{listOf}
+use Rattle.encoder.specs.Variables.{atCell}
+use Rattle.encoder_shapes.proofs.Written.{limits-recast}
 use Rattle.encoder_numbers.specs.Tables.{OpenCell}
 use Rattle.encoder_call.specs.Families.{familyAt, familyParts}
 use Rattle.encoder_call.proofs.EachCell.{shut-list, open-list, open-few}
@@ -40,7 +41,7 @@ open-cell-requires : tie.Need-open-cell-requires
 open-cell-requires c κs =
     let k = c .before in
     let s = k .before .before .before .before .before in
-    (record { writable = writable-recast (by-numbers k) (s .pre .0) }, open-few (s .pre .1 .0) (s .args .x) (open-here (k .before)) (k .cell-numbers .ensures))
+    (record { limits = limits-recast (by-numbers k) (s .pre .0) }, open-few (s .pre .1 .0) (s .args .x) (open-here (k .before)) (k .cell-numbers .ensures))
 
 same-length : tie.Need-same-length
 same-length c = search needs

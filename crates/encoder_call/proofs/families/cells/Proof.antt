@@ -1,15 +1,13 @@
 -- `encoder_call::families::cells` meets its contract. Assumes nothing.
 use native.Mathlib.Omega.{arith}
 use Prim.Native.Nat.{_-_}
-use lib.IntN.{ℤ}
 use mathlib.Core.Path.{_≡_, sym}
-use mathlib.Core.List.{List}
 use Rattle.answers.proofs.Lent.{wrote-recast}
 use Rattle.rules.specs.Board.{gridBoard}
 use Rattle.answers.specs.Lists.{upTo, each}
-use Rattle.encoder.specs.Variables.{opens}
-use Rattle.encoder.proofs.ClauseLists.{listOf, atCell}
-use Rattle.encoder_shapes.proofs.Written.{writable-recast, Writing, write-start, write-needs, write-on, write-end, write-kept}
+use Rattle.encoder.specs.Variables.{opens, atCell}
+use Rattle.encoder.specs.Clauses.{listOf}
+use Rattle.encoder_shapes.proofs.Written.{limits-recast, Writing, write-start, write-needs, write-on, write-end, write-kept}
 use Rattle.encoder_call.specs.Families.{familyAt}
 use Rattle.encoder_call.proofs.EachCell.{cells-each}
 use borrow.Author.Needs.{needs}
@@ -36,7 +34,7 @@ size-requires : tie.Need-size-requires Inv-loop μ-loop
 size-requires c κs = c .before .before .pre .1 .recordFits .sides
 
 loop-holds : tie.Need-loop-holds Inv-loop μ-loop
-loop-holds c = write-start (writable-recast (by-cells c) (c .before .before .before .pre .0))
+loop-holds c = write-start (limits-recast (by-cells c) (c .before .before .before .pre .0))
 
 cell-requires : tie.Need-cell-requires Inv-loop μ-loop
 cell-requires c κs = (

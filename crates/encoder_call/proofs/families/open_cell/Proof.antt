@@ -2,8 +2,8 @@
 use mathlib.Core.Path.{_≡_, sym, ap}
 use Rattle.answers.proofs.Lent.{wrote-recast}
 use Rattle.answers.specs.Lists.{joined}
-use Rattle.encoder_shapes.specs.Writable.{Parts}
-use Rattle.encoder_shapes.proofs.Written.{writable-recast}
+use Rattle.encoder_shapes.specs.Limits.{PartsWithinLimits}
+use Rattle.encoder_shapes.proofs.Written.{limits-recast}
 use Rattle.encoder_call.specs.declared.Family.{Family}
 use Rattle.encoder_call.specs.Families.{familyParts}
 use borrow.Author.Needs.{needs}
@@ -11,8 +11,8 @@ use Rattle.encoder_call.proofs.families.open_cell.Statement.{statement}
 use Rattle.encoder_call.proofs.families.open_cell.Tie as tie
 
 -- what the family is known to be
-parts-of : (c : tie.Start) {w : Family} → c .args .«family» ≡ w → Parts (c .args .at) (familyParts w (c .args .f) (c .args .x))
-parts-of c e = record { writable = writable-recast (ap (λ w. joined (familyParts w (c .args .f) (c .args .x))) e) (c .pre .0 .writable) }
+parts-of : (c : tie.Start) {w : Family} → c .args .«family» ≡ w → PartsWithinLimits (c .args .at) (familyParts w (c .args .f) (c .args .x))
+parts-of c e = record { limits = limits-recast (ap (λ w. joined (familyParts w (c .args .f) (c .args .x))) e) (c .pre .0 .limits) }
 
 abbrev back : (c : tie.Start) {w : Family} → c .args .«family» ≡ w
     → joined (familyParts w (c .args .f) (c .args .x)) ≡ joined (familyParts (c .args .«family») (c .args .f) (c .args .x))

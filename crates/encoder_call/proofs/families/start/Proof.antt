@@ -8,10 +8,9 @@ use Rattle.answers.proofs.Lent.{wrote-recast}
 use Rattle.rules.specs.Board.{Board, gridBoard}
 use Rattle.answers.specs.Lists.{each, joined}
 use Rattle.encoder.specs.Variables.{opens}
-use Rattle.encoder.specs.Clauses.{start as startClauses, startAt}
-use Rattle.encoder.proofs.ClauseLists.{listOf}
+use Rattle.encoder.specs.Clauses.{start as startClauses, startAt, listOf}
 use Rattle.encoder_shapes.specs.Shapes.{atLeastOne}
-use Rattle.encoder_shapes.proofs.Written.{in-parts, writable-recast}
+use Rattle.encoder_shapes.proofs.Written.{in-parts, limits-recast}
 use Rattle.encoder_numbers.specs.declared.Sizes.{Sizes}
 use Rattle.encoder_numbers.proofs.Neighbours.{held-laws, few}
 use Rattle.encoder_call.proofs.EachCell.{start-parts}
@@ -35,7 +34,7 @@ s1 c = c .before .before .before .before
 
 -- what is written after each call, and what is left
 abbrev start : tie.Start → Progress
-start c = begun (c .args .list .now) (in-parts (parts c) (writable-recast (is-parts c) (c .pre .0)))
+start c = begun (c .args .list .now) (in-parts (parts c) (limits-recast (is-parts c) (c .pre .0)))
 
 abbrev p1 : tie.After-at-least-one → Progress
 p1 c = part-on (start (c .before .before .before .before)) (c .at-least-one .ensures)

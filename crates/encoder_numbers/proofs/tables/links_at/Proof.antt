@@ -3,7 +3,7 @@ use native.Mathlib.Omega.{arith}
 use mathlib.Core.List.{[], _∷_}
 use Rattle.rules.specs.declared.Direction.the-variants.{West as west}
 use Rattle.rules.specs.Board.{Board, gridBoard}
-use Rattle.encoder.proofs.Places.{earlier}
+use Rattle.encoder.specs.Variables.{earlier}
 use Rattle.encoder.proofs.Bounds.{neighbours-most}
 use Rattle.encoder_numbers.proofs.Numbers.{links-sum}
 use borrow.Author.Needs.{needs}

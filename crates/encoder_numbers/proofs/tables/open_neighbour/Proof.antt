@@ -1,8 +1,6 @@
 -- `encoder_numbers::tables::open_neighbour` meets its contract. Assumes nothing.
-use native.Mathlib.Omega.{arith}
 use mathlib.Core.Path.{_≡_, sym, _∙_, ap}
-use mathlib.Core.Bool.{Bool, true, false, not, cond}
-use mathlib.Core.Option.{none, some}
+use mathlib.Core.Option.{some}
 use borrow.Author.Tests.{not-true, not-false}
 use Rattle.answers.proofs.First.{found-at, found-none}
 use Rattle.rules.specs.Board.{Board, neighbour, gridBoard}

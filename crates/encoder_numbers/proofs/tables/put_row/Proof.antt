@@ -1,8 +1,8 @@
 -- `encoder_numbers::tables::put_row` meets its contract. Assumes nothing.
 use native.Mathlib.Omega.{arith}
 use native.Mathlib.Numerals.{add-one}
-use Prim.Native.Nat.{ℕ, suc, _+_}
-use lib.ListN.{set, length-set}
+use Prim.Native.Nat.{suc, _+_}
+use lib.ListN.{length-set}
 use mathlib.Core.Path.{_≡_, refl}
 use borrow.Author.Needs.{needs}
 use Rattle.encoder_numbers.proofs.tables.put_row.Statement.{statement}

@@ -1,7 +1,7 @@
 -- `encoder_numbers::tables::sizes_below` meets its contract. Assumes nothing.
 use native.Mathlib.Omega.{arith}
 use Prim.Native.Nat.{_+_, _*_}
-use mathlib.Core.Path.{_≡_, sym, _∙_, ap}
+use mathlib.Core.Path.{_≡_, _∙_, ap}
 use lib.ListN.{getD}
 use borrow.Author.Needs.{needs}
 use Rattle.encoder_numbers.proofs.tables.sizes_below.Statement.{statement}
