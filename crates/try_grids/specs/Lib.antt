@@ -1,1 +1,1 @@
-pub mod Small  -- the grids that are enumerated
+pub mod AtMostTwelveCells  -- the grids that are enumerated

@@ -2,7 +2,7 @@
 ghost use Prim.Native.Nat.{_*_, _<_, _≤_};
 
 // The most bytes of a record: 24×24 has 6 + 576.
-pub const BYTES: usize = 582;
+pub(crate) const BYTES: usize = 582;
 
 // The cell that a digit makes: 0 open, 1 to 12 clues of every direction with number 0, 1 and 2, then open again.
 fn cell(digit: u64) -> u8 {
@@ -17,7 +17,7 @@ fn cell(digit: u64) -> u8 {
 }
 
 // The record of a grid whose cells are made of a number's digits to some base, the lowest first; zeros after it.
-pub fn numbered(rows: usize, columns: usize, base: u64, number: u64) -> [u8; BYTES]
+pub(crate) fn numbered(rows: usize, columns: usize, base: u64, number: u64) -> [u8; BYTES]
     requires { ⌜ (rows ≤ 24) × (columns ≤ 24) × (rows * columns ≤ 576) ⌝ }
     requires { ⌜ 0 < base ⌝ }
 {
