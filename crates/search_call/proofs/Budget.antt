@@ -12,7 +12,7 @@ use Rattle.search.specs.Run.{Done, ends, after, endingNumber, doneOutcome, run}
 use Rattle.search.specs.Call.{handed}
 use Rattle.search.proofs.Trails.{length-trail}
 use Rattle.search.proofs.BudgetSums.{counted}
-use Rattle.search_theory.proofs.Legal.{Legal}
+use Rattle.search_theory.specs.Legal.{Legal}
 use Rattle.search_scan.specs.PackedValues.{bareMarks}
 use Rattle.search_trail.specs.Packed.{packedTrail, Packed, holding}
 use Rattle.search_trail.proofs.Holding.{Held, packed-held, holds}

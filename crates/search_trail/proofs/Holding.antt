@@ -14,7 +14,7 @@ use Rattle.cnf.proofs.Lists.{code-variable}
 use Rattle.search.specs.Trail.{Entry, entry, Trail, Slices, slices, HasLength, imageBy, image, entryAt, trailOf}
 use Rattle.search.specs.Trail.{Value, True, False, Unassigned, variableValue}
 use Rattle.search.proofs.Trails.{length-trail, same-trail, length-laid, read-image, cut, image-read}
-use Rattle.search_theory.proofs.Legal.{Legal}
+use Rattle.search_theory.specs.Legal.{Legal}
 use Rattle.search_theory.proofs.Full.{legal-length}
 use Rattle.search_scan.specs.PackedValues.{valueOf, packedValues, bareMarks, numberOf, packed}
 use Rattle.search_trail.specs.Packed.{packedTrail, packedMarks, Packed, holding}
