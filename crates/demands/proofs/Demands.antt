@@ -52,6 +52,8 @@ demand-1 =
           by-rows (answer (length (listOf text)) (headerOf text .variables) (headerOf text .clauses)) refl _ (readerRows text (length out)) refl refl
           (untouched (readerAnswer text out) out (filled out (listOf text)));
       first-place = λ p n m. (first-some p n m, some-first p n);
+      clue-place = rules.clue-place;
+      loop-place = rules.loop-place;
       list-place = faults.list-place;
       entry-place = faults.entry-place;
       too-short = short;

@@ -14,7 +14,7 @@ use lib.ListN.{length, getD}
 use mathlib.Core.Path.{_≡_}
 use mathlib.Core.Bool.{Bool}
 use mathlib.Core.Logic.{_↔_, _⊎_}
-use mathlib.Core.Option.{some}
+use mathlib.Core.Option.{none, some}
 use mathlib.Core.List.{List, [], _∷_, _++_}
 use Rattle.answers.specs.First.{firstWhere, Least, LeastWith}
 use Rattle.answers.specs.Outcome.{answer}
@@ -23,7 +23,8 @@ use Rattle.answers.specs.ByRows.{ByRows}
 use Rattle.rules.specs.Record.{recordRows, recordAnswer, IsAccepted}
 use Rattle.rules.specs.Board.{Board, boardOf}
 use Rattle.rules.specs.Drawing.{SolutionBytes}
-use Rattle.rules.specs.Judge.{judgeRows, judgeAnswer, saysYes}
+use Rattle.rules.specs.Judge.{wrongByte, clueNotMet, linkUnmatched, notTwoLinks, notOneLoop, judgeRows, judgeAnswer, saysYes}
+use Rattle.rules_theory.specs.Places.{FirstUnmet, FirstUnreached}
 use Rattle.cnf.specs.Literals.{wrongList}
 use Rattle.cnf.specs.Clauses.{clauseCount}
 use Rattle.dimacs.specs.Text.{textOf, Accepted}
@@ -63,10 +64,14 @@ pub record Demand1 : Type 0 where
   pub writer : (v : ℕ) (ls : List ℤ) (out : List ℕ)
       → ByRows (17 ∷ 16 ∷ 6 ∷ []) (writerRows v ls (length out)) (writerAnswer v ls out) (writerLeaves v ls out ≡ out)
   pub text-reader : (text : List ℕ) (out : List ℤ) → ByRows (19 ∷ 6 ∷ []) (readerRows text (length out)) (readerAnswer text out) (readerLeaves text out ≡ out)
-  -- (The places: each "first .." of the table is the least index at which a test holds; of the tests, those of 16 and 18 are said here in the table's words;
-  -- beside 6 stand the elements needed; and the place beside 19 is the "first byte where no accepted text can go on, or the text's length if it ends too
-  -- soon".)
+  -- (The places: each "first .." of the table is the least index at which a test holds; those beside 12, 15 (where 10, 13 and 14, which come before it, are
+  -- not the cause), 16 and 18 are said here in the table's words; beside 6 stand the elements needed; and the place beside 19 is the "first byte where no
+  -- accepted text can go on, or the text's length if it ends too soon".)
   pub first-place : (p : ℕ → Bool) (n m : ℕ) → firstWhere p n ≡ some m ↔ Least p n m
+  pub clue-place : (s ds : List ℕ) (x : ℕ) → clueNotMet (boardOf s) ds ≡ some x ↔ FirstUnmet (boardOf s .clues) ds x
+  pub loop-place : (s : List ℕ) → IsAccepted s → (ds : List ℕ) → length ds ≡ boardOf s .size
+      → wrongByte (boardOf s) ds ≡ none → linkUnmatched (boardOf s) ds ≡ none → notTwoLinks (boardOf s) ds ≡ none
+      → (x : ℕ) → notOneLoop (boardOf s) ds ≡ some x ↔ FirstUnreached (boardOf s) ds x
   pub list-place : (v : ℕ) (ls : List ℤ) (i : ℕ) → wrongList v ls ≡ some i ↔ ListFault v ls i
   pub entry-place : (v : ℕ) (s : Slices) (used i : ℕ) → firstWhere (wrongEntryAt v s) used ≡ some i ↔ LeastWith (EntryFault v s) used i
   pub too-short : (room needed n : ℕ) → tooShort room needed ≡ some n ↔ (room < needed) × (n ≡ capped needed)
