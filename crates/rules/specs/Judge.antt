@@ -89,7 +89,7 @@ module _ (b : Board) (ds : List ℕ) where
   abbrev pub touching : Option ℕ
   touching = firstWhere (touchesAt b ds) (b .size)
 
-  -- 12: clue not met
+  -- 12: clue not met; of those that are not, the one with the lowest cell (`clue-place`)
   abbrev pub clueNotMet : Option ℕ
   clueNotMet = unmetClue (blackAt ds) (b .clues)
 
@@ -101,7 +101,7 @@ module _ (b : Board) (ds : List ℕ) where
   abbrev pub notTwoLinks : Option ℕ
   notTwoLinks = firstWhere (notTwoAt b ds) (b .size)
 
-  -- 15: no white cell, or the first white cell not on the first white cell's loop
+  -- 15: no white cell, or the first white cell not on the first white cell's loop: links from that cell do not lead to it (`loop-place`)
   abbrev pub notOneLoop : Option ℕ
   notOneLoop = fromFirst (firstWhere (whiteAt b ds) (b .size)) (λ s. firstWhere (offLoopAt b ds s) (b .size))
 

@@ -12,7 +12,7 @@ use Rattle.judge.proofs.judge_grid.Statement.{statement}
 use Rattle.judge.proofs.judge_grid.Tie as tie
 
 abbrev theBoard : tie.After-size → Board
-theBoard c = gridBoard (c .before .before .before .args .g) (c .before .before .before .args .«record» .now)
+theBoard c = let start = c .before .before .before in gridBoard (start .args .g) (start .args .«record» .now)
 
 abbrev ds : tie.After-size → List ℕ
 ds c = c .before .before .before .args .drawing .now

@@ -27,7 +27,9 @@ go-requires : tie.Need-go-requires Inv-loop μ-loop
 go-requires c κs = c .before .loop .inv .on
 
 shared-slice-read-b : tie.Need-shared-slice-read-b Inv-loop μ-loop
-shared-slice-read-b c = omega (arith, gone-on (c .before .before .before .loop .d) (c .before .before .before .loop .inv .on) (c .before .go .ensures) .inside)
+shared-slice-read-b c =
+    let at-loop = c .before .before .before in
+    omega (arith, gone-on (at-loop .loop .d) (at-loop .loop .inv .on) (c .before .go .ensures) .inside)
 
 opposite-requires : tie.Need-opposite-requires Inv-loop μ-loop
 opposite-requires c κs = search needs

@@ -9,13 +9,13 @@ returns : tie.Need-returns
 returns c = let t : c .before .args .v ≡ 0x20 = c .match .keys1 in rw t (clue-or-not (c .before .args .«open»))
 
 returns-2 : tie.Need-returns-2
-returns-2 c = low-byte (c .before .before .args .«open») (c .before .before .args .v) (omega arith)
+returns-2 c = let start = c .before .before in low-byte (start .args .«open») (start .args .v) (omega arith)
 
 returns-3 : tie.Need-returns-3
-returns-3 c = middle-byte (c .before .before .before .args .«open») (c .before .before .before .args .v) (omega arith) (omega arith)
+returns-3 c = let start = c .before .before .before in middle-byte (start .args .«open») (start .args .v) (omega arith) (omega arith)
 
 returns-4 : tie.Need-returns-4
-returns-4 c = over-byte (c .before .before .before .args .«open») (c .before .before .before .args .v) (omega arith)
+returns-4 c = let start = c .before .before .before in over-byte (start .args .«open») (start .args .v) (omega arith)
 
 pub bad-byte-spec : {M : Type 1} → statement M
 bad-byte-spec = tie.close (tie.spec returns returns-2 returns-3 returns-4)

@@ -18,7 +18,9 @@ degree-requires : tie.Need-degree-requires
 degree-requires c κs = search needs
 
 returns-2 : tie.Need-returns-2
-returns-2 c = rw (sym (c .before .before .before .white-at .ensures) ∙ not-false _ (c .before .before .if1 .left), c .degree .ensures)
+returns-2 c =
+    let at-else1 = c .before .before in
+    rw (sym (at-else1 .before .white-at .ensures) ∙ not-false _ (at-else1 .if1 .left), c .degree .ensures)
 
 pub not-two-at-spec : {M : Type 1} → statement M
 not-two-at-spec =

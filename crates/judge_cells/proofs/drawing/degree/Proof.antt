@@ -22,8 +22,8 @@ link-bit-requires-3 c κs = search needs
 link-bit-requires-4 : tie.Need-link-bit-requires-4
 link-bit-requires-4 c κs = search needs
 
-small : (c : tie.After-link-bit4) (d : Direction) → bit (byteLink (c .before .before .before .before .args .b) d) ≤ 1
-small c d = bit-small (byteLink (c .before .before .before .before .args .b) d)
+small : (c : tie.After-link-bit4) (d : Direction) → let start = c .before .before .before .before in bit (byteLink (start .args .b) d) ≤ 1
+small c d = let start = c .before .before .before .before in bit-small (byteLink (start .args .b) d)
 
 add-result : tie.Need-add-result
 add-result c = omega (arith, small c North, small c East, small c South, small c West)

@@ -18,12 +18,13 @@ enum-told c = search needs
 
 returns : tie.Need-returns
 returns c =
-    ap (λ (o : Option ℕ). Option·getD o (c .before .before .before .args .x)) (found-none (c .enum-told .given .1) (c .before .before .neighbour .ensures))
+    let at-neighbour = c .before .before in
+    ap (λ (o : Option ℕ). Option·getD o (at-neighbour .before .args .x)) (found-none (c .enum-told .given .1) (at-neighbour .neighbour .ensures))
 
 returns-2 : tie.Need-returns-2
 returns-2 c =
-    ap (λ (o : Option ℕ). Option·getD o (c .before .before .before .before .args .x))
-    (found-at (c .before .p .given .1) (c .before .before .before .neighbour .ensures))
+    let at-neighbour = c .before .before .before in
+    ap (λ (o : Option ℕ). Option·getD o (at-neighbour .before .args .x)) (found-at (c .before .p .given .1) (at-neighbour .neighbour .ensures))
 
 pub go-spec : {M : Type 1} → statement M
 go-spec = tie.close (tie.spec neighbour-requires enum-known-p enum-told returns returns-2)

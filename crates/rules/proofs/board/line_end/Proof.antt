@@ -26,17 +26,23 @@ enum-told c = search needs
 
 returns : tie.Need-returns Inv-loop μ-loop
 returns c =
-    let e = found-none (c .enum-told .given .1) (c .before .before .neighbour .ensures) in
-    (out-end (c .before .before .before .loop .inv) e, out-count (c .before .before .before .loop .inv) e)
+    let at-neighbour = c .before .before in
+    let out = at-neighbour .before .loop .inv in
+    let e = found-none (c .enum-told .given .1) (at-neighbour .neighbour .ensures) in
+    (out-end out e, out-count out e)
 
 add-cells : tie.Need-add-cells Inv-loop μ-loop
 add-cells c = search needs
 
 loop-less : tie.Need-loop-less Inv-loop μ-loop
-loop-less c = out-less (c .before .before .before .before .loop .inv) (found-at (c .before .p .given .1) (c .before .before .before .neighbour .ensures))
+loop-less c =
+    let at-neighbour = c .before .before .before in
+    out-less (at-neighbour .before .loop .inv) (found-at (c .before .p .given .1) (at-neighbour .neighbour .ensures))
 
 loop-again : tie.Need-loop-again Inv-loop μ-loop
-loop-again c = out-on (c .before .before .before .before .loop .inv) (found-at (c .before .p .given .1) (c .before .before .before .neighbour .ensures))
+loop-again c =
+    let at-neighbour = c .before .before .before in
+    out-on (at-neighbour .before .loop .inv) (found-at (c .before .p .given .1) (at-neighbour .neighbour .ensures))
 
 pub line-end-spec : {M : Type 1} → statement M
 line-end-spec =

@@ -52,8 +52,9 @@ rem-if4 c = search needs
 
 returns-4 : tie.Need-returns-4
 returns-4 c =
-    let h : c .before .before .before .args .x % c .before .before .before .args .g .columns ≤ 0 = omega arith in
-    leads-nowhere (c .before .before .before .pre) West (c .before .enum-told4 .given .1) (le-ltb 0 _ h)
+    let start = c .before .before .before in
+    let h : start .args .x % start .args .g .columns ≤ 0 = omega arith in
+    leads-nowhere (start .pre) West (c .before .enum-told4 .given .1) (le-ltb 0 _ h)
 
 sub-t15 : tie.Need-sub-t15
 sub-t15 c = not-first (c .before .before .before .pre) (c .if4 .left)
@@ -69,8 +70,9 @@ returns-7 c = leads-to (c .before .before .before .pre) South (c .before .enum-t
 
 returns-8 : tie.Need-returns-8
 returns-8 c =
-    let h : 0 < c .before .before .before .args .x % c .before .before .before .args .g .columns = omega arith in
-    leads-to (c .before .before .before .pre) West (c .before .enum-told4 .given .1) (lt-ltb _ _ h)
+    let start = c .before .before .before in
+    let h : 0 < start .args .x % start .args .g .columns = omega arith in
+    leads-to (start .pre) West (c .before .enum-told4 .given .1) (lt-ltb _ _ h)
 
 pub neighbour-spec : {M : Type 1} → statement M
 neighbour-spec =

@@ -9,21 +9,16 @@ returns : tie.Need-returns
 returns c = let t : c .before .args .b ≡ 0 = c .match .keys1 in rw t
 
 returns-2 : tie.Need-returns-2
-returns-2 c = clue-byte 1 (c .before .before .before .args .b) (omega arith) (omega arith) (omega arith) (omega arith)
+returns-2 c = clue-byte 1 _ (omega arith) (omega arith) (omega arith) (omega arith)
 
 returns-3 : tie.Need-returns-3
-returns-3 c = clue-byte 2 (c .before .before .before .before .args .b) (omega arith) (omega arith) (omega arith) (omega arith)
+returns-3 c = clue-byte 2 _ (omega arith) (omega arith) (omega arith) (omega arith)
 
 returns-4 : tie.Need-returns-4
-returns-4 c =
-    let at-start = c .before .before .before .before .before in
-    clue-byte 3 (at-start .args .b) (omega arith) (omega arith) (omega arith) (omega arith)
+returns-4 c = clue-byte 3 _ (omega arith) (omega arith) (omega arith) (omega arith)
 
 returns-5 : tie.Need-returns-5
-returns-5 c =
-    let at-else1 = c .before .before .before .before in
-    let at-start = at-else1 .before .before in
-    clue-byte 4 (at-start .args .b) (omega arith) (omega arith) (omega arith) (omega arith)
+returns-5 c = clue-byte 4 _ (omega arith) (omega arith) (omega arith) (omega arith)
 
 returns-6 : tie.Need-returns-6
 returns-6 c = under-clues _ (c .before .match .rest .1) (c .if1 .taken)

@@ -43,8 +43,8 @@ loop-less c = search needs
 
 loop-again : tie.Need-loop-again Inv-loop μ-loop
 loop-again c =
-    seek-on (c .before .before .before .before .loop .inv) (c .before .before .before .loop-test .taken)
-    (sym (c .before .not-allowed .ensures) ∙ c .if1 .left)
+    let in-loop = c .before .before .before in
+    seek-on (in-loop .before .loop .inv) (in-loop .loop-test .taken) (sym (c .before .not-allowed .ensures) ∙ c .if1 .left)
 
 returns-2 : tie.Need-returns-2 Inv-loop μ-loop
 returns-2 c = seek-none (c .before .loop .inv) (c .loop-test .left) (c .before .before .size .ensures)
