@@ -4,9 +4,10 @@ use Rattle.answers.proofs.ByRows.{by-rows}
 use Rattle.answers.proofs.Settled.{untouched}
 use Rattle.search.specs.Trail.{image}
 use Rattle.search.specs.Run.{Done, doneOutcome}
-use Rattle.search.specs.Call.{Following, rowsOf, runs, byNext}
+use Rattle.search.specs.Call.{Following, rowsOf, begins, runs, byNext}
 use Rattle.search_theory.proofs.Handed.{next-exactly}
 use Rattle.search_theory.proofs.Theorems as theorems
+use Rattle.search_theory.proofs.Undo.{undoes-to, undoes-nothing}
 use Rattle.search_theory.proofs.ListedSteps as steps
 use Rattle.search_theory.proofs.Listing as listing
 use Rattle.solver.proofs.Begun as begun
@@ -16,8 +17,8 @@ pub request-e1 : RequestE1
 request-e1 =
     record {
       stepped = λ c ok. steps.stepped ok;
-      only-open = λ c ok. theorems.only-open ok;
-      drop-opens = λ c ok. theorems.drop-opens ok;
+      only-open = λ c ok h. theorems.only-open ok (undoes-nothing (begins c) h);
+      drop-opens = λ c ok u h. theorems.drop-opens ok u (undoes-to h);
       same-others = λ c ok. theorems.same-open ok;
       unless-halted = λ c ok. theorems.unless-halted ok;
       few-steps = λ c ok. theorems.few-steps ok;

@@ -5,29 +5,30 @@ use lib.ListN.{length}
 use mathlib.Core.Path.{_≡_}
 use mathlib.Core.Bool.{Bool}
 use mathlib.Core.Logic.{_↔_, _⊎_}
-use mathlib.Core.Option.{none, some}
 use mathlib.Core.List.{List, [], _∷_, map}
+use Rattle.answers.specs.First.{NoneIn}
 use Rattle.answers.specs.ByRows.{ByRows}
 use Rattle.rules.specs.Board.{boardOf}
 use Rattle.rules.specs.Solutions.{Solutions, OneSolution}
 use Rattle.cnf.specs.Clauses.{Assignment, Satisfies}
 use Rattle.encoder.specs.Decoding.{decoded, bytesOf}
 use Rattle.search.specs.Trail.{Trail, Open}
-use Rattle.search.specs.Step.{undo}
+use Rattle.search.specs.Step.{Moved}
 use Rattle.search.specs.Run.{Found, None, Halted}
 use Rattle.search.specs.Call.{Search, Searching, Following, rowsOf, begins, IsTaken, bySearch, byNext, Says, steps, endsAt, resumed, given}
 use Rattle.search_theory.specs.Openings.{Sought, FoundOne}
 use Rattle.search_theory.specs.Listing.{Lists, ListsAll}
-use Rattle.search_theory.specs.ListedSteps.{Stepped}
+use Rattle.search_theory.specs.ListedSteps.{MarkedOne, Undoes, Stepped}
 use Rattle.solver.specs.Begun.{BegunOn}
 
 pub record RequestE1 : Type 0 where
   -- "A new call takes a full trail, drops just that assignment as a failed clause would, and searches on under the same rules; dropping is a step."
   pub stepped : (c : Search) → IsTaken Following c → (budget : ℕ) → Stepped Following c budget (byNext c budget)
   -- "Where no mark is 1, that one is the only one open: the drop answers "none" and changes no used entry." (`Stepped` has what the drop answers.)
-  pub only-open : (c : Search) → IsTaken Following c → undo (begins c) ≡ none → (a : List Bool) → Assignment (c .variables) a → Open a (begins c) ↔ a ≡ given c
+  pub only-open : (c : Search) → IsTaken Following c → NoneIn MarkedOne (begins c) → (a : List Bool) → Assignment (c .variables) a
+      → Open a (begins c) ↔ a ≡ given c
   -- "Otherwise those open after it are those open before without that one."
-  pub drop-opens : (c : Search) → IsTaken Following c → (u : Trail) → undo (begins c) ≡ some u → (a : List Bool) → Assignment (c .variables) a
+  pub drop-opens : (c : Search) → IsTaken Following c → (u : Trail) → Undoes (begins c) (Moved u) → (a : List Bool) → Assignment (c .variables) a
       → Open a u ↔ (Open a (begins c) × (a ≡ given c → ⊥))
   -- "For such a call demand 3 is taken, before and after, over the satisfying assignments other than the one on the trail it was given."
   pub same-others : (c : Search) → IsTaken Following c → (budget : ℕ) (a : List Bool)

@@ -176,7 +176,23 @@ module _ (v : ℕ) (ls : List ℤ) (w : Values) (closed : unclosed ls ≡ false)
       variables n f zero h l = absurd (omega arith)
       variables n f (suc m) h l = f m (omega arith)
 
--- 3. So a clause or a variable is found exactly if there is one
+-- 3. The forcing clause: here and in its two laws is said which it is of the clauses that force a literal, and nowhere else
+
+module _ (w : Values) {ls : List ℤ} where
+  pub forcing-some : {k : ℕ} {l : ℤ} → ForcingClause w ls k l → Some (Forces w l) (split ls)
+  forcing-some {l = l} f = first-some-in (Forces w l) (f .first) (f .forces)
+
+  -- one clause, one literal
+  one-forcing : {i j : ℕ} {k l : ℤ} → ForcingClause w ls i k → ForcingClause w ls j l → (i ≡ j) × (k ≡ l)
+  one-forcing {l = l} f g =
+      let (e, same) = only-first (g .first) (f .first) in
+      let all = subst (Forces w l) same (g .forces) .all-one in
+      (sym e, all-at (λ k. literalValue w k ≡ Unassigned → k ≡ l) all (f .forces .holds) (f .forces .unassigned))
+
+not-none-forcing : (w : Values) (ls : List ℤ) {k : ℕ} {l : ℤ} → ForcingClause w ls k l → NoneForcing w ls → ⊥
+not-none-forcing w ls {l = l} f n = meet (λ c h no-one. no-one (l, h)) (split ls) (forcing-some w f) n
+
+-- 4. So a clause or a variable is found exactly if there is one
 
 is-none : (o : Option ℕ) → ((i : ℕ) → o ≡ some i → ⊥) → o ≡ none
 is-none none f = refl
@@ -191,7 +207,7 @@ module _ {v : ℕ} {ls : List ℤ} {w : Values} (law : Laws v ls w) where
   failed-none = (law .none-failed, λ h. is-none (failedClause w ls) (λ i e. not-none (law .failed e .1 .first) h))
 
   pub forced-none : forcedPlace w ls ≡ none ↔ NoneForcing w ls
-  forced-none = (law .none-forced, λ h. is-none (forcedPlace w ls) (λ i e. not-none (law .forced e .1 .first) h))
+  forced-none = (law .none-forced, λ h. is-none (forcedPlace w ls) (λ i e. not-none-forcing w ls (law .forced e .1) h))
 
   pub free-none : lowestUnassigned v w ≡ none ↔ NoneUnassigned w v
   free-none = (
@@ -204,14 +220,9 @@ module _ {v : ℕ} {ls : List ℤ} {w : Values} (law : Laws v ls w) where
   failed-found f = is-some (failedClause w ls) (λ e. not-none (f .first) (law .none-failed e))
 
   pub forced-found : {k : ℕ} {l : ℤ} → ForcingClause w ls k l → (i : ℕ) × (forcedPlace w ls ≡ some i) × (l ≡ getD ls i (pos 0))
-  forced-found {l = l} f =
-      let (i, e) = is-some (forcedPlace w ls) (λ e. not-none (f .first) (law .none-forced e)) in
-      (i, e, one (law .forced e .1))
-    where
-      one : {j : ℕ} {m : ℤ} → ForcingClause w ls j m → l ≡ m
-      one {m = m} g =
-          let same = subst (Forces w m) (only-first (g .first) (f .first) .1) (g .forces) in
-          all-at (λ k. literalValue w k ≡ Unassigned → k ≡ m) (same .all-one) (f .forces .holds) (f .forces .unassigned)
+  forced-found f =
+      let (i, e) = is-some (forcedPlace w ls) (λ e. not-none-forcing w ls f (law .none-forced e)) in
+      (i, e, one-forcing w f (law .forced e .1) .1)
 
   pub free-found : {n : ℕ} → LowestUnassigned w v n → (i : ℕ) × (lowestUnassigned v w ≡ some i) × (n ≡ suc i)
   free-found {n} f =
@@ -226,7 +237,7 @@ module _ {v : ℕ} {ls : List ℤ} {w : Values} (law : Laws v ls w) where
           by (no h) (yes k) = absurd (g .lower n (f .from-1) k (f .unassigned))
           by (no h) (no k) = omega arith
 
--- 4. What the theory takes from them
+-- 5. What the theory takes from them
 
 module _ (w : Values) where
   pub failed-some : {ls : List ℤ} {k : ℕ} → FailedClause w ls k → Some (AllFalse w) (split ls)
@@ -244,9 +255,6 @@ module _ (w : Values) where
           by True q go = inl (ap isFalse q)
           by False q go = inr (go q)
           by Unassigned q go = inl (ap isFalse q)
-
-  pub forcing-some : {ls : List ℤ} {k : ℕ} {l : ℤ} → ForcingClause w ls k l → Some (Forces w l) (split ls)
-  forcing-some {l = l} f = first-some-in (Forces w l) (f .first) (f .forces)
 
   pub all-assigned : (v : ℕ) → NoneUnassigned w v → AllAssigned v w
   all-assigned v f n h = off (isUnassigned (w (suc n))) (λ e. f (suc n) (omega arith) (omega arith) (unassigned (w (suc n)) e))

@@ -1,49 +1,26 @@
 -- A call makes the listed steps, no others. Assumes nothing.
 use Prim.Native.Nat.{ℕ, zero, suc}
 use native.Mathlib.Omega.{arith}
-use lib.Dec.{eqb}
 use lib.IntN.{ℤ, pos, negℤ}
-use lib.ListN.{drop}
-use borrow.Author.Tests.{eqb-true, eqb-false}
 use mathlib.Core.Path.{_≡_, refl, sym, _∙_, ap}
-use mathlib.Core.Bool.{Bool, true, false, cond}
+use mathlib.Core.Bool.{false}
 use mathlib.Core.Option.{Option, none, some}
-use mathlib.Core.List.{List, [], _∷_}
-use Rattle.answers.specs.First.{here, later}
-use Rattle.answers.proofs.First.{not-none, only-first}
+use mathlib.Core.List.{List, _∷_}
 use Rattle.cnf.specs.Literals.{unclosed}
 use Rattle.search.specs.Trail.{entry, Trail, variableValue}
-use Rattle.search.specs.Step.{failedClause, forcedPlace, lowestUnassigned, negated, undo, Next, Moved, AnsweredFound, AnsweredNone, undone, onFailed, onForced}
+use Rattle.search.specs.Step.{failedClause, forcedPlace, lowestUnassigned, undo, Next, Moved, AnsweredFound, AnsweredNone, undone, onFailed, onForced}
 use Rattle.search.specs.Step.{onUnassigned, step}
 use Rattle.search.specs.Run.{Done, oneMore, after, run, following}
 use Rattle.search.specs.Call.{Search, Handed, Call, Searching, Following, begins, comesTo, IsTaken, runs, hands, handsDone}
 use Rattle.search_theory.specs.Choices.{NoneFailed, NoneForcing}
-use Rattle.search_theory.specs.ListedSteps.{Undoes, negates, gives-up, ListedStep, undoes, forces, chooses, finds, stays, moves}
+use Rattle.search_theory.specs.ListedSteps.{Undoes, ListedStep, undoes, forces, chooses, finds, stays, moves}
 use Rattle.search_theory.specs.ListedSteps.{SearchComesTo, found, none-left, halted, NextComesTo, keeps, drops-last, drops, ComesTo, Stepped}
 use Rattle.search_theory.proofs.Accepted.{taken-closed}
 use Rattle.search_theory.proofs.Choices.{Laws, choice-laws, failed-none, forced-none, free-none, failed-found, forced-found, free-found}
+use Rattle.search_theory.proofs.Undo.{undoing, only-undoing}
 use Rattle.search_theory.proofs.Handed.{hands-done}
 
 -- 1. One step
-
-undoing : (t : Trail) → Undoes t (undone (undo t))
-unfolding undo
-undoing [] = gives-up tt
-undoing (e ∷ t) = by (eqb (e .mark) 1) refl (undoing t)
-  where
-    back : {x : Next} → (e .mark ≡ 1 → ⊥) → Undoes t x → Undoes (e ∷ t) x
-    back n (negates f) = negates (later n f)
-    back n (gives-up h) = gives-up (n, h)
-
-    by : (b : Bool) → eqb (e .mark) 1 ≡ b → Undoes t (undone (undo t)) → Undoes (e ∷ t) (undone (cond b (some (negated e ∷ t)) (undo t)))
-    by true q go = negates (here (eqb-true (e .mark) 1 q))
-    by false q go = back (eqb-false (e .mark) 1 q) go
-
-only-undoing : {t : Trail} {x y : Next} → Undoes t x → Undoes t y → x ≡ y
-only-undoing {t} (negates f) (negates g) = let r = only-first f g in (λ i. Moved (negated (r .1 i) ∷ drop (suc (r .0 i)) t))
-only-undoing (negates f) (gives-up h) = absurd (not-none f h)
-only-undoing (gives-up h) (negates f) = absurd (not-none f h)
-only-undoing (gives-up h) (gives-up k) = refl
 
 module _ (v : ℕ) (ls : List ℤ) (closed : unclosed ls ≡ false) where
   module _ (t : Trail) where

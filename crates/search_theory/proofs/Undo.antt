@@ -1,23 +1,64 @@
--- What undoing keeps: the assignments open at a trail that do not agree with all of it. Assumes nothing.
+-- Undoing is back to the last entry marked 1; and it keeps the assignments open at a trail that do not agree with all of it. Assumes nothing.
 use Prim.Native.Nat.{ℕ, zero, suc, _≤_}
 use native.Mathlib.Omega.{arith}
 use lib.Dec.{eqb, ltb}
 use lib.IntN.{ℤ, pos, negsuc, negℤ, natAbs}
-use lib.ListN.{getD}
+use lib.ListN.{getD, drop}
 use borrow.Author.Tests.{eqb-true, eqb-false, not-true}
 use mathlib.Core.Path.{_≡_, refl, sym, _∙_, ap, subst}
 use mathlib.Core.Bool.{Bool, true, false, not, cond}
 use mathlib.Core.Logic.{inl, inr, ⊎-elim}
-use mathlib.Core.Option.{none, some, Option·some-injective, Option·some-ne-none}
+use mathlib.Core.Option.{Option, none, some, Option·some-injective, Option·some-ne-none}
 use mathlib.Core.List.{List, [], _∷_}
+use Rattle.answers.specs.First.{NoneIn, here, later}
 use Rattle.answers.proofs.Bools.{clash}
+use Rattle.answers.proofs.First.{not-none, only-first}
 use Rattle.cnf.specs.Literals.{closes}
 use Rattle.cnf.specs.Clauses.{value}
 use Rattle.search.specs.Trail.{Entry, Trail, variableValue, Turned, Open}
-use Rattle.search.specs.Step.{negated, undo}
+use Rattle.search.specs.Step.{negated, undo, Next, Moved, AnsweredNone, undone}
 use Rattle.search_theory.specs.Legal.{LegalEntry, Legal}
+use Rattle.search_theory.specs.ListedSteps.{MarkedOne, Undoes, negates, gives-up}
 use Rattle.search_theory.proofs.Full.{legal-length}
 use Rattle.search_theory.proofs.Measure.{choiceSum, number, number-undo, choices-more}
+
+-- 1. What undoing leads to
+
+pub undoing : (t : Trail) → Undoes t (undone (undo t))
+unfolding undo
+undoing [] = gives-up tt
+undoing (e ∷ t) = by (eqb (e .mark) 1) refl (undoing t)
+  where
+    back : {x : Next} → (e .mark ≡ 1 → ⊥) → Undoes t x → Undoes (e ∷ t) x
+    back n (negates f) = negates (later n f)
+    back n (gives-up h) = gives-up (n, h)
+
+    by : (b : Bool) → eqb (e .mark) 1 ≡ b → Undoes t (undone (undo t)) → Undoes (e ∷ t) (undone (cond b (some (negated e ∷ t)) (undo t)))
+    by true q go = negates (here (eqb-true (e .mark) 1 q))
+    by false q go = back (eqb-false (e .mark) 1 q) go
+
+pub only-undoing : {t : Trail} {x y : Next} → Undoes t x → Undoes t y → x ≡ y
+only-undoing {t} (negates f) (negates g) = let r = only-first f g in (λ i. Moved (negated (r .1 i) ∷ drop (suc (r .0 i)) t))
+only-undoing (negates f) (gives-up h) = absurd (not-none f h)
+only-undoing (gives-up h) (negates f) = absurd (not-none f h)
+only-undoing (gives-up h) (gives-up k) = refl
+
+-- by the definition
+pub undoes-to : {t u : Trail} → Undoes t (Moved u) → undo t ≡ some u
+undoes-to {t} {u} h = by (undo t) refl (only-undoing h (undoing t))
+  where
+    by : (o : Option Trail) → undo t ≡ o → Moved u ≡ undone o → undo t ≡ some u
+    by (some x) e q = let r : x ≡ u = cc in e ∙ ap some r
+    by none e q = let z : _≡_ {A = ℕ} 0 1 = cc in absurd (omega arith)
+
+pub undoes-nothing : (t : Trail) → NoneIn MarkedOne t → undo t ≡ none
+undoes-nothing t h = by (undo t) refl (only-undoing (gives-up h) (undoing t))
+  where
+    by : (o : Option Trail) → undo t ≡ o → AnsweredNone ≡ undone o → undo t ≡ none
+    by (some x) e q = let z : _≡_ {A = ℕ} 0 1 = cc in absurd (omega arith)
+    by none e q = e
+
+-- 2. What it keeps
 
 same-variable : (l : ℤ) → natAbs (negℤ l) ≡ natAbs l
 same-variable (pos zero) = refl

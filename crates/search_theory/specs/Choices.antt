@@ -1,4 +1,4 @@
--- What a step chooses, in document 01's words: w has the values of the variables. The number of a clause is its index in the list's clauses.
+-- What a step chooses, in document 01's words: w has the values of the variables, and k is the index of a clause among the clauses of the list.
 use Prim.Native.Nat.{ℕ, _≤_, _<_}
 use lib.IntN.{ℤ}
 use mathlib.Core.Path.{_≡_}
@@ -20,6 +20,7 @@ module _ (w : Values) where
     pub unassigned : literalValue w l ≡ Unassigned
     pub all-one : All (λ k. literalValue w k ≡ Unassigned → k ≡ l) c
 
+  -- a clause that forces some literal
   abbrev pub ForcesOne : List ℤ → Type 0
   ForcesOne c = (l : ℤ) × Forces l c
 
