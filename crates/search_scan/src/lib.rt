@@ -148,12 +148,12 @@ fn is_unassigned(byte: u8) -> bool
 pub fn lowest_unassigned(marks: &[u8]) -> Place
     ensures { λ r. ⌜ placed r ≡ lowestUnassigned (length (now (marks .entry))) (packedValues (now (marks .entry))) ⌝ }
 {
-    let mut i: usize = 0;
-    while i < marks.len() {
-        if is_unassigned(marks[i]) {
-            return Place::At(i);
+    let mut index: usize = 0;
+    while index < marks.len() {
+        if is_unassigned(marks[index]) {
+            return Place::At(index);
         }
-        i += 1;
+        index += 1;
     }
     Place::Nowhere
 }

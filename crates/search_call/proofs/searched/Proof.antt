@@ -1,6 +1,7 @@
 -- `search_call::searched` meets its contract. Assumes nothing.
 use mathlib.Core.List.{List}
 use Prim.Native.Nat.{ℕ}
+use native.Mathlib.Omega.{arith}
 use lib.IntN.{ℤ}
 use Rattle.search_theory.proofs.Accepted.{taken-sized}
 use Rattle.search_call.specs.declared.End.{End}
@@ -51,10 +52,10 @@ run-requires : tie.Need-run-requires
 run-requires c κs = let l = loaded (c .before .before .before .before) in (loaded-running l, loaded-listed l)
 
 clear-trail-requires : tie.Need-clear-trail-requires
-clear-trail-requires c κs = ended-literals (ran (c .before .before .before .before))
+clear-trail-requires c κs = omega (arith, ended-literals (ran (c .before .before .before .before)))
 
 clear-marks-requires-2 : tie.Need-clear-marks-requires-2
-clear-marks-requires-2 c κs = ended-bytes (ran (c .before .before .before .before .before .before .before))
+clear-marks-requires-2 c κs = omega (arith, ended-bytes (ran (c .before .before .before .before .before .before .before)))
 
 same-length : tie.Need-same-length
 same-length c = search needs

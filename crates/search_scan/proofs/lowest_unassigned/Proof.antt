@@ -1,6 +1,5 @@
--- `search_scan::lowest_unassigned` meets its contract. Assumes nothing.
-use mathlib.Core.Path.{sym, _∙_, refl}
 -- `search_scan::lowest_unassigned` meets its contract: the loop keeps `Seeking`. Assumes nothing.
+use mathlib.Core.Path.{sym, _∙_, refl}
 use borrow.Author.Needs.{needs}
 use native.Mathlib.Omega.{arith}
 use Prim.Native.Nat.{suc, _-_}
@@ -13,10 +12,10 @@ use Rattle.search_scan.proofs.lowest_unassigned.Statement.{statement}
 use Rattle.search_scan.proofs.lowest_unassigned.Tie as tie
 
 abbrev Inv-loop : tie.InvT-loop
-Inv-loop marks i₀ i = Seeking (λ n. isUnassigned (packedValues marks (suc n))) (length marks) i
+Inv-loop marks index₀ index = Seeking (λ n. isUnassigned (packedValues marks (suc n))) (length marks) index
 
 abbrev μ-loop : tie.MeasureT-loop
-μ-loop marks i₀ i = length marks - i
+μ-loop marks index₀ index = length marks - index
 
 loop-holds : tie.Need-loop-holds Inv-loop μ-loop
 loop-holds c = seek-start
@@ -31,8 +30,8 @@ returns : tie.Need-returns Inv-loop μ-loop
 unfolding lowestUnassigned
 returns c = seek-found (c .before .before .before .before .loop .inv) (omega arith) (sym (c .before .is-unassigned .ensures) ∙ c .if1 .taken) refl
 
-add-i : tie.Need-add-i Inv-loop μ-loop
-add-i c = omega arith
+add-index : tie.Need-add-index Inv-loop μ-loop
+add-index c = omega arith
 
 loop-less : tie.Need-loop-less Inv-loop μ-loop
 loop-less c = omega arith
@@ -54,7 +53,7 @@ lowest-unassigned-spec =
     shared-slice-read-is-unassigned
     is-unassigned-requires
     returns
-    add-i
+    add-index
     loop-less
     loop-again
     returns-2)
