@@ -32,7 +32,7 @@ fn link_bit(
 ) -> u8
     requires { ⌜ Valued g (now «record») (now values) sizes (now table) ⌝ }
     requires { ⌜ OpenCell g (now «record») x ⌝ }
-    ensures { λ r. ⌜ r ≡ bit (drawnLink (gridBoard g (now («record» .entry))) (valueOf (gridBoard g (now («record» .entry))) (now (values .entry))) x d) ⌝ }
+    ensures { λ r. let b = gridBoard g (now («record» .entry)) in ⌜ r ≡ bit (drawnLink b (valueOf b (now (values .entry))) x d) ⌝ }
 {
     let p = open_neighbour(g, record, x, d);
     let Place::At(y) = p else {
@@ -53,7 +53,7 @@ fn link_bit(
 fn link_sum(g: Grid, record: &[u8], values: &[u8], sizes: Sizes, table: &[usize], x: usize) -> u8
     requires { ⌜ Valued g (now «record») (now values) sizes (now table) ⌝ }
     requires { ⌜ OpenCell g (now «record») x ⌝ }
-    ensures { λ r. ⌜ r ≡ linkSum (drawnLink (gridBoard g (now («record» .entry))) (valueOf (gridBoard g (now («record» .entry))) (now (values .entry))) x) ⌝ }
+    ensures { λ r. let b = gridBoard g (now («record» .entry)) in ⌜ r ≡ linkSum (drawnLink b (valueOf b (now (values .entry))) x) ⌝ }
 {
     let north = link_bit(g, record, values, sizes, table, x, Direction::North);
     let east = link_bit(g, record, values, sizes, table, x, Direction::East);

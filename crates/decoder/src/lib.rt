@@ -96,8 +96,10 @@ fn judged(
 ) -> Decoded
     requires { ⌜ Valued g (now «record») (now values) sizes (now table) ⌝ }
     requires { ⌜ length (now drawing) ≡ size g ⌝ }
-    ensures { λ r. ⌜ decodedOutcome r ≡ firstRefusal (judgeRows (gridBoard g (now («record» .entry))) (decoded (gridBoard g (now («record» .entry))) (now (values .entry)))) saysYes ⌝ }
-    ensures { λ r. ⌜ now (drawing .exit) ≡ unlessRefused (firstRefusal (judgeRows (gridBoard g (now («record» .entry))) (decoded (gridBoard g (now («record» .entry))) (now (values .entry)))) saysYes) (now (drawing .entry)) (decoded (gridBoard g (now («record» .entry))) (now (values .entry))) ⌝ }
+    ensures { λ r. let b = gridBoard g (now («record» .entry)) in let drawn = decoded b (now (values .entry)) in
+        ⌜ decodedOutcome r ≡ firstRefusal (judgeRows b drawn) saysYes ⌝ }
+    ensures { λ r. let b = gridBoard g (now («record» .entry)) in let drawn = decoded b (now (values .entry)) in
+        ⌜ now (drawing .exit) ≡ unlessRefused (firstRefusal (judgeRows b drawn) saysYes) (now (drawing .entry)) drawn ⌝ }
 {
     let mut own = [0u8; MOST_CELLS];
     draw(g, record, values, sizes, table, &mut own);
@@ -115,7 +117,8 @@ fn judged(
 pub fn decode_grid(g: Grid, record: &[u8], values: &[u8], drawing: &mut [u8]) -> Decoded
     requires { ⌜ RecordFits g (now «record») ⌝ }
     ensures { λ r. ⌜ decodedOutcome r ≡ firstRefusal (gridRows g (now («record» .entry)) (now (values .entry)) (now (drawing .entry))) saysYes ⌝ }
-    ensures { λ r. ⌜ now (drawing .exit) ≡ unlessRefused (firstRefusal (gridRows g (now («record» .entry)) (now (values .entry)) (now (drawing .entry))) saysYes) (now (drawing .entry)) (decoded (gridBoard g (now («record» .entry))) (now (values .entry))) ⌝ }
+    ensures { λ r. let t = firstRefusal (gridRows g (now («record» .entry)) (now (values .entry)) (now (drawing .entry))) saysYes in
+        ⌜ now (drawing .exit) ≡ unlessRefused t (now (drawing .entry)) (decoded (gridBoard g (now («record» .entry))) (now (values .entry))) ⌝ }
 {
     let mut table = [0usize; TABLE];
     let sizes = fill(g, record, &mut table);

@@ -58,10 +58,12 @@ module _ {b : Board} (bounded : BoundedBoard b) where
 
   counts-few : length (counts b) ≤ 2025 * 2025
   counts-few =
-      let c = bounded .clues in
-      let h = length-each-most clueCounts 2025 (b .clues) (λ c m. let (l, n) = all-at (λ (c : Clue). (length (c .line) ≤ 44) × (c .number ≤ 44)) (bounded .short) m in
-      let p : suc (length (c .line)) * suc (c .number) ≤ 45 * 45 = mul-le-mul {n₂ = 45} {m₂ = 45} (omega arith) (omega arith) in omega (arith, clue-long c)) in
-      omega arith
+      omega (arith, bounded .clues, length-each-most clueCounts 2025 (b .clues) one)
+    where
+      one : (c : Clue) → c ∈ b .clues → length (clueCounts c) ≤ 2025
+      one c m =
+          let (l, n) = all-at (λ (c : Clue). (length (c .line) ≤ 44) × (c .number ≤ 44)) (bounded .short) m in
+          let p : suc (length (c .line)) * suc (c .number) ≤ 45 * 45 = mul-le-mul {n₂ = 45} {m₂ = 45} (omega arith) (omega arith) in omega (arith, clue-long c)
 
   -- search and writer never find V too large
   pub few-variables : variableCount b ≤ mostVariables
@@ -93,8 +95,9 @@ literal-not-beyond b (minus v) m = number-most b m
 
 written-not-beyond : (b : Board) (c : Clause) → Inside (variables b) c → All (NotBeyond (variableCount b)) (written b c)
 written-not-beyond b c h =
-    all-append (NotBeyond (variableCount b)) (map (signed b) c) (pos 0 ∷ [])
-    (all-map (NotBeyond (variableCount b)) (signed b) c (λ l m. literal-not-beyond b l (all-at (λ (l : Literal). variableOf l ∈ variables b) h m))) (omega arith, tt)
+    let v = variableCount b in
+    all-append (NotBeyond v) (map (signed b) c) (pos 0 ∷ [])
+    (all-map (NotBeyond v) (signed b) c (λ l m. literal-not-beyond b l (all-at (λ (l : Literal). variableOf l ∈ variables b) h m))) (omega arith, tt)
 
 all-get : {A : Type 0} (P : A → Type 0) (d : A) (xs : List A) → All P xs → (i : ℕ) → i < length xs → P (getD xs i d)
 all-get P d [] h i l = absurd (omega arith)
@@ -139,5 +142,8 @@ list-not-beyond b law =
 pub list-not-wrong : (b : Board) → Laws b → wrongList (variableCount b) (clauseList b) ≡ none
 unfolding clauseList
 list-not-wrong b law =
-    let within : firstWhere (beyondAt (variableCount b) (clauseList b)) (length (clauseList b)) ≡ none = none-first _ _ (λ i h. le-ltb _ _ (all-get (NotBeyond (variableCount b)) (pos 0) (clauseList b) (list-not-beyond b law) i h)) in
-    (λ t. orElse (within t) (found (list-closed b (clauses b) t) (length (clauseList b)) none))
+    let v = variableCount b in
+    let ls = clauseList b in
+    let within : firstWhere (beyondAt v ls) (length ls) ≡ none =
+    none-first _ _ (λ i h. le-ltb _ _ (all-get (NotBeyond v) (pos 0) ls (list-not-beyond b law) i h)) in
+    (λ t. orElse (within t) (found (list-closed b (clauses b) t) (length ls) none))

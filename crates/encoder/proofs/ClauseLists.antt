@@ -28,8 +28,12 @@ each-shift f g a c (suc n) e =
     let i : a + 0 ≡ a = omega arith in
     let j : c + 0 ≡ c = omega arith in
     let first : f a ≡ g c = ap f (sym i) ∙ e 0 (omega arith) ∙ ap g j in
-    let rest = each-shift f g (suc a) (suc c) n (λ k l. let p : suc a + k ≡ a + suc k = omega arith in let q : c + suc k ≡ suc c + k = omega arith in ap f p ∙ e (suc k) (omega arith) ∙ ap g q) in
-    rw (first, rest)
+    rw (first, each-shift f g (suc a) (suc c) n next)
+  where
+    next : (k : ℕ) → k < n → f (suc a + k) ≡ g (suc c + k)
+    next k l =
+        let p : suc a + k ≡ a + suc k = omega arith in
+        let q : c + suc k ≡ suc c + k = omega arith in ap f p ∙ e (suc k) (omega arith) ∙ ap g q
 
 -- the cells: what is made of one cell more
 module _ (b : Board) (x : ℕ) where

@@ -110,11 +110,15 @@ module _ (b : Board) where
     past-open : Sized b (each (upTo (suc n)) (countStep true a n j c)) (suc n * 2) (n * 8 + 7)
     past-open =
         let l = length-from 0 n in
-        let e : each (upTo n) (countStep true a n j c) ++ countStep true a n j c (0 + n) ≡ each (upTo (suc n)) (countStep true a n j c) = sym (each-next (countStep true a n j c) 0 n)
-        ∙ ap (λ k. each (upTo k) (countStep true a n j c)) (add-one n) in
         sized-is (omega arith) (omega arith)
-        (subst (λ cs. Sized b cs (length (upTo n) * 2 + 2) (length (upTo n) * 8 + 7)) e
-        (sized-append (sized-each (countStep true a n j c) {n = 2} {e = 8} (upTo n) (λ t m. let h = of-upTo n m in rw (ne-eqb t n (omega arith)) (two t false refl))) (rw (eq-eqb (0 + n) n (omega arith)) (two (0 + n) true refl))))
+        (subst (λ cs. Sized b cs (length (upTo n) * 2 + 2) (length (upTo n) * 8 + 7)) (sym (each-next step 0 n) ∙ ap (λ k. each (upTo k) step) (add-one n))
+        (sized-append (sized-each step (upTo n) below-n) (rw (eq-eqb (0 + n) n (omega arith)) (two (0 + n) true refl))))
+      where
+        step : ℕ → List Clause
+        step t = countStep true a n j c t
+
+        below-n : (t : ℕ) → t ∈ upTo n → Sized b (step t) 2 8
+        below-n t m = let h = of-upTo n m in rw (ne-eqb t n (omega arith)) (two t false refl)
 
     pub cell-clue : (isOpen : ℕ → Bool) → isOpen c ≡ false
         → Sized b (cellClauses isOpen a n j c) (suc n + pairCount (suc n)) (suc n * 3 + pairCount (suc n) * 3)
@@ -153,13 +157,15 @@ module _ (b : Board) where
     -- 4. Start
     pub start-sized : Sized b (startAt b x) (length (lower b x) + 2) (length (lower b x) * 3 + 5 + length (neighbours b x (east ∷ [])))
     start-sized =
-        let e : length (eastward b x) ≡ suc (length (neighbours b x (east ∷ []))) = ap suc (length-map (map (out x) (neighbours b x (east ∷ []))) plus ∙ length-map (neighbours b x (east ∷ [])) (out x)) in
+        let es = neighbours b x (east ∷ []) in
+        let e : length (eastward b x) ≡ suc (length es) = ap suc (length-map (map (out x) es) plus ∙ length-map es (out x)) in
         sized-is (omega arith) (omega arith)
         (sized-append (sized-one _ refl)
         (sized-append (sized-map (blackBefore x) 2 (λ y. refl) (lower b x)) (sized-append (sized-one (eastward b x) e) sized-none)))
 
     -- 5. Distance, with F open cells
-    pub distance-sized : Sized b (distanceAt b x) (openCount b + length (fromOne b) + 3 + around x * length (fromOne b)) (openCount b * 4 + length (fromOne b) * 3 + 8 + around x * (length (fromOne b) * 4))
+    pub distance-sized : let f = openCount b in
+        let k = length (fromOne b) in Sized b (distanceAt b x) (f + k + 3 + around x * k) (f * 4 + k * 3 + 8 + around x * (k * 4))
     distance-sized =
         let q : length (distancesAt b x) ≡ openCount b = length-map (upTo (openCount b)) _ ∙ length-from 0 (openCount b) in
         let l = length-from 0 (openCount b) in

@@ -80,7 +80,9 @@ module _ (b : Board) where
     in-variables (T a j t) (c, m, e, h, l) =
         subst (λ z. T z j t ∈ variables b) e
         (in-joined {xss = letters b} (List·Memᴰ·tail (List·Memᴰ·tail (List·Memᴰ·tail (List·Memᴰ·tail (List·Memᴰ·head refl)))))
-        (in-each clueCounts m (in-each (countsAt (c .cell) (c .number)) (in-upTo (suc (length (c .line))) j (omega arith)) (Memᴰ·map (λ t. T (c .cell) j t) (in-upTo (suc (c .number)) t (omega arith))))))
+        (in-each clueCounts m
+        (in-each (countsAt (c .cell) (c .number)) (in-upTo (suc (length (c .line))) j (omega arith))
+        (Memᴰ·map (λ t. T (c .cell) j t) (in-upTo (suc (c .number)) t (omega arith))))))
 
     pub in-e : (x : ℕ) (y : Neighbour) → b .isOpen x ≡ true → Beside b x y → out x y ∈ variables b
     in-e x y h k = in-variables (out x y) (h, (y .cell, k .leads, k .opened))

@@ -215,5 +215,9 @@ module _ (b : Board) (bounded : BoundedBoard b) where
   unfolding clauseList
   short-list =
       let h = clauses-few .many in
-      let l = length-each-most (written b) 2027 (clauses b) (λ c m. let k = all-at (λ (c : Clause). length c ≤ 2026) (clauses-few .short) m in omega (arith, length-append (map (signed b) c) (pos 0 ∷ []), length-map c (signed b))) in
-      omega arith
+      omega (arith, length-each-most (written b) 2027 (clauses b) one)
+    where
+      one : (c : Clause) → c ∈ clauses b → length (written b c) ≤ 2027
+      one c m =
+          let k = all-at (λ (c : Clause). length c ≤ 2026) (clauses-few .short) m in
+          omega (arith, length-append (map (signed b) c) (pos 0 ∷ []), length-map c (signed b))

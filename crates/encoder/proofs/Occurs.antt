@@ -182,7 +182,8 @@ module _ (b : Board) (law : Laws b) where
                 (
                   all-each Fine (nearerEach b x) (neighbours b x directions) (λ y i. all-map Fine (nearer x y) (fromOne b) (λ k n.
                       let r = of-from 1 (openCount b - 1) n in
-                      (out-in directions y i, (q k (omega arith), (in-variables b law (Q (y .cell) (k - 1)) (beside directions y i .opened, omega arith), tt))))),
+                      let z = in-variables b law (Q (y .cell) (k - 1)) (beside directions y i .opened, omega arith) in
+                      (out-in directions y i, (q k (omega arith), (z, tt))))),
                   tt,
                 ),
               ),

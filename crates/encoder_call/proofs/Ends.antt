@@ -83,7 +83,10 @@ module _ {g : Grid} {s : List ℕ} (w : Encodable g s) where
 -- what the reader sees to
 pub read-encodable : (s : List ℕ) {p : Parsed} {g : Grid} → p ≡ Accepted g → parsedOutcome p ≡ recordAnswer s → Encodable g s
 read-encodable s q e =
-    record { recordFits = read-fits s q e; bounded = subst (λ g. BoundedBoard (gridBoard g s)) (sym (read-sides s q e)) (accepted-bounded s (is-accepted s q e)) }
+    record {
+      recordFits = read-fits s q e;
+      bounded = subst (λ g. BoundedBoard (gridBoard g s)) (sym (read-sides s q e)) (accepted-bounded s (is-accepted s q e));
+    }
 
 -- the whole call
 module _ (s : List ℕ) (out : List ℤ) where
@@ -99,6 +102,6 @@ module _ (s : List ℕ) (out : List ℤ) where
     pub ends-read : {u : Outcome} {new : List ℤ} → GridEnds (read-encodable s q e) out u new → Ends u new
     ends-read (a, b) =
         let t = goes-on s q e (λ g. roomRows (gridBoard g s) out) (countsOutcome (countsOf (boardOf s))) in
-        let z : firstRefusal (roomRows (gridBoard g s) out) (countsOutcome (countsOf (gridBoard g s))) ≡ encoderAnswer s out = ap (λ g'. firstRefusal (roomRows (gridBoard g s) out) (countsOutcome (countsOf (gridBoard g' s)))) (read-sides s q e)
-        ∙ t in
+        let told : Grid → Outcome = (λ g'. firstRefusal (roomRows (gridBoard g s) out) (countsOutcome (countsOf (gridBoard g' s)))) in
+        let z : told g ≡ encoderAnswer s out = ap told (read-sides s q e) ∙ t in
         (a ∙ z, b ∙ (λ i. unlessRefused (z i) out (filled out (clauseList (gridBoard (read-sides s q e i) s)))))

@@ -48,10 +48,10 @@ fn cell(
     table: &[usize],
     x: usize,
 ) -> usize
-    requires { ⌜ WithinLimits at (listOf (gridBoard g (now «record»)) (atCell (gridBoard g (now «record»)) (familyAt «family» (gridBoard g (now «record»))) x)) ⌝ }
+    requires { let b = gridBoard g (now «record») in ⌜ WithinLimits at (listOf b (atCell b (familyAt «family» b) x)) ⌝ }
     requires { ⌜ Tables g (now «record») sizes (now table) ⌝ }
     requires { ⌜ x < size g ⌝ }
-    ensures { λ r. ⌜ Wrote (now (list .entry)) at (listOf (gridBoard g (now («record» .entry))) (atCell (gridBoard g (now («record» .entry))) (familyAt «family» (gridBoard g (now («record» .entry)))) x)) (now (list .exit)) r ⌝ }
+    ensures { λ r. let b = gridBoard g (now («record» .entry)) in ⌜ Wrote (now (list .entry)) at (listOf b (atCell b (familyAt «family» b) x)) (now (list .exit)) r ⌝ }
 {
     let open = is_open(g, record, x);
     if !open {
@@ -71,9 +71,9 @@ fn cells(
     sizes: Sizes,
     table: &[usize],
 ) -> usize
-    requires { ⌜ WithinLimits at (listOf (gridBoard g (now «record»)) (each (opens (gridBoard g (now «record»))) (familyAt «family» (gridBoard g (now «record»))))) ⌝ }
+    requires { let b = gridBoard g (now «record») in ⌜ WithinLimits at (listOf b (each (opens b) (familyAt «family» b))) ⌝ }
     requires { ⌜ Tables g (now «record») sizes (now table) ⌝ }
-    ensures { λ r. ⌜ Wrote (now (list .entry)) at (listOf (gridBoard g (now («record» .entry))) (each (opens (gridBoard g (now («record» .entry)))) (familyAt «family» (gridBoard g (now («record» .entry)))))) (now (list .exit)) r ⌝ }
+    ensures { λ r. let b = gridBoard g (now («record» .entry)) in ⌜ Wrote (now (list .entry)) at (listOf b (each (opens b) (familyAt «family» b))) (now (list .exit)) r ⌝ }
 {
     let n = g.size();
     let mut i = at;
@@ -94,9 +94,9 @@ fn start(
     sizes: Sizes,
     table: &[usize],
 ) -> usize
-    requires { ⌜ WithinLimits at (listOf (gridBoard g (now «record»)) (start (gridBoard g (now «record»)))) ⌝ }
+    requires { let b = gridBoard g (now «record») in ⌜ WithinLimits at (listOf b (start b)) ⌝ }
     requires { ⌜ Tables g (now «record») sizes (now table) ⌝ }
-    ensures { λ r. ⌜ Wrote (now (list .entry)) at (listOf (gridBoard g (now («record» .entry))) (start (gridBoard g (now («record» .entry))))) (now (list .exit)) r ⌝ }
+    ensures { λ r. let b = gridBoard g (now («record» .entry)) in ⌜ Wrote (now (list .entry)) at (listOf b (start b)) (now (list .exit)) r ⌝ }
 {
     let f = sizes.opens;
     let i = at_least_one(list, at, f + 1, f);

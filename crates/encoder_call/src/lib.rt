@@ -72,8 +72,9 @@ impl Encoded {
 pub fn encode_grid(g: Grid, record: &[u8], counts: Counts, list: &mut [i32]) -> Encoded
     requires { ⌜ Encodable g (now «record») ⌝ }
     requires { ⌜ counts ≡ countsOf (gridBoard g (now «record»)) ⌝ }
-    ensures { λ r. ⌜ encodedOutcome r ≡ firstRefusal (roomRows (gridBoard g (now («record» .entry))) (now (list .entry))) (countsOutcome (countsOf (gridBoard g (now («record» .entry))))) ⌝ }
-    ensures { λ r. ⌜ now (list .exit) ≡ unlessRefused (firstRefusal (roomRows (gridBoard g (now («record» .entry))) (now (list .entry))) (countsOutcome (countsOf (gridBoard g (now («record» .entry)))))) (now (list .entry)) (filled (now (list .entry)) (clauseList (gridBoard g (now («record» .entry))))) ⌝ }
+    ensures { λ r. let b = gridBoard g (now («record» .entry)) in ⌜ encodedOutcome r ≡ firstRefusal (roomRows b (now (list .entry))) (countsOutcome (countsOf b)) ⌝ }
+    ensures { λ r. let b = gridBoard g (now («record» .entry)) in let before = now (list .entry) in
+        ⌜ now (list .exit) ≡ unlessRefused (firstRefusal (roomRows b before) (countsOutcome (countsOf b))) before (filled before (clauseList b)) ⌝ }
 {
     let needed = counts.elements;
     if list.len() < needed {

@@ -82,10 +82,11 @@ module _ (b : Board) (x : ℕ) where
         ≡ joined
         (anyParts (number b v) (g (neighbourNumbersOf b x n)) (g (neighbourNumbersOf b x e)) (g (neighbourNumbersOf b x s)) (g (neighbourNumbersOf b x w)))
     any-list v n e s w =
+        let ds = n ∷ e ∷ s ∷ w ∷ [] in
         append-nil _
         ∙ ap (λ l. pos (number b v) ∷ (l ++ (pos 0 ∷ [])))
-        (literals-each b f (neighbours b x (n ∷ e ∷ s ∷ w ∷ []))
-        ∙ side-each (λ y. pos (number b (f y)) ∷ []) (λ s. literalIfPresent (g s)) (ap literalIfPresent off) (λ y k. ap literalIfPresent (on y)) (n ∷ e ∷ s ∷ w ∷ []))
+        (literals-each b f (neighbours b x ds)
+        ∙ side-each (λ y. pos (number b (f y)) ∷ []) (λ s. literalIfPresent (g s)) (ap literalIfPresent off) (λ y k. ap literalIfPresent (on y)) ds)
         ∙ simp (append-assoc)
 
     -- each pair of them
@@ -104,8 +105,8 @@ module _ (b : Board) (x : ℕ) where
         nothing : (es : List Direction) → [] ≡ each es (λ e. notBothIfPresent (g noNeighbour) (g (neighbourNumbersOf b x e)))
         nothing [] = refl
         nothing (e ∷ es) =
-            nothing es
-            ∙ ap (λ k. notBothIfPresent k (g (neighbourNumbersOf b x e)) ++ each es (λ e. notBothIfPresent (g noNeighbour) (g (neighbourNumbersOf b x e)))) (sym off)
+            let rest = each es (λ e. notBothIfPresent (g noNeighbour) (g (neighbourNumbersOf b x e))) in
+            nothing es ∙ ap (λ k. notBothIfPresent k (g (neighbourNumbersOf b x e)) ++ rest) (sym off)
 
         with : (y : Neighbour)
             → listOf b (map (notBoth (f y)) (map f ns)) ≡ each ds (λ e. notBothIfPresent (g (neighbourNumbersTo b x y)) (g (neighbourNumbersOf b x e)))

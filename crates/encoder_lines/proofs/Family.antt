@@ -49,7 +49,8 @@ module _ {g : Grid} {s : List ℕ} (h : RecordFits g s) (x : ℕ) (l : x < size 
       let w = held-filled h in
       let k : Clue = record { cell = x; number = n; line = line p d x } in
       let m = at-clue p x (omega arith) (sym e ∙ q) in
-      let z : number b (T x 0 0) ≡ first = (let r = place-t b (held-laws h) k (cluesFrom p 0 (take x (p .cells))) 0 0 m (omega arith) (omega arith) in omega arith) in
+      let r = place-t b (held-laws h) k (cluesFrom p 0 (take x (p .cells))) 0 0 m (omega arith) (omega arith) in
+      let z : number b (T x 0 0) ≡ first = omega arith in
       ap (λ c. listOf b (each (clueOf p x c) (clueClauses (b .isOpen)))) (sym e ∙ q) ∙ ap (listOf b) (append-nil (clueClauses (b .isOpen) k))
       ∙ clue-list b (held-laws h) k (cluesFrom p 0 (take x (p .cells))) m ∙ ap (λ r. joined (clueNumbers r n (map (blackOf b) (line p d x)))) z
 

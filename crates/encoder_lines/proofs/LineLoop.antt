@@ -32,7 +32,8 @@ row-few row z n w = by z (part-needs (begun [] (in-parts (countStepParts row z n
     by zero w = let v = limits-recast (ap (countStepClue row (row + (n + 1))) (add-one n)) w in omega (arith, no-small (row + 0) (v .literals .0))
     by (suc z) w =
         let next = row + (n + 1) in
-        let r = all-right (NotBeyond mostVariables) (countStepBelow row next (suc z) n) (joined (impliesEither (row + n) (suc z) (next + n) ∷ notBoth (row + n) (suc z) ∷ [])) (w .literals) in
+        let last = joined (impliesEither (row + n) (suc z) (next + n) ∷ notBoth (row + n) (suc z) ∷ []) in
+        let r = all-right (NotBeyond mostVariables) (countStepBelow row next (suc z) n) last (w .literals) in
         omega (arith, no-small (row + n) (r .0))
 
 -- after j cells from the edge: y comes next; what is written, and what is left

@@ -109,7 +109,8 @@ module _ (b : Board) (law : Laws b) (c : Clue) (cs : List Clue) (m : At (b .clue
         ∙ ap (λ k. each (upTo k) (pairsWith next (n + 1))) (sym (add-one n))
       where
         one : (t : ℕ) → t < suc n
-            → listOf b (map (λ u. notBoth (T a (suc j) (0 + t)) (T a (suc j) u)) (from (suc (0 + t)) (0 + suc n - suc (0 + t)))) ≡ pairsWith next (n + 1) (0 + t)
+            → listOf b (map (λ u. notBoth (T a (suc j) (0 + t)) (T a (suc j) u)) (from (suc (0 + t)) (0 + suc n - suc (0 + t))))
+            ≡ pairsWith next (n + 1) (0 + t)
         one t k =
             let e : 0 + suc n - suc (0 + t) ≡ n + 1 - (0 + t + 1) = omega arith in
             list-map b (λ u. notBoth (T a (suc j) (0 + t)) (T a (suc j) u)) (from (suc (0 + t)) (0 + suc n - suc (0 + t)))

@@ -186,7 +186,7 @@ fn clue_at(
     requires { ⌜ WithinLimits at (listOf (gridBoard g (now «record»)) (clueAt (puzzle g (now «record»)) x)) ⌝ }
     requires { ⌜ Tables g (now «record») sizes (now table) ⌝ }
     requires { ⌜ x < size g ⌝ }
-    ensures { λ r. ⌜ Wrote (now (list .entry)) at (listOf (gridBoard g (now («record» .entry))) (clueAt (puzzle g (now («record» .entry))) x)) (now (list .exit)) r ⌝ }
+    ensures { λ r. let s = now («record» .entry) in ⌜ Wrote (now (list .entry)) at (listOf (gridBoard g s) (clueAt (puzzle g s) x)) (now (list .exit)) r ⌝ }
 {
     let c = g.cell(record, x);
     let Cell::Clue(d, n) = c else {
@@ -205,9 +205,9 @@ pub fn clue_lines(
     sizes: Sizes,
     table: &[usize],
 ) -> usize
-    requires { ⌜ WithinLimits at (listOf (gridBoard g (now «record»)) (clueLines (gridBoard g (now «record»)))) ⌝ }
+    requires { let b = gridBoard g (now «record») in ⌜ WithinLimits at (listOf b (clueLines b)) ⌝ }
     requires { ⌜ Tables g (now «record») sizes (now table) ⌝ }
-    ensures { λ r. ⌜ Wrote (now (list .entry)) at (listOf (gridBoard g (now («record» .entry))) (clueLines (gridBoard g (now («record» .entry))))) (now (list .exit)) r ⌝ }
+    ensures { λ r. let b = gridBoard g (now («record» .entry)) in ⌜ Wrote (now (list .entry)) at (listOf b (clueLines b)) (now (list .exit)) r ⌝ }
 {
     let n = g.size();
     let mut i = at;

@@ -136,7 +136,8 @@ counts-few {g} {s} {x} h l = by (getD (puzzle g s .cells) x Open) refl
     by (Clued d n) e =
         let z = clue-counts (puzzle g s) x refl (sym e) refl in
         let m : n ≤ 44 = omega (arith, cell-small (cellByte s x), ap numberOf (cell-at g s x ∙ e)) in
-        let k : (length (line (puzzle g s) d x) + 1) * (n + 1) ≤ suc mostCells * 45 = mul-le-mul {n₂ = suc mostCells} {m₂ = 45} (omega (arith, line-few h l d)) (omega arith) in
+        let j = length (line (puzzle g s) d x) in
+        let k : (j + 1) * (n + 1) ≤ suc mostCells * 45 = mul-le-mul {n₂ = suc mostCells} {m₂ = 45} (omega (arith, line-few h l d)) (omega arith) in
         omega arith
 
 -- and of all: whatever the grid, nothing that is counted overflows

@@ -24,7 +24,9 @@ module _ {at : ℕ} (xs ys : List ℤ) (w : WithinLimits at (xs ++ ys)) where
   limits-left = let r = w .place in record { place = omega (arith, length-append xs ys); literals = all-left (NotBeyond mostVariables) xs ys (w .literals) }
 
   pub limits-right : {buf new : List ℤ} {next : ℕ} → Wrote buf at xs new next → WithinLimits next ys
-  limits-right p = let r = w .place in let e = p .place in record { place = omega (arith, length-append xs ys); literals = all-right (NotBeyond mostVariables) xs ys (w .literals) }
+  limits-right p =
+      let r = w .place in
+      let e = p .place in record { place = omega (arith, length-append xs ys); literals = all-right (NotBeyond mostVariables) xs ys (w .literals) }
 
 -- after one element
 pub limits-next : {at next : ℕ} {x : ℤ} {xs buf new : List ℤ} → WithinLimits at (x ∷ xs) → Wrote buf at (x ∷ []) new next → WithinLimits next xs

@@ -9,10 +9,9 @@ use Rattle.rules.specs.Record.{size, puzzle, RecordFits}
 use Rattle.rules.specs.Board.{Board, gridBoard}
 use Rattle.answers.specs.Lists.{upTo, each, keep}
 use Rattle.encoder.specs.Variables.{openCount, variableCount, atCell}
-use Rattle.encoder.specs.Clauses.{Clause, touchingAt, linksAt, startAt, distanceAt, someStart, start, touching, clueLines, links, distance, clauses, written}
+use Rattle.encoder.specs.Clauses.{Clause, touchingAt, linksAt, startAt, distanceAt, someStart, start, touching, clueLines, links, distance, clauses, listOf}
 use Rattle.encoder.specs.Clauses.{clauseList, Sized}
-use Rattle.answers.proofs.Elements.{each-append}
-use Rattle.encoder.proofs.ClauseLists.{each-next, lower-each}
+use Rattle.encoder.proofs.ClauseLists.{each-next, lower-each, list-append}
 use Rattle.encoder.proofs.Counts.{sized-none, sized-append, some-start-sized}
 use Rattle.encoder_lines.specs.Line.{clueAt}
 use Rattle.encoder_lines.proofs.Family.{lines-cells}
@@ -100,8 +99,8 @@ module _ {g : Grid} {s : List ℕ} {n e x : ℕ} (h : RecordFits g s) (p : Addin
       let y = r .few in
       let z = r .short in
       let q : 0 + x ≡ x = omega arith in
-      let m : each (upTo x) (cellFamilies g s) ++ cellFamilies g s x ≡ each (upTo (x + 1)) (cellFamilies g s) = ap (λ k. each (upTo x) (cellFamilies g s) ++ cellFamilies g s k) (sym q)
-      ∙ sym (each-next (cellFamilies g s) 0 x) in
+      let f = cellFamilies g s in
+      let m : each (upTo x) f ++ f x ≡ each (upTo (x + 1)) f = ap (λ k. each (upTo x) f ++ f k) (sym q) ∙ sym (each-next f 0 x) in
       record {
         within = omega arith;
         clauses = p .clauses + a .clauses;
@@ -127,11 +126,12 @@ module _ {g : Grid} {s : List ℕ} {n e x : ℕ} (h : RecordFits g s) (p : Addin
       let i = f .clauses in
       let j = f .elements in
       let X = ap (λ k. length (each (upTo k) (cellFamilies g s))) q in
-      let Y = ap (λ k. length (each (each (upTo k) (cellFamilies g s)) (written b))) q in
+      let Y = ap (λ k. length (listOf b (each (upTo k) (cellFamilies g s)))) q in
       record {
         clauses = (let z = regrouped length refl length-append h in omega arith);
         elements =
-            (let z = regrouped (λ cs. length (each cs (written b))) refl (λ cs ds. ap length (each-append (written b) cs ds) ∙ length-append (each cs (written b)) (each ds (written b))) h in omega arith);
+            (let z = regrouped (λ cs. length (listOf b cs)) refl (λ cs ds. ap length (list-append b cs ds) ∙ length-append (listOf b cs) (listOf b ds)) h in
+            omega arith);
       }
 
 pub counted : (b : Board) {n e v : ℕ} → Sized b (clauses b) n e → v ≡ variableCount b → record { elements = e; variables = v; clauses = n } ≡ countsOf b

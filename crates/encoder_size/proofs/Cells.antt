@@ -63,7 +63,8 @@ module _ {g : Grid} {s : List ℕ} {x : ℕ} (h : RecordFits g s) (inside : x < 
           sized =
               subst (λ cs. Sized b cs (a .clauses) (a .elements)) open-families
               (sized-is b (omega arith) (omega (arith, mul-assoc (around b x) (length (fromOne b)) 4))
-              (sized-append b (touching-sized b x) (sized-append b (sized-none b) (sized-append b (links-sized b x) (sized-append b (start-sized b x) (distance-sized b x))))));
+              (sized-append b (touching-sized b x)
+              (sized-append b (sized-none b) (sized-append b (links-sized b x) (sized-append b (start-sized b x) (distance-sized b x))))));
           few = omega arith;
           short = omega arith;
         }
@@ -101,7 +102,8 @@ module _ {g : Grid} {s : List ℕ} {x : ℕ} (h : RecordFits g s) (inside : x < 
     clue-families : [] ++ ((joined (clueParts (b .isOpen) x n cells) ++ []) ++ ([] ++ ([] ++ []))) ≡ cellFamilies g s x
     clue-families =
         let none : (F : ℕ → List Clause) → [] ≡ atCell b F x = (λ F. sym (at-shut b x F shut)) in
-        let some : joined (clueParts (b .isOpen) x n cells) ++ [] ≡ clueAt (puzzle g s) x = ap (λ c. each (clueOf (puzzle g s) x c) (clueClauses (b .isOpen))) (sym e) in
+        let p = puzzle g s in
+        let some : joined (clueParts (b .isOpen) x n cells) ++ [] ≡ clueAt p x = ap (λ c. each (clueOf p x c) (clueClauses (b .isOpen))) (sym e) in
         (λ t. none (touchingAt b) t ++ (some t ++ (none (linksAt b) t ++ (none (startAt b) t ++ none (distanceAt b) t))))
 
     clue-amounts : Amounts b (cellFamilies g s x) (clueAmount n opens (length cells - opens))
@@ -118,10 +120,11 @@ module _ {g : Grid} {s : List ℕ} {x : ℕ} (h : RecordFits g s) (inside : x < 
         let Q : clues * (n + 1) ≤ mostCells * 256 = mul-le-mul {n₂ = mostCells} {m₂ = 256} (omega arith) (omega arith) in
         let R : opens * (n * 2 + 1) ≤ mostCells * 512 = mul-le-mul {n₂ = mostCells} {m₂ = 512} (omega arith) (omega arith) in
         let none = sized-none b in
+        let one = clue-sized b x n cells (b .isOpen) (line-sized b (b .isOpen) x n 0 cells clues (omega arith)) in
         let a : Amount = clueAmount n opens clues in
         record {
           sized = subst (λ cs. Sized b cs (a .clauses) (a .elements)) clue-families (sized-is b (omega arith) (omega arith)
-              (sized-append b none (sized-append b (sized-append b (clue-sized b x n cells (b .isOpen) (line-sized b (b .isOpen) x n 0 cells clues (omega arith))) none) (sized-append b none (sized-append b none none)))));
+              (sized-append b none (sized-append b (sized-append b one none) (sized-append b none (sized-append b none none)))));
           few = omega arith;
           short = omega arith;
         }

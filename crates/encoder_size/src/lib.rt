@@ -167,7 +167,7 @@ fn at_cell(g: Grid, record: &[u8], f: usize, lower: usize, x: usize) -> Amount
 // All clauses: those of the cells, and [all S].
 fn all_clauses(g: Grid, record: &[u8], sizes: Sizes, table: &[usize]) -> Amount
     requires { ⌜ Tables g (now «record») sizes (now table) ⌝ }
-    ensures { λ r. ⌜ Sized (gridBoard g (now («record» .entry))) (clauses (gridBoard g (now («record» .entry)))) (r .clauses) (r .elements) ⌝ }
+    ensures { λ r. let b = gridBoard g (now («record» .entry)) in ⌜ Sized b (clauses b) (r .clauses) (r .elements) ⌝ }
 {
     let n = g.size();
     let f = sizes.opens;

@@ -109,7 +109,8 @@ module _ (w : Variable → Bool) (isOpen : ℕ → Bool) (a n : ℕ) where
       pub counts : Counts cs
       counts j t l k =
           let g = joined-all (Sat w) (clueParts isOpen a n cs) h in
-          let r : Row j (blacksNearest black cs j) = moved (omega arith) (omega arith) (rows 0 0 cs (first-row (unit-plus w (T a 0 0) (g .0 .0)) (g .1 .0)) (g .1 .1 .0) j l) in
+          let from-start = rows 0 0 cs (first-row (unit-plus w (T a 0 0) (g .0 .0)) (g .1 .0)) (g .1 .1 .0) j l in
+          let r : Row j (blacksNearest black cs j) = moved (omega arith) (omega arith) from-start in
           r .only t k
 
       -- its line has exactly n black cells

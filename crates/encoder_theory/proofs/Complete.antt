@@ -43,7 +43,7 @@ module _ (b : Board) (law : Laws b) (D : Drawing) (sol : Solution b D) where
   abbrev bright : ℕ → Bool
   bright = white b (D .black)
 
-  abbrev flow : Sent (b .size) (b .next) (white b (D .black)) (first b law D sol) (openCount b) (λ x d. told b law D sol (E x d)) (λ x k. told b law D sol (Q x k) ≡ true)
+  abbrev flow : Sent (b .size) (b .next) bright s (openCount b) (λ x d. told b law D sol (E x d)) (λ x k. told b law D sol (Q x k) ≡ true)
   flow = told-sent b law D sol
 
   s-white : (b .isOpen s ≡ true) × (D .black s ≡ false)
@@ -104,7 +104,8 @@ module _ (b : Board) (law : Laws b) (D : Drawing) (sol : Solution b D) where
                 (by-plus w (Z x) (map plus (incoming b x)) way-in, tt),
                 (
                   one-at-most w (incoming b x)
-                      (links-apart b x back (λ y z e. opposite-injective (y .way) (z .way) (e-way (y .cell) (z .cell) (opposite (y .way)) (opposite (z .way)) e)))
+                      (links-apart b x back
+                      (λ y z e. opposite-injective (y .way) (z .way) (e-way (y .cell) (z .cell) (opposite (y .way)) (opposite (z .way)) e)))
                       in-one,
                   (
                     all-map (Sat w) (oneWay x) (neighbours b x eastSouth)

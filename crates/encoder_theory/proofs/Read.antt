@@ -221,7 +221,8 @@ module _ (b : Board) (law : Laws b) (w : Variable → Bool) (proper : Proper b w
           let (o, (z, f, p)) = proper (E x d) g in
           let r : b .isOpen y ≡ true = ap (b .isOpen) (Option·some-injective y z (sym e ∙ f)) ∙ p in
           let i : suc k - 1 ≡ k = omega arith in
-          let c = map-at (Sat w) (nearer x (record { way = d; cell = y })) (each-at (Sat w) (nearerEach b x) (distance-at x o .1 .1 .1 .1 .0) (beside x d y directions (in-directions d) e r)) (in-one x k q) in
+          let to-y = each-at (Sat w) (nearerEach b x) (distance-at x o .1 .1 .1 .1 .0) (beside x d y directions (in-directions d) e r) in
+          let c = map-at (Sat w) (nearer x (record { way = d; cell = y })) to-y (in-one x k q) in
           ap (λ n. w (Q y n)) (sym i)
           ∙ implies w (Q x (suc k)) (Q y (suc k - 1)) (next-minus w (E x d) (minus (Q x (suc k)) ∷ plus (Q y (suc k - 1)) ∷ []) c g) q
 

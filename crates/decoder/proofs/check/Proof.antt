@@ -48,7 +48,9 @@ returns-3 c =
 
 add-t7 : tie.Need-add-t7
 add-t7 c =
-    omega (arith, first-below (λ i. ltb 1 (getD (c .before .before .before .before .before .before .before .args .values .now) i 0)) (length (c .before .before .before .before .before .before .before .args .values .now)) (found-at (c .before .p .given .1) (c .before .before .before .wrong-value .ensures)))
+    let asked = c .before .before .before in
+    let values = asked .before .before .before .before .args .values .now in
+    omega (arith, first-below (λ i. ltb 1 (getD values i 0)) (length values) (found-at (c .before .p .given .1) (asked .wrong-value .ensures)))
 
 returns-4 : tie.Need-returns-4
 returns-4 c =

@@ -53,6 +53,22 @@ outcome c =
     c .answer .ensures ∙ c .before .judge-rules .ensures ∙ ap (λ ds. firstRefusal (ruleRows (b s) ds) saysYes) (drawn (c .before .before .before))
     ∙ rules-left (b s) (picture s) (long s)
 
+-- what is answered and left in the lent drawing
+returns : tie.Need-returns
+returns c =
+    let k = c .before .before in
+    let s = s2 k in
+    ends-refused (rows s) (s .args .drawing .now) (picture s) (c .enum-told2 .given .0 .0) (ap decodedOutcome (c .enum-told2 .given .1)) (outcome k)
+
+returns-2 : tie.Need-returns-2
+returns-2 c =
+    let k = c .before .before .before .before .before .before .before in
+    let o = k .before .before .before in
+    let s = s2 k in
+    ends-yes (rows s) (s .args .drawing .now) (picture s) (ap decodedOutcome (c .before .before .before .before .before .enum-told .given .1)) (outcome k)
+    (c .before .before .copy .ensures .1 ∙ copied (own o) (s .args .drawing .now) (s .pre .1 ∙ sym (own-long o)) ∙ drawn o)
+
+-- what the calls require, and what else is to be shown
 slice-aggregate-draw : tie.Need-slice-aggregate-draw
 slice-aggregate-draw c = search needs
 
@@ -80,12 +96,6 @@ enum-told c = search needs
 enum-told-2 : tie.Need-enum-told-2
 enum-told-2 c = search needs
 
-returns : tie.Need-returns
-returns c =
-    let k = c .before .before in
-    let s = s2 k in
-    ends-refused (rows s) (s .args .drawing .now) (picture s) (c .enum-told2 .given .0 .0) (ap decodedOutcome (c .enum-told2 .given .1)) (outcome k)
-
 array-share-prefix-own-2 : tie.Need-array-share-prefix-own-2
 array-share-prefix-own-2 c = search needs
 
@@ -97,14 +107,6 @@ copy-requires c κs = let k = c .before .before .before .before .before .before 
 
 same-length : tie.Need-same-length
 same-length c = search needs
-
-returns-2 : tie.Need-returns-2
-returns-2 c =
-    let k = c .before .before .before .before .before .before .before in
-    let o = k .before .before .before in
-    let s = s2 k in
-    ends-yes (rows s) (s .args .drawing .now) (picture s) (ap decodedOutcome (c .before .before .before .before .before .enum-told .given .1)) (outcome k)
-    (c .before .before .copy .ensures .1 ∙ copied (own o) (s .args .drawing .now) (s .pre .1 ∙ sym (own-long o)) ∙ drawn o)
 
 pub judged-spec : {M : Type 1} → statement M
 judged-spec =

@@ -8,9 +8,17 @@ use borrow.Author.Needs.{needs}
 use Rattle.encoder_call.proofs.encode_grid.Statement.{statement}
 use Rattle.encoder_call.proofs.encode_grid.Tie as tie
 
+-- what is answered and left in the list
 returns : tie.Need-returns
 returns c = let s = c .before .before in ends-short (s .pre .0) (s .args .list .now) (s .pre .1) (c .if1 .taken)
 
+returns-2 : tie.Need-returns-2
+returns-2 c =
+    let enough = c .before .before .before .before .before .before .before in
+    let s = enough .before .before in
+    ends-listed (s .pre .0) (s .args .list .now) (s .pre .1) (omega (arith, enough .if1 .left)) (c .before .all-families .ensures)
+
+-- what the calls require, and what else is to be shown
 slice-aggregate-fill : tie.Need-slice-aggregate-fill
 slice-aggregate-fill c = search needs
 
@@ -28,12 +36,6 @@ all-families-requires c κs =
 
 same-length : tie.Need-same-length
 same-length c = search needs
-
-returns-2 : tie.Need-returns-2
-returns-2 c =
-    let s = c .before .before .before .before .before .before .before .before .before in
-    ends-listed (s .pre .0) (s .args .list .now) (s .pre .1) (omega (arith, c .before .before .before .before .before .before .before .if1 .left))
-    (c .before .all-families .ensures)
 
 pub encode-grid-spec : {M : Type 1} → statement M
 encode-grid-spec =

@@ -18,7 +18,9 @@ returns : tie.Need-returns
 returns c = let s = c .before in absent-wrote (s .args .a) (second s) (c .if1 .taken) _ _
 
 returns-2 : tie.Need-returns-2
-returns-2 c = let s = c .before .before in present-wrote (s .args .a) (second s) (c .before .if1 .left) (absent-wrote (s .args .b) (clause s) (c .if2 .taken) _ _)
+returns-2 c =
+    let s = c .before .before in
+    present-wrote (s .args .a) (second s) (c .before .if1 .left) (absent-wrote (s .args .b) (clause s) (c .if2 .taken) _ _)
 
 not-both-requires : tie.Need-not-both-requires
 not-both-requires c κs =

@@ -18,7 +18,8 @@ loop-holds c = write-start (c .pre)
 
 add-implies : tie.Need-add-implies Inv-loop μ-loop
 add-implies c =
-    omega (arith, no-small (c .before .before .before .args .row + (c .before .before .loop .k)) ((write-needs (c .before .before .loop .inv) (c .before .loop-test .taken)) .literals .0))
+    let l = c .before .before in
+    let h = write-needs (l .loop .inv) (c .before .loop-test .taken) in omega (arith, no-small (l .before .args .row + l .loop .k) (h .literals .0))
 
 add-implies-2 : tie.Need-add-implies-2 Inv-loop μ-loop
 add-implies-2 c = let h = (write-needs (c .before .before .loop .inv) (c .before .loop-test .taken)) .literals .1 .0 in omega arith

@@ -32,7 +32,8 @@ count-step-below-requires c κs = part-needs (start (c .before))
 
 add-implies-either : tie.Need-add-implies-either
 add-implies-either c =
-    omega (arith, no-small (c .before .before .before .before .args .row + c .before .before .before .before .args .n) (part-needs (p1 (c .before .before)) .literals .0))
+    let s = c .before .before .before .before in
+    omega (arith, no-small (s .args .row + s .args .n) (part-needs (p1 (c .before .before)) .literals .0))
 
 add-implies-either-2 : tie.Need-add-implies-either-2
 add-implies-either-2 c = let h = part-needs (p1 (c .before .before)) .literals .1 .1 .0 in omega arith

@@ -18,7 +18,8 @@ loop-holds c = write-start (c .pre)
 
 add-both-imply : tie.Need-add-both-imply Inv-loop μ-loop
 add-both-imply c =
-    omega (arith, no-small (c .before .before .before .args .b + c .before .before .loop .k) ((write-needs (c .before .before .loop .inv) (c .before .loop-test .taken)) .literals .1 .0))
+    let l = c .before .before in
+    let h = write-needs (l .loop .inv) (c .before .loop-test .taken) in omega (arith, no-small (l .before .args .b + l .loop .k) (h .literals .1 .0))
 
 add-both-imply-2 : tie.Need-add-both-imply-2 Inv-loop μ-loop
 add-both-imply-2 c = let h = (write-needs (c .before .before .loop .inv) (c .before .loop-test .taken)) .literals .1 .1 .0 in omega arith

@@ -13,9 +13,17 @@ Inv-loop list₀ at a first n i₀ k₀ list i k = Writing list₀ at (λ k. imp
 abbrev μ-loop : tie.MeasureT-loop
 μ-loop list₀ at a first n i₀ k₀ list i k = n - k
 
+-- what is written
 loop-holds : tie.Need-loop-holds Inv-loop μ-loop
 loop-holds c = write-start (c .pre)
 
+loop-again : tie.Need-loop-again Inv-loop μ-loop
+loop-again c = write-on (c .before .before .before .before .loop .inv) (c .before .before .before .loop-test .taken) (c .before .implies .ensures)
+
+returns : tie.Need-returns Inv-loop μ-loop
+returns c = write-end (c .before .loop .inv) (c .loop-test .left)
+
+-- what the calls require, and what else is to be shown
 add-implies : tie.Need-add-implies Inv-loop μ-loop
 add-implies c = let h = (write-needs (c .before .before .loop .inv) (c .before .loop-test .taken)) .literals .1 .0 in omega arith
 
@@ -28,14 +36,8 @@ add-k c = search needs
 loop-less : tie.Need-loop-less Inv-loop μ-loop
 loop-less c = search needs
 
-loop-again : tie.Need-loop-again Inv-loop μ-loop
-loop-again c = write-on (c .before .before .before .before .loop .inv) (c .before .before .before .loop-test .taken) (c .before .implies .ensures)
-
 same-length : tie.Need-same-length Inv-loop μ-loop
 same-length c = write-kept (c .before .loop .inv)
-
-returns : tie.Need-returns Inv-loop μ-loop
-returns c = write-end (c .before .loop .inv) (c .loop-test .left)
 
 pub each-implies-spec : {M : Type 1} → statement M
 each-implies-spec = tie.close (tie.spec Inv-loop μ-loop loop-holds add-implies implies-requires add-k loop-less loop-again same-length returns)

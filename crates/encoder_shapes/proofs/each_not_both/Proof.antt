@@ -18,7 +18,8 @@ loop-holds c = write-start (c .pre)
 
 add-not-both : tie.Need-add-not-both Inv-loop μ-loop
 add-not-both c =
-    omega (arith, no-small (c .before .before .before .args .first + c .before .before .loop .k) ((write-needs (c .before .before .loop .inv) (c .before .loop-test .taken)) .literals .1 .0))
+    let l = c .before .before in
+    let h = write-needs (l .loop .inv) (c .before .loop-test .taken) in omega (arith, no-small (l .before .args .first + l .loop .k) (h .literals .1 .0))
 
 not-both-requires : tie.Need-not-both-requires Inv-loop μ-loop
 not-both-requires c κs = write-needs (c .before .before .loop .inv) (c .before .loop-test .taken)

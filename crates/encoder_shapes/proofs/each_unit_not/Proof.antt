@@ -18,7 +18,8 @@ loop-holds c = write-start (c .pre)
 
 add-unit-not : tie.Need-add-unit-not Inv-loop μ-loop
 add-unit-not c =
-    omega (arith, no-small (c .before .before .before .args .first + c .before .before .loop .k) ((write-needs (c .before .before .loop .inv) (c .before .loop-test .taken)) .literals .0))
+    let l = c .before .before in
+    let h = write-needs (l .loop .inv) (c .before .loop-test .taken) in omega (arith, no-small (l .before .args .first + l .loop .k) (h .literals .0))
 
 unit-not-requires : tie.Need-unit-not-requires Inv-loop μ-loop
 unit-not-requires c κs = write-needs (c .before .before .loop .inv) (c .before .loop-test .taken)

@@ -38,8 +38,10 @@ bit-requires c κs = search needs
 
 add-count : tie.Need-add-count Inv-loop μ-loop
 add-count c =
-    let s = c .before .before .before .before .before in
-    omega (arith, c .bit .ensures, bit-small (c .before .is-open .result), count-few (c .before .before .before .loop .inv), inside (c .before .before), line-few (s .pre .0) (s .pre .1 .1) (s .args .d))
+    let l = c .before .before .before in
+    let s = l .before .before in
+    let so-far = count-few (l .loop .inv) in
+    omega (arith, c .bit .ensures, bit-small (c .before .is-open .result), so-far, inside (c .before .before), line-few (s .pre .0) (s .pre .1 .1) (s .args .d))
 
 opposite-requires : tie.Need-opposite-requires Inv-loop μ-loop
 opposite-requires c κs = search needs

@@ -20,7 +20,8 @@ open-here c = record { inside = c .before .before .before .before .pre .1 .1; op
 -- the cell's clauses by its numbers
 by-numbers : (c : tie.After-cell-numbers) → let s = c .before .before .before .before .before in
     let b = gridBoard (s .args .g) (s .args .«record» .now) in
-    listOf b (atCell b (familyAt (s .args .«family») b) (s .args .x)) ≡ joined (familyParts (s .args .«family») (s .args .sizes .opens) (c .cell-numbers .result))
+    listOf b (atCell b (familyAt (s .args .«family») b) (s .args .x))
+    ≡ joined (familyParts (s .args .«family») (s .args .sizes .opens) (c .cell-numbers .result))
 by-numbers c =
     let s = c .before .before .before .before .before in
     open-list (s .pre .1 .0) (s .args .x) (open-here (c .before)) (c .cell-numbers .ensures) (s .args .«family»)

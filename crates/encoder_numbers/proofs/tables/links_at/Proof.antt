@@ -22,7 +22,8 @@ open-there-requires c κs = search needs
 add-result : tie.Need-add-result
 add-result c =
     let s = c .before .before .before in
-    omega (arith, c .before .links-before .ensures, c .open-there .ensures, neighbours-most (b s) (s .args .x) (earlier west), neighbours-most (b s) (s .args .x) (west ∷ []))
+    let most = neighbours-most (b s) (s .args .x) in
+    omega (arith, c .before .links-before .ensures, c .open-there .ensures, most (earlier west), most (west ∷ []))
 
 returns : tie.Need-returns
 returns c =

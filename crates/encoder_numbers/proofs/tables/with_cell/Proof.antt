@@ -15,16 +15,23 @@ use Rattle.encoder_numbers.proofs.tables.with_cell.Tie as tie
 few : (c : tie.Start) → Few (c .args .below)
 few c = sizes-few (c .pre .0) (c .args .x) (omega arith) (c .pre .1 .1)
 
+-- the start, from an open cell and from a clue
+abbrev s1 : tie.After-links-at → tie.Start
+s1 c = c .before .before .before .before .before
+
+abbrev s2 : tie.After-line-end → tie.Start
+s2 c = c .before .before .before .before .before .before
+
 -- with an open cell, and with a clue
-with-open : (c : tie.After-links-at) → let s = c .before .before .before .before .before in
+with-open : (c : tie.After-links-at) → let s = s1 c in
     _≡_ {A = Sizes}
     (record { opens = s .args .below .opens + 1; links = s .args .below .links + c .links-at .result; counts = s .args .below .counts })
     (sizesBelow (s .args .g) (s .args .«record» .now) (s .args .x + 1))
 with-open c =
-    let s = c .before .before .before .before .before in
+    let s = s1 c in
     sizes-open (s .pre .0) (s .pre .1 .0) (s .pre .1 .1) (c .before .before .before .cell .ensures) (c .before .enum-told .given .1) (c .links-at .ensures)
 
-with-clue : (c : tie.After-line-end) → let s = c .before .before .before .before .before .before in
+with-clue : (c : tie.After-line-end) → let s = s2 c in
     _≡_ {A = Sizes}
     (record {
       opens = s .args .below .opens;
@@ -33,13 +40,12 @@ with-clue : (c : tie.After-line-end) → let s = c .before .before .before .befo
     })
     (sizesBelow (s .args .g) (s .args .«record» .now) (s .args .x + 1))
 with-clue c =
-    let s = c .before .before .before .before .before .before in
+    let s = s2 c in
     sizes-clue (s .pre .0) (s .pre .1 .0) (s .pre .1 .1) (c .before .before .before .before .cell .ensures) (c .before .before .c .given .1)
     (c .line-end .ensures .1)
 
-few-with : (c : tie.After-line-end)
-    → Few (sizesBelow (c .before .before .before .before .before .before .args .g) (c .before .before .before .before .before .before .args .«record» .now) (c .before .before .before .before .before .before .args .x + 1))
-few-with c = let s = c .before .before .before .before .before .before in sizes-few (s .pre .0) (s .args .x + 1) (omega (arith, s .pre .1 .0)) refl
+few-with : (c : tie.After-line-end) → let s = s2 c in Few (sizesBelow (s .args .g) (s .args .«record» .now) (s .args .x + 1))
+few-with c = let s = s2 c in sizes-few (s .pre .0) (s .args .x + 1) (omega (arith, s .pre .1 .0)) refl
 
 cell-requires : tie.Need-cell-requires
 cell-requires c κs = search needs
@@ -54,11 +60,11 @@ links-at-requires : tie.Need-links-at-requires
 links-at-requires c κs = search needs
 
 add-t11 : tie.Need-add-t11
-add-t11 c = let f = few (c .before .before .before .before .before .before) in omega arith
+add-t11 c = let f = few (s1 (c .before)) in omega arith
 
 add-t12 : tie.Need-add-t12
 add-t12 c =
-    let s = c .before .before .before .before .before .before .before in
+    let s = s1 (c .before .before) in
     let f = few s in
     omega (arith, c .before .before .links-at .ensures, neighbours-most (gridBoard (s .args .g) (s .args .«record» .now)) (s .args .x) directions)
 
@@ -70,7 +76,7 @@ line-end-requires c κs = search needs
 
 add-t13 : tie.Need-add-t13
 add-t13 c =
-    let s = c .before .before .before .before .before .before in
+    let s = s2 c in
     omega (arith, c .line-end .ensures .1, line-few (s .pre .0) (s .pre .1 .0) (c .before .before .c .given .0 .0))
 
 cast-t14 : tie.Need-cast-t14
