@@ -16,21 +16,21 @@ use Rattle.search.specs.Call.{searchOn, Searching, IsTaken}
 use Rattle.solver.specs.SolutionCount.{SolutionCount, NoSolution, OneSolution, SeveralSolutions, Unknown, solutionCountIn, solutionCountOf}
 use Rattle.solver.specs.Begun.{BegunOn}
 use Rattle.solver.proofs.Begun as begun
-use Rattle.program_text.specs.Programs.{mostHeld, budget}
+use Rattle.program_text.specs.Programs.{variableLimit, budget}
 use Rattle.program_text.proofs.Limits.{printed-text, printed-fits}
 use Rattle.program_text.proofs.Encoded.{Encodes, read, variables, listed, unrefused}
 use Rattle.count_solutions.specs.Printed.{countLine, printedCount}
 
-module _ {s : List ℕ} {new : List ℤ} {c : Counts} (w : Encodes s (countsOutcome c) new) (h : c .variables ≤ mostHeld) where
+module _ {s : List ℕ} {new : List ℤ} {c : Counts} (w : Encodes s (countsOutcome c) new) (h : c .variables ≤ variableLimit) where
   -- the parts of trail and marks that are lent on
-  part-long : {A : Type 0} (x : A) → length (take (c .variables) (replicate mostHeld x)) ≡ variableCount (boardOf s)
-  part-long x = length-take-le (c .variables) (replicate mostHeld x) (omega (arith, length-replicate mostHeld x)) ∙ variables w refl
+  part-long : {A : Type 0} (x : A) → length (take (c .variables) (replicate variableLimit x)) ≡ variableCount (boardOf s)
+  part-long x = length-take-le (c .variables) (replicate variableLimit x) (omega (arith, length-replicate variableLimit x)) ∙ variables w refl
 
   abbrev ts : List ℤ
-  ts = take (c .variables) (replicate mostHeld (pos 0))
+  ts = take (c .variables) (replicate variableLimit (pos 0))
 
   abbrev ms : List ℕ
-  ms = take (c .variables) (replicate mostHeld 0)
+  ms = take (c .variables) (replicate variableLimit 0)
 
   pub taken : IsTaken Searching (searchOn (length ts) (take (c .elements) new) ts ms 0)
   taken = begun.begun-taken s _ on

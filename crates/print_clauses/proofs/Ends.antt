@@ -15,7 +15,7 @@ use Rattle.encoder.specs.Clauses.{clauseList}
 use Rattle.encoder.proofs.Bounds.{clause-count}
 use Rattle.encoder_size.specs.declared.Counts.{Counts}
 use Rattle.encoder_call.specs.Answer.{countsOutcome}
-use Rattle.program_text.specs.Programs.{mostHeld, printedClauses}
+use Rattle.program_text.specs.Programs.{variableLimit, printedClauses}
 use Rattle.program_text.proofs.Limits.{printed-text}
 use Rattle.program_text.proofs.Encoded.{Encodes, counted, variables, listed, unrefused}
 use Rattle.print_clauses.proofs.Fits.{text-fits}
@@ -29,7 +29,7 @@ module _ {s : List ℕ} {new : List ℤ} {c : Counts} (w : Encodes s (countsOutc
   is-text =
       λ i. headerLine (variables w refl i) ((ap (λ (t : Outcome). t .third) (counted w refl) ∙ sym (clause-count (boardOf s))) i) ++ lines (listed w refl i)
 
-  module _ (h : c .variables ≤ mostHeld) where
+  module _ (h : c .variables ≤ variableLimit) where
     pub listed-fits : length (headerLine (c .variables) (c .clauses)) + length (lines (take (c .elements) new)) < 2 ^ 64
     listed-fits =
         omega (

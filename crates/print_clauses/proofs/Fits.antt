@@ -18,15 +18,15 @@ use Rattle.encoder.specs.Variables.{variableCount}
 use Rattle.encoder.specs.Clauses.{clauseList}
 use Rattle.encoder.specs.Bounds.{NotBeyond}
 use Rattle.encoder.proofs.Bounds.{list-not-beyond}
-use Rattle.program_text.specs.Programs.{mostElements, mostHeld, programNumber, printedClauses}
+use Rattle.program_text.specs.Programs.{elementLimit, variableLimit, programNumber, printedClauses}
 use Rattle.program_text.proofs.Limits.{unrefused, printed-fits}
 
 -- at most a sign, four digits and the byte behind them
-signed-short : (l : ℤ) → natAbs l ≤ mostHeld → length (signed l) ≤ 5
+signed-short : (l : ℤ) → natAbs l ≤ variableLimit → length (signed l) ≤ 5
 signed-short (pos n) h = let d = digits-few 3 n (omega arith) in omega arith
 signed-short (negsuc n) h = let d = digits-few 3 (suc n) (omega arith) in omega arith
 
-lines-short : (v : ℕ) (ls : List ℤ) → v ≤ mostHeld → All (NotBeyond v) ls → length (lines ls) ≤ length ls * 6
+lines-short : (v : ℕ) (ls : List ℤ) → v ≤ variableLimit → All (NotBeyond v) ls → length (lines ls) ≤ length ls * 6
 unfolding lines
 lines-short v [] few h = omega arith
 lines-short v (l ∷ ls) few h =
@@ -36,7 +36,7 @@ lines-short v (l ∷ ls) few h =
     let i = lines-short v ls few (h .1) in
     omega arith
 
-text-short : (v : ℕ) (ls : List ℤ) → v ≤ mostHeld → length ls ≤ mostElements → All (NotBeyond v) ls → length (textOf v ls) ≤ 65536
+text-short : (v : ℕ) (ls : List ℤ) → v ≤ variableLimit → length ls ≤ elementLimit → All (NotBeyond v) ls → length (textOf v ls) ≤ 65536
 text-short v ls few short h =
     let a = length-append (headerLine v (clauseCount ls)) (lines ls) in
     let m = many-most closes ls in

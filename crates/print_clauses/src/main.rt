@@ -2,6 +2,7 @@
 ghost use mathlib.Core.List.{_++_};
 ghost use Prim.Native.Nat.{_+_, _<_, _^_};
 ghost use lib.ListN.{length};
+ghost use Rattle.io.specs.Counts.{Counts};
 ghost use Rattle.answers.specs.Lent.{Wrote};
 ghost use Rattle.dimacs.specs.Text.{lines, headerLine};
 ghost use Rattle.program_text.specs.Programs.{printedClauses};
@@ -9,8 +10,8 @@ use dimacs_writer::put_header;
 use dimacs_writer::put_lines;
 use encoder_call::Encoded;
 use encoder_call::encode;
-use program_text::MOST_ELEMENTS;
-use program_text::MOST_VARIABLES;
+use program_text::ELEMENT_LIMIT;
+use program_text::VARIABLE_LIMIT;
 use program_text::put_refused;
 
 // The header, then one clause a line.
@@ -22,18 +23,19 @@ fn put_text(text: &mut [u8], variables: usize, clauses: usize, list: &[i32]) -> 
     put_lines(text, first, list)
 }
 
-// Writes what the program prints for the bytes on its standard input; returns how many bytes that is.
-fn clauses_text(record: &[u8], text: &mut [u8]) -> usize
+// Writes what the program prints for the bytes on its standard input, which `text` has room for; returns how many bytes that is.
+fn clauses_text(record: &[u8], text: &mut [u8; 65536]) -> usize
     ensures { λ r. ⌜ Wrote (now (text .entry)) 0 (printedClauses (now («record» .entry))) (now (text .exit)) r ⌝ }
+    ensures { λ r. ⌜ Counts r (now (text .exit)) ⌝ }
 {
-    let mut list = [0i32; MOST_ELEMENTS];
+    let mut list = [0i32; ELEMENT_LIMIT];
     let e = encode(record, &mut list);
     let Encoded::Written(c) = e else {
         return put_refused(text, e.outcome().number as usize);
     };
     let elements = c.elements;
     let variables = c.variables;
-    if variables > MOST_VARIABLES {
+    if variables > VARIABLE_LIMIT {
         return put_refused(text, 6);
     }
     put_text(text, variables, c.clauses, &list[..elements])

@@ -11,8 +11,9 @@ use mathlib.Core.Bool.{Bool, true, false}
 use mathlib.Core.List.{List, [], _∷_}
 use Rattle.answers.specs.declared.Outcome.{Outcome}
 use Rattle.answers.specs.Outcome.{answer, Row, row, firstRefusal}
-use Rattle.answers.specs.Lent.{tooShort, filled, unlessRefused}
+use Rattle.answers.specs.Lent.{Wrote, tooShort, filled, unlessRefused}
 use Rattle.answers.proofs.Bools.{or-right}
+use Rattle.answers.proofs.Lent.{wrote-recast}
 use Rattle.answers.proofs.Rows.{Clear, answered-clear, clear-answered}
 use Rattle.answers.proofs.Settled.{enough}
 use Rattle.rules.specs.Record.{recordRows, IsAccepted}
@@ -21,12 +22,12 @@ use Rattle.encoder.specs.Variables.{variableCount}
 use Rattle.encoder.specs.Clauses.{clauses, clauseList}
 use Rattle.encoder.specs.Encoding.{encoderRows, encoderAnswer, encoderLeaves}
 use Rattle.program_text.specs.Lines.{refusedLine}
-use Rattle.program_text.specs.Programs.{mostElements, mostHeld, needsMore, programNumber, printed}
+use Rattle.program_text.specs.Programs.{elementLimit, variableLimit, needsMore, programNumber, printed}
 use Rattle.program_text.proofs.Limits.{limited, left, left-to-limits, clear-parts, clear-accepted, same-number, printed-refused}
 
 -- the list that a program lends
 abbrev pub zeros : List ℤ
-zeros = replicate mostElements (pos 0)
+zeros = replicate elementLimit (pos 0)
 
 -- what the encoder's call tells and leaves
 pub record Encodes (s : List ℕ) (t : Outcome) (new : List ℤ) : Type 0 where
@@ -48,19 +49,20 @@ module _ (s : List ℕ) where
   counts = answer (length list) (variableCount (boardOf s)) (length (clauses (boardOf s)))
 
   same-refusal : (encoderAnswer s zeros .number ≡ 0 → ⊥) → encoderAnswer s zeros .number ≡ programNumber s
-  same-refusal n = same-number s room counts (λ c. by c (ltb mostElements (length list)) refl)
+  same-refusal n = same-number s room counts (λ c. by c (ltb elementLimit (length list)) refl)
     where
-      by : Clear (recordRows s) → (b : Bool) → ltb mostElements (length list) ≡ b → firstRefusal room counts .number ≡ limited (needsMore (boardOf s))
+      by : Clear (recordRows s) → (b : Bool) → ltb elementLimit (length list) ≡ b → firstRefusal room counts .number ≡ limited (needsMore (boardOf s))
       by c true h = rw h
       by c false h = absurd (n (ap (λ (t : Outcome). t .number) (left s c room counts) ∙ (rw h)))
 
 module _ {s : List ℕ} {t : Outcome} {new : List ℤ} (w : Encodes s t new) where
   -- refused
-  pub refused-line : (text : List ℕ) → (t .number ≡ 0 → ⊥) → refusedLine (t .number) ≡ printed (programNumber s) text
-  refused-line text n =
+  pub ends-refused : (text : List ℕ) {buf after : List ℕ} {r : ℕ} → (t .number ≡ 0 → ⊥)
+      → Wrote buf 0 (refusedLine (t .number)) after r → Wrote buf 0 (printed (programNumber s) text) after r
+  ends-refused text n =
       let e : t .number ≡ encoderAnswer s zeros .number = ap (λ (t : Outcome). t .number) (w .outcome) in
       let p = same-refusal s (λ z. n (e ∙ z)) in
-      printed-refused text (e ∙ p) (λ z. n (e ∙ p ∙ z))
+      wrote-recast (printed-refused text (e ∙ p) (λ z. n (e ∙ p ∙ z)))
 
   -- answered
   module _ (e : t .number ≡ 0) where
@@ -95,14 +97,15 @@ module _ {s : List ℕ} {t : Outcome} {new : List ℤ} (w : Encodes s t new) whe
     listed-long = elements ∙ sym (ap length listed)
 
     -- V is asked after it
-    pub large-line : (text : List ℕ) → mostHeld < t .second → refusedLine 6 ≡ printed (programNumber s) text
-    large-line text h =
-        let m = lt-ltb mostHeld (variableCount (boardOf s)) (omega (arith, variables)) in
-        let n : programNumber s ≡ 6 = left-to-limits s (parts .0) ∙ ap limited (or-right (ltb mostElements (length (list s))) _ m) in
-        printed-refused text (sym n) (λ z. omega arith)
+    pub ends-large : (text : List ℕ) {buf after : List ℕ} {r : ℕ} → variableLimit < t .second
+        → Wrote buf 0 (refusedLine 6) after r → Wrote buf 0 (printed (programNumber s) text) after r
+    ends-large text h =
+        let m = lt-ltb variableLimit (variableCount (boardOf s)) (omega (arith, variables)) in
+        let n : programNumber s ≡ 6 = left-to-limits s (parts .0) ∙ ap limited (or-right (ltb elementLimit (length (list s))) _ m) in
+        wrote-recast (printed-refused text (sym n) (λ z. omega arith))
 
-    pub unrefused : t .second ≤ mostHeld → programNumber s ≡ 0
+    pub unrefused : t .second ≤ variableLimit → programNumber s ≡ 0
     unrefused h =
         let short : length (list s) ≤ length zeros = enough (length zeros) (parts .1 .0) in
-        let few = le-ltb mostElements (length (list s)) (omega (arith, length-replicate mostElements (pos 0))) in
-        left-to-limits s (parts .0) ∙ rw (few, le-ltb mostHeld (variableCount (boardOf s)) (omega (arith, variables)))
+        let few = le-ltb elementLimit (length (list s)) (omega (arith, length-replicate elementLimit (pos 0))) in
+        left-to-limits s (parts .0) ∙ rw (few, le-ltb variableLimit (variableCount (boardOf s)) (omega (arith, variables)))

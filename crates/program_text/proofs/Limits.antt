@@ -29,7 +29,7 @@ use Rattle.encoder.specs.Variables.{variableCount}
 use Rattle.encoder.specs.Clauses.{clauseList}
 use Rattle.answers.proofs.Elements.{all-left, all-right}
 use Rattle.program_text.specs.Lines.{refusedLine}
-use Rattle.program_text.specs.Programs.{mostElements, mostHeld, needsMore, programRows, programNumber, printed}
+use Rattle.program_text.specs.Programs.{elementLimit, variableLimit, needsMore, programRows, programNumber, printed}
 
 -- calls with the same first rows tell the same number, if they do wherever these are passed
 same-rows : (rs qs ps : List Row) (t u : Outcome) → (Clear rs → firstRefusal qs t .number ≡ firstRefusal ps u .number)
@@ -62,11 +62,11 @@ module _ (s : List ℕ) where
   clear-accepted c = ap (λ (t : Outcome). t .number) (clear-answered (recordRows s) _ c)
 
   -- no refusal: an accepted grid that needs no more than the programs hold
-  pub unrefused : programNumber s ≡ 0 → IsAccepted s × (length (clauseList (boardOf s)) ≤ mostElements) × (variableCount (boardOf s) ≤ mostHeld)
+  pub unrefused : programNumber s ≡ 0 → IsAccepted s × (length (clauseList (boardOf s)) ≤ elementLimit) × (variableCount (boardOf s) ≤ variableLimit)
   unrefused e =
       let (c, l) = clear-parts (row 6 (cause (needsMore (boardOf s))) ∷ []) (answered-clear (programRows s) (answer 0 0 0) refl e) in
-      let n = or-neither (ltb mostElements (length (clauseList (boardOf s)))) _ (no-cause (needsMore (boardOf s)) (l .0)) in
-      (clear-accepted c, ltb-false mostElements (length (clauseList (boardOf s))) (n .0), ltb-false mostHeld (variableCount (boardOf s)) (n .1))
+      let n = or-neither (ltb elementLimit (length (clauseList (boardOf s)))) _ (no-cause (needsMore (boardOf s)) (l .0)) in
+      (clear-accepted c, ltb-false elementLimit (length (clauseList (boardOf s))) (n .0), ltb-false variableLimit (variableCount (boardOf s)) (n .1))
 
   -- the same refusal as that of another call
   pub same-number : (qs : List Row) (t : Outcome) → (Clear (recordRows s) → firstRefusal qs t .number ≡ limited (needsMore (boardOf s)))
@@ -111,10 +111,9 @@ printed-fits s text room r h = by (eqb (programNumber s) 0) refl
     by true e = h (eqb-true (programNumber s) 0 e)
     by false e = omega (arith, line-short s)
 
--- a text that fits its buffer is a part of it
-module _ {buf text after : List ℕ} {r : ℕ} (w : Wrote buf 0 text after r) (h : length text ≤ length buf) where
-  pub text-inside : r ≤ length after
-  text-inside = let p = w .place in omega (arith, wrote-length w)
-
-  pub text-long : r ≡ length (take r after)
-  text-long = sym (length-take-le r after text-inside)
+-- a text that fits its buffer is written whole: what is answered counts bytes of the buffer
+pub whole : {buf text after : List ℕ} {r room : ℕ} → length buf ≡ room → length text ≤ room → Wrote buf 0 text after r
+    → Wrote buf 0 text after r × ((r ≤ length after) × (r ≡ length (take r after)))
+whole {after = after} {r = r} e h w =
+    let inside : r ≤ length after = let p = w .place in omega (arith, wrote-length w) in
+    (w, (inside, sym (length-take-le r after inside)))

@@ -16,15 +16,15 @@ use Rattle.search.specs.Run.{Ending, Found, None, Halted, Done, run}
 use Rattle.program_text.specs.Lines.{refusedLine, noneLine, haltedLine, drawingText}
 
 -- they hold at most 8,192 list elements and 4,096 variables
-abbrev pub mostElements : ℕ
-mostElements = 8192
+abbrev pub elementLimit : ℕ
+elementLimit = 8192
 
-abbrev pub mostHeld : ℕ
-mostHeld = 4096
+abbrev pub variableLimit : ℕ
+variableLimit = 4096
 
 -- a grid that needs more
 abbrev pub needsMore : Board → Bool
-needsMore b = ltb mostElements (length (clauseList b)) || ltb mostHeld (variableCount b)
+needsMore b = ltb elementLimit (length (clauseList b)) || ltb variableLimit (variableCount b)
 
 -- programs 1-5, 6
 abbrev pub programRows : List ℕ → List Row

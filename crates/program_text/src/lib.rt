@@ -10,9 +10,9 @@ use text::put_field;
 use text::put_word;
 
 // The programs' limits: the list elements and the variables that they hold, and the most steps that they search.
-pub const MOST_ELEMENTS: usize = 8192;
+pub const ELEMENT_LIMIT: usize = 8192;
 
-pub const MOST_VARIABLES: usize = 4096;
+pub const VARIABLE_LIMIT: usize = 4096;
 
 pub const BUDGET: u64 = 1000000;
 

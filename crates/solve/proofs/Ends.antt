@@ -36,7 +36,7 @@ use Rattle.solver_call.specs.declared.Solved.{Solved}
 use Rattle.solver_call.specs.declared.Solved.the-variants.{Ended, Refused}
 use Rattle.solver_call.specs.Answer.{solveRefusalOutcome, solvedOutcome}
 use Rattle.program_text.specs.Lines.{refusedLine, drawingText}
-use Rattle.program_text.specs.Programs.{mostElements, mostHeld, needsMore, programNumber, budget, searched, endText, drawingAt, printedSolution}
+use Rattle.program_text.specs.Programs.{elementLimit, variableLimit, needsMore, programNumber, budget, searched, endText, drawingAt, printedSolution}
 use Rattle.program_text.proofs.Lines.{drawing-length}
 use Rattle.program_text.proofs.Limits.{limited, clear-parts, clear-accepted, unrefused, same-number, printed-refused, printed-text, printed-fits}
 
@@ -44,9 +44,9 @@ use Rattle.program_text.proofs.Limits.{limited, clear-parts, clear-accepted, un
 abbrev pub lent : Lent
 lent =
     record {
-      list = replicate mostElements (pos 0);
-      slices = slices (replicate mostHeld (pos 0)) (replicate mostHeld 0);
-      values = replicate mostHeld 0;
+      list = replicate elementLimit (pos 0);
+      slices = slices (replicate variableLimit (pos 0)) (replicate variableLimit 0);
+      values = replicate variableLimit 0;
       drawing = replicate mostCells 0;
     }
 
@@ -64,10 +64,10 @@ same-refusal : (s : List ℕ) → solverAnswer s budget lent .number ≡ program
 same-refusal s =
     same-number s (roomRows (boardOf s) lent) (doneOutcome (searched (boardOf s)))
     (λ c.
-    by (ltb mostElements (length (clauseList (boardOf s)))) refl (ltb mostHeld (variableCount (boardOf s))) refl
+    by (ltb elementLimit (length (clauseList (boardOf s)))) refl (ltb variableLimit (variableCount (boardOf s))) refl
     (le-ltb mostCells (size (sides s)) (accepted-fits s (clear-accepted s c) .sides .few)))
   where
-    by : (l : Bool) → ltb mostElements (length (clauseList (boardOf s))) ≡ l → (v : Bool) → ltb mostHeld (variableCount (boardOf s)) ≡ v
+    by : (l : Bool) → ltb elementLimit (length (clauseList (boardOf s))) ≡ l → (v : Bool) → ltb variableLimit (variableCount (boardOf s)) ≡ v
         → ltb mostCells (size (sides s)) ≡ false
         → firstRefusal (roomRows (boardOf s) lent) (doneOutcome (searched (boardOf s))) .number ≡ limited (needsMore (boardOf s))
     by true h v k n = rw h

@@ -2,13 +2,14 @@
 // as `refused 3`.
 ghost use Prim.Native.Nat.{_≤_};
 ghost use lib.ListN.{length, take};
+ghost use Rattle.io.specs.Counts.{Counts};
 ghost use Rattle.answers.specs.Lent.{Wrote};
 ghost use Rattle.rules.specs.Record.{size, Sides};
 ghost use Rattle.program_text.specs.Lines.{drawingText};
 ghost use Rattle.program_text.specs.Programs.{printedSolution};
 use program_text::BUDGET;
-use program_text::MOST_ELEMENTS;
-use program_text::MOST_VARIABLES;
+use program_text::ELEMENT_LIMIT;
+use program_text::VARIABLE_LIMIT;
 use program_text::put_drawing;
 use program_text::put_refused;
 use rules::Grid;
@@ -30,18 +31,19 @@ fn put_cells(text: &mut [u8], g: Grid, drawing: &[u8]) -> usize
     put_drawing(text, g.columns, &drawing[..n])
 }
 
-// Writes what the program prints for the bytes on its standard input; returns how many bytes that is.
-fn solution_text(record: &[u8], text: &mut [u8]) -> usize
+// Writes what the program prints for the bytes on its standard input, which `text` has room for; returns how many bytes that is.
+fn solution_text(record: &[u8], text: &mut [u8; 4096]) -> usize
     ensures { λ r. ⌜ Wrote (now (text .entry)) 0 (printedSolution (now («record» .entry))) (now (text .exit)) r ⌝ }
+    ensures { λ r. ⌜ Counts r (now (text .exit)) ⌝ }
 {
     let p = read(record);
     let Parsed::Accepted(g) = p else {
         return put_refused(text, p.refusal().outcome().number as usize);
     };
-    let mut list = [0i32; MOST_ELEMENTS];
-    let mut trail = [0i32; MOST_VARIABLES];
-    let mut marks = [0u8; MOST_VARIABLES];
-    let mut values = [0u8; MOST_VARIABLES];
+    let mut list = [0i32; ELEMENT_LIMIT];
+    let mut trail = [0i32; VARIABLE_LIMIT];
+    let mut marks = [0u8; VARIABLE_LIMIT];
+    let mut values = [0u8; VARIABLE_LIMIT];
     let mut drawing = [0u8; MOST_CELLS];
     let answer = solve_grid(
         g,

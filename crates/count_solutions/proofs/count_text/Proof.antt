@@ -1,24 +1,31 @@
 -- `count_solutions::count_text` meets its contract. Assumes nothing.
 use native.Mathlib.Omega.{arith}
 use lib.ListN.{length-take}
-use mathlib.Core.Path.{_≡_, refl, sym, ap}
-use Rattle.answers.proofs.Lent.{wrote-recast}
-use Rattle.encoder_size.specs.declared.Counts.{Counts}
-use Rattle.encoder_call.specs.declared.Encoded.the-variants.{Written}
+use Prim.Native.Nat.{ℕ}
+use mathlib.Core.List.{List}
+use mathlib.Core.Path.{refl, sym, ap}
 use Rattle.encoder_call.specs.Answer.{countsOutcome, encodedOutcome}
 use Rattle.encoder_call.proofs.Ends.{refused-number}
-use Rattle.program_text.proofs.Encoded.{Encodes, outcome-as, refused-line, large-line, listed-inside, listed-long}
-use Rattle.count_solutions.proofs.Ends.{taken, ends-counted}
+use Rattle.program_text.proofs.Limits.{whole}
+use Rattle.program_text.proofs.Encoded.{Encodes, outcome-as, ends-refused, ends-large, listed-inside, listed-long}
+use Rattle.count_solutions.proofs.Ends.{taken, ends-counted, count-fits}
 use borrow.Author.Needs.{needs}
 use Rattle.count_solutions.proofs.count_text.Statement.{statement}
 use Rattle.count_solutions.proofs.count_text.Tie as tie
 
-call : (c : tie.After-encode) → Encodes (c .before .before .before .before .args .«record» .now) (encodedOutcome (c .encode .result)) (c .encode .last .1 .0)
+-- the record
+abbrev s : tie.After-encode → List ℕ
+s c = c .before .before .before .args .«record» .now
+
+-- the encoder's call, and its answer
+call : (c : tie.After-encode) → Encodes (s c) (encodedOutcome (c .encode .result)) (c .encode .last .1 .0)
 call c = record { outcome = c .encode .ensures .0; left = c .encode .ensures .1 }
 
-answered : (c : tie.After-encode) {n : Counts} → c .encode .result ≡ Written n
-    → Encodes (c .before .before .before .before .args .«record» .now) (countsOutcome n) (c .encode .last .1 .0)
-answered c q = outcome-as (ap encodedOutcome q) (call c)
+abbrev encoded : tie.After-e → tie.After-encode
+encoded c = c .before .before .before
+
+answered : (c : tie.After-e) → Encodes (s (encoded c)) (countsOutcome (c .e .given .0 .0)) (encoded c .encode .last .1 .0)
+answered c = outcome-as (ap encodedOutcome (c .e .given .1)) (call (encoded c))
 
 slice-aggregate-encode : tie.Need-slice-aggregate-encode
 slice-aggregate-encode c = search needs
@@ -38,33 +45,32 @@ outcome-requires c κs = search needs
 put-refused-requires : tie.Need-put-refused-requires
 put-refused-requires c κs = search needs
 
-same-length : tie.Need-same-length
-same-length c = search needs
-
 returns : tie.Need-returns
 returns c =
-    wrote-recast (refused-line (outcome-as (sym (c .before .before .before .outcome .ensures))
-    (call (c .before .before .before .before .before .before .before .before))) _
-    (refused-number (c .before .before .before .before .before .enum-told .given .1) (c .before .before .before .outcome .ensures)))
-    (c .before .before .put-refused .ensures)
+    let at-outcome = c .before in
+    let at-text = at-outcome .before in
+    let at-enum-told = at-text .before in
+    let at-encode = at-enum-told .before .before .before in
+    let refused = refused-number (at-enum-told .enum-told .given .1) (at-outcome .outcome .ensures) in
+    whole (at-text .put-refused-arg .given .0 .1) (count-fits (s at-encode))
+    (ends-refused (outcome-as (sym (at-outcome .outcome .ensures)) (call at-encode)) _ refused (c .put-refused .ensures))
 
 put-refused-requires-2 : tie.Need-put-refused-requires-2
 put-refused-requires-2 c κs = search needs
 
-same-length-2 : tie.Need-same-length-2
-same-length-2 c = search needs
-
 returns-2 : tie.Need-returns-2
 returns-2 c =
-    wrote-recast (large-line (answered (c .before .before .before .before .before .before .before .before .before)
-    (c .before .before .before .before .before .before .e .given .1)) refl _ (omega (arith, c .before .before .before .before .if1 .taken)))
-    (c .before .before .put-refused2 .ensures)
+    let at-text = c .before in
+    let at-if = at-text .before in
+    let at-e = at-if .before .before in
+    whole (at-text .put-refused-arg2 .given .0 .1) (count-fits (s (encoded at-e)))
+    (ends-large (answered at-e) refl _ (omega (arith, at-if .if1 .taken)) (c .put-refused2 .ensures))
 
 array-share-prefix-list : tie.Need-array-share-prefix-list
-array-share-prefix-list c = listed-inside (answered (c .before .before .before .before .before) (c .before .before .e .given .1)) refl
+array-share-prefix-list c = listed-inside (answered (c .before .before)) refl
 
 slice-aggregate-count-solutions : tie.Need-slice-aggregate-count-solutions
-slice-aggregate-count-solutions c = listed-long (answered (c .before .before .before .before .before .before) (c .before .before .before .e .given .1)) refl
+slice-aggregate-count-solutions c = listed-long (answered (c .before .before .before)) refl
 
 array-borrow-prefix-trail : tie.Need-array-borrow-prefix-trail
 array-borrow-prefix-trail c = search needs
@@ -80,21 +86,21 @@ slice-aggregate-count-solutions-3 c = simp length-take (omega arith)
 
 count-solutions-requires : tie.Need-count-solutions-requires
 count-solutions-requires c κs =
-    taken (answered (c .before .before .before .before .before .before .before .before) (c .before .before .before .before .before .e .given .1))
-    (omega (arith, c .before .before .before .if1 .left))
+    let at-if = c .before .before .before in
+    let at-e = at-if .before .before in
+    taken (answered at-e) (omega (arith, at-if .if1 .left))
 
 put-count-requires : tie.Need-put-count-requires
 put-count-requires c κs = search needs
 
-same-length-3 : tie.Need-same-length-3
-same-length-3 c = search needs
-
 returns-3 : tie.Need-returns-3
 returns-3 c =
-    ends-counted (answered (c .before .before .before .before .before .before .before .before .before .before .before .before .before .before .before)
-    (c .before .before .before .before .before .before .before .before .before .before .before .before .e .given .1))
-    (omega (arith, c .before .before .before .before .before .before .before .before .before .before .if1 .left))
-    (c .before .before .before .before .before .before .count-solutions .ensures .0) (c .before .before .put-count .ensures)
+    let at-text = c .before in
+    let at-count = at-text .before .before .before in
+    let at-if = at-count .before .before .before .before in
+    let at-e = at-if .before .before in
+    whole (at-text .put-count-arg .given .0 .1) (count-fits (s (encoded at-e)))
+    (ends-counted (answered at-e) (omega (arith, at-if .if1 .left)) (at-count .count-solutions .ensures .0) (c .put-count .ensures))
 
 pub count-text-spec : {M : Type 1} → statement M
 count-text-spec =
@@ -106,10 +112,8 @@ count-text-spec =
     enum-told
     outcome-requires
     put-refused-requires
-    same-length
     returns
     put-refused-requires-2
-    same-length-2
     returns-2
     array-share-prefix-list
     slice-aggregate-count-solutions
@@ -119,5 +123,4 @@ count-text-spec =
     slice-aggregate-count-solutions-3
     count-solutions-requires
     put-count-requires
-    same-length-3
     returns-3)

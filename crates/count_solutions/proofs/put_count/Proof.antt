@@ -53,25 +53,37 @@ same-length : tie.Need-same-length
 same-length c = search needs
 
 returns : tie.Need-returns
-returns c = wrote-recast (sym (ap line (c .before .before .before .before .before .enum-told .given .1))) (c .before .before .put-word .ensures)
+returns c =
+    let at-put-word = c .before .before in
+    let at-told = at-put-word .before .before .before in
+    wrote-recast (sym (ap line (at-told .enum-told .given .1))) (at-put-word .put-word .ensures)
 
 same-length-2 : tie.Need-same-length-2
 same-length-2 c = search needs
 
 returns-2 : tie.Need-returns-2
-returns-2 c = wrote-recast (sym (ap line (c .before .before .before .before .before .enum-told2 .given .1))) (c .before .before .put-word2 .ensures)
+returns-2 c =
+    let at-put-word = c .before .before in
+    let at-told = at-put-word .before .before .before in
+    wrote-recast (sym (ap line (at-told .enum-told2 .given .1))) (at-put-word .put-word2 .ensures)
 
 same-length-3 : tie.Need-same-length-3
 same-length-3 c = search needs
 
 returns-3 : tie.Need-returns-3
-returns-3 c = wrote-recast (sym (ap line (c .before .before .before .before .before .enum-told3 .given .1))) (c .before .before .put-word3 .ensures)
+returns-3 c =
+    let at-put-word = c .before .before in
+    let at-told = at-put-word .before .before .before in
+    wrote-recast (sym (ap line (at-told .enum-told3 .given .1))) (at-put-word .put-word3 .ensures)
 
 same-length-4 : tie.Need-same-length-4
 same-length-4 c = search needs
 
 returns-4 : tie.Need-returns-4
-returns-4 c = wrote-recast (sym (ap line (c .before .before .before .before .before .enum-told4 .given .1))) (c .before .before .put-word4 .ensures)
+returns-4 c =
+    let at-put-word = c .before .before in
+    let at-told = at-put-word .before .before .before in
+    wrote-recast (sym (ap line (at-told .enum-told4 .given .1))) (at-put-word .put-word4 .ensures)
 
 pub put-count-spec : {M : Type 1} → statement M
 put-count-spec =

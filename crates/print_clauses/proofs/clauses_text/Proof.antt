@@ -1,23 +1,31 @@
 -- `print_clauses::clauses_text` meets its contract. Assumes nothing.
 use native.Mathlib.Omega.{arith}
-use mathlib.Core.Path.{_≡_, refl, sym, ap}
-use Rattle.answers.proofs.Lent.{wrote-recast}
-use Rattle.encoder_size.specs.declared.Counts.{Counts}
-use Rattle.encoder_call.specs.declared.Encoded.the-variants.{Written}
+use Prim.Native.Nat.{ℕ}
+use mathlib.Core.List.{List}
+use mathlib.Core.Path.{refl, sym, ap}
 use Rattle.encoder_call.specs.Answer.{countsOutcome, encodedOutcome}
 use Rattle.encoder_call.proofs.Ends.{refused-number}
-use Rattle.program_text.proofs.Encoded.{Encodes, outcome-as, refused-line, large-line, listed-inside, listed-long}
+use Rattle.program_text.proofs.Limits.{whole}
+use Rattle.program_text.proofs.Encoded.{Encodes, outcome-as, ends-refused, ends-large, listed-inside, listed-long}
 use Rattle.print_clauses.proofs.Ends.{listed-fits, ends-listed}
+use Rattle.print_clauses.proofs.Fits.{clauses-fit}
 use borrow.Author.Needs.{needs}
 use Rattle.print_clauses.proofs.clauses_text.Statement.{statement}
 use Rattle.print_clauses.proofs.clauses_text.Tie as tie
 
-call : (c : tie.After-encode) → Encodes (c .before .before .before .before .args .«record» .now) (encodedOutcome (c .encode .result)) (c .encode .last .1 .0)
+-- the record
+abbrev s : tie.After-encode → List ℕ
+s c = c .before .before .before .args .«record» .now
+
+-- the encoder's call, and its answer
+call : (c : tie.After-encode) → Encodes (s c) (encodedOutcome (c .encode .result)) (c .encode .last .1 .0)
 call c = record { outcome = c .encode .ensures .0; left = c .encode .ensures .1 }
 
-answered : (c : tie.After-encode) {n : Counts} → c .encode .result ≡ Written n
-    → Encodes (c .before .before .before .before .args .«record» .now) (countsOutcome n) (c .encode .last .1 .0)
-answered c q = outcome-as (ap encodedOutcome q) (call c)
+abbrev encoded : tie.After-e → tie.After-encode
+encoded c = c .before .before .before
+
+answered : (c : tie.After-e) → Encodes (s (encoded c)) (countsOutcome (c .e .given .0 .0)) (encoded c .encode .last .1 .0)
+answered c = outcome-as (ap encodedOutcome (c .e .given .1)) (call (encoded c))
 
 slice-aggregate-encode : tie.Need-slice-aggregate-encode
 slice-aggregate-encode c = search needs
@@ -37,58 +45,45 @@ outcome-requires c κs = search needs
 put-refused-requires : tie.Need-put-refused-requires
 put-refused-requires c κs = search needs
 
-same-length : tie.Need-same-length
-same-length c = search needs
-
 returns : tie.Need-returns
 returns c =
-    let at-outcome = c .before .before .before in
-    let at-enum-told = at-outcome .before .before in
+    let at-outcome = c .before in
+    let at-text = at-outcome .before in
+    let at-enum-told = at-text .before in
     let at-encode = at-enum-told .before .before .before in
-    wrote-recast (refused-line (outcome-as (sym (at-outcome .outcome .ensures)) (call at-encode)) _
-    (refused-number (at-enum-told .enum-told .given .1) (at-outcome .outcome .ensures))) (c .before .before .put-refused .ensures)
+    let refused = refused-number (at-enum-told .enum-told .given .1) (at-outcome .outcome .ensures) in
+    whole (at-text .put-refused-arg .given .0 .1) (clauses-fit (s at-encode))
+    (ends-refused (outcome-as (sym (at-outcome .outcome .ensures)) (call at-encode)) _ refused (c .put-refused .ensures))
 
 put-refused-requires-2 : tie.Need-put-refused-requires-2
 put-refused-requires-2 c κs = search needs
 
-same-length-2 : tie.Need-same-length-2
-same-length-2 c = search needs
-
 returns-2 : tie.Need-returns-2
 returns-2 c =
-    let at-then1 = c .before .before .before .before in
-    let at-e = at-then1 .before .before in
-    let at-encode = at-e .before .before .before in
-    wrote-recast (large-line (answered at-encode (at-e .e .given .1)) refl _ (omega (arith, at-then1 .if1 .taken)))
-    (c .before .before .put-refused2 .ensures)
+    let at-text = c .before in
+    let at-if = at-text .before in
+    let at-e = at-if .before .before in
+    whole (at-text .put-refused-arg2 .given .0 .1) (clauses-fit (s (encoded at-e)))
+    (ends-large (answered at-e) refl _ (omega (arith, at-if .if1 .taken)) (c .put-refused2 .ensures))
 
 array-share-prefix-list : tie.Need-array-share-prefix-list
-array-share-prefix-list c =
-    let at-e = c .before .before .before in
-    let at-encode = at-e .before .before .before in
-    listed-inside (answered at-encode (at-e .e .given .1)) refl
+array-share-prefix-list c = listed-inside (answered (c .before .before .before)) refl
 
 slice-aggregate-put-text : tie.Need-slice-aggregate-put-text
-slice-aggregate-put-text c =
-    let at-e = c .before .before .before .before in
-    let at-encode = at-e .before .before .before in
-    listed-long (answered at-encode (at-e .e .given .1)) refl
+slice-aggregate-put-text c = listed-long (answered (c .before .before .before .before)) refl
 
 put-text-requires : tie.Need-put-text-requires
 put-text-requires c κs =
-    let at-e = c .before .before .before .before in
-    let at-encode = at-e .before .before .before in
-    listed-fits (answered at-encode (at-e .e .given .1)) (omega (arith, c .before .before .if1 .left))
-
-same-length-3 : tie.Need-same-length-3
-same-length-3 c = search needs
+    let at-if = c .before .before in
+    listed-fits (answered (at-if .before .before)) (omega (arith, at-if .if1 .left))
 
 returns-3 : tie.Need-returns-3
 returns-3 c =
-    let at-else1 = c .before .before .before .before .before in
-    let at-e = at-else1 .before .before in
-    let at-encode = at-e .before .before .before in
-    ends-listed (answered at-encode (at-e .e .given .1)) (omega (arith, at-else1 .if1 .left)) (c .before .before .put-text .ensures)
+    let at-text = c .before .before in
+    let at-if = at-text .before in
+    let at-e = at-if .before .before in
+    whole (at-text .put-text-arg .given .0 .1) (clauses-fit (s (encoded at-e)))
+    (ends-listed (answered at-e) (omega (arith, at-if .if1 .left)) (c .put-text .ensures))
 
 pub clauses-text-spec : {M : Type 1} → statement M
 clauses-text-spec =
@@ -100,13 +95,10 @@ clauses-text-spec =
     enum-told
     outcome-requires
     put-refused-requires
-    same-length
     returns
     put-refused-requires-2
-    same-length-2
     returns-2
     array-share-prefix-list
     slice-aggregate-put-text
     put-text-requires
-    same-length-3
     returns-3)

@@ -6,16 +6,16 @@ use Rattle.answers.proofs.Lent.{wrote-recast}
 use Rattle.rules.specs.declared.Grid.{Grid}
 use Rattle.rules.specs.Record.{sides, parsedOutcome}
 use Rattle.rules.proofs.Records.{read-sides}
-use Rattle.program_text.proofs.Limits.{read-refused}
+use Rattle.program_text.proofs.Limits.{read-refused, whole}
 use Rattle.solver.specs.SolverCall.{Lent}
-use Rattle.solve.proofs.Ends.{Solves, ends-refused, ends, found-sides, found-inside, ends-found}
+use Rattle.solve.proofs.Ends.{Solves, ends-refused, ends, found-sides, found-inside, ends-found, solution-fits}
 use borrow.Author.Needs.{needs}
 use Rattle.solve.proofs.solution_text.Statement.{statement}
 use Rattle.solve.proofs.solution_text.Tie as tie
 
 -- the record that was read, and the grid
 abbrev s : tie.After-read → List ℕ
-s c = c .before .before .before .args .«record» .now
+s c = c .before .before .args .«record» .now
 
 abbrev read-at : tie.After-solve-grid → tie.After-known-told
 read-at c = c .before .before .before .before .before .before
@@ -26,8 +26,11 @@ g c = c .before .p .given .0 .0
 is-sides : (c : tie.After-known-told) → g c ≡ sides (s (c .before .before .before))
 is-sides c = let r = c .before .before .before in read-sides (s r) (c .before .p .given .1) (r .read .ensures)
 
--- the solver's call, and its answer
-call : (c : tie.After-solve-grid) → Solves (s (read-at c .before .before .before)) (c .solve-grid .result) (c .solve-grid .last .1 .1 .1 .1 .1 .1 .0)
+-- the record of the solver's call, the call, and its answer
+abbrev solved-record : tie.After-solve-grid → List ℕ
+solved-record c = s (read-at c .before .before .before)
+
+call : (c : tie.After-solve-grid) → Solves (solved-record c) (c .solve-grid .result) (c .solve-grid .last .1 .1 .1 .1 .1 .1 .0)
 call c = record { outcome = c .solve-grid .ensures .0; left = ap (λ (l : Lent). l .drawing) (c .solve-grid .ensures .1) }
 
 abbrev solved : tie.After-answer → tie.After-solve-grid
@@ -51,15 +54,14 @@ outcome-requires c κs = search needs
 put-refused-requires : tie.Need-put-refused-requires
 put-refused-requires c κs = search needs
 
-same-length : tie.Need-same-length
-same-length c = search needs
-
 returns : tie.Need-returns
 returns c =
-    let told = c .before .before .before in
+    let told = c .before in
     let refused = told .before in
-    let r = refused .before .before .before .before in
-    wrote-recast (read-refused (s r) _ (refused .refusal .ensures) (r .read .ensures) (told .outcome .ensures)) (c .before .before .put-refused .ensures)
+    let at-text = refused .before in
+    let r = at-text .before .before .before in
+    whole (at-text .put-refused-arg .given .0 .1) (solution-fits (s r))
+    (wrote-recast (read-refused (s r) _ (refused .refusal .ensures) (r .read .ensures) (told .outcome .ensures)) (c .put-refused .ensures))
 
 slice-aggregate-solve-grid : tie.Need-slice-aggregate-solve-grid
 slice-aggregate-solve-grid c = refl
@@ -93,14 +95,13 @@ outcome-requires-2 c κs = search needs
 put-refused-requires-2 : tie.Need-put-refused-requires-2
 put-refused-requires-2 c κs = search needs
 
-same-length-2 : tie.Need-same-length-2
-same-length-2 c = search needs
-
 returns-2 : tie.Need-returns-2
 returns-2 c =
-    let told = c .before .before .before .before .before in
+    let at-text = c .before .before in
+    let told = at-text .before in
     let v = told .before .before .before .before .before .before .before in
-    ends-refused (call v) (told .enum-told2 .given .1) (c .before .before .before .outcome2 .ensures) (c .before .before .put-refused2 .ensures)
+    whole (at-text .put-refused-arg2 .given .0 .1) (solution-fits (solved-record v))
+    (ends-refused (call v) (told .enum-told2 .given .1) (c .before .outcome2 .ensures) (c .put-refused2 .ensures))
 
 enum-told-3 : tie.Need-enum-told-3
 enum-told-3 c = search needs
@@ -136,33 +137,32 @@ slice-aggregate-put-word-2 c = search needs
 put-word-requires-2 : tie.Need-put-word-requires-2
 put-word-requires-2 c κs = search needs
 
-same-length-3 : tie.Need-same-length-3
-same-length-3 c = search needs
-
 returns-3 : tie.Need-returns-3
 returns-3 c =
-    let told = c .before .before .before .before .before in
+    let at-text = c .before .before in
+    let told = at-text .before in
     let answered = told .before .before .before in
     let v = solved answered in
-    ends-found (call v) (answered .answer .given .1) (told .enum-told3 .given .1) (is-sides (read-at v)) (c .before .before .put-cells .ensures)
-
-same-length-4 : tie.Need-same-length-4
-same-length-4 c = search needs
+    whole (at-text .put-cells-arg .given .0 .1) (solution-fits (solved-record v))
+    (ends-found (call v) (answered .answer .given .1) (told .enum-told3 .given .1) (is-sides (read-at v)) (c .put-cells .ensures))
 
 returns-4 : tie.Need-returns-4
 returns-4 c =
-    let told = c .before .before .before .before .before in
+    let at-text = c .before .before in
+    let told = at-text .before in
     let answered = told .before .before .before in
-    ends (call (solved answered)) (answered .answer .given .1) (told .enum-told4 .given .1) refl (c .before .before .put-word .ensures)
-
-same-length-5 : tie.Need-same-length-5
-same-length-5 c = search needs
+    let v = solved answered in
+    whole (at-text .put-word-arg .given .0 .1) (solution-fits (solved-record v))
+    (ends (call v) (answered .answer .given .1) (told .enum-told4 .given .1) refl (c .put-word .ensures))
 
 returns-5 : tie.Need-returns-5
 returns-5 c =
-    let told = c .before .before .before .before .before in
+    let at-text = c .before .before in
+    let told = at-text .before in
     let answered = told .before .before .before in
-    ends (call (solved answered)) (answered .answer .given .1) (told .enum-told5 .given .1) refl (c .before .before .put-word2 .ensures)
+    let v = solved answered in
+    whole (at-text .put-word-arg3 .given .0 .1) (solution-fits (solved-record v))
+    (ends (call v) (answered .answer .given .1) (told .enum-told5 .given .1) refl (c .put-word2 .ensures))
 
 pub solution-text-spec : {M : Type 1} → statement M
 solution-text-spec =
@@ -174,7 +174,6 @@ solution-text-spec =
     refusal-requires
     outcome-requires
     put-refused-requires
-    same-length
     returns
     slice-aggregate-solve-grid
     slice-aggregate-solve-grid-2
@@ -186,7 +185,6 @@ solution-text-spec =
     enum-told-2
     outcome-requires-2
     put-refused-requires-2
-    same-length-2
     returns-2
     enum-told-3
     slice-aggregate-put-cells
@@ -197,9 +195,6 @@ solution-text-spec =
     enum-told-5
     slice-aggregate-put-word-2
     put-word-requires-2
-    same-length-3
     returns-3
-    same-length-4
     returns-4
-    same-length-5
     returns-5)
