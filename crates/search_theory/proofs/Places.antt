@@ -18,7 +18,7 @@ use Rattle.cnf.specs.Literals.{closes, beyondAt, unclosed, wrongList}
 use Rattle.cnf.proofs.Lists.{unclosed-tail, closed-rest}
 use Rattle.search.specs.Trail.{Slices, entryAt, trailOf, made, isUnassigned, variableValue}
 use Rattle.search.specs.Call.{wrongEntryAt}
-use Rattle.search_theory.specs.Faults.{BeyondAt, ListFault, literal-beyond, not-ending, EntryFault, entry-0, entry-beyond, entry-again, entry-mark}
+use Rattle.search_theory.specs.Places.{BeyondAt, ListFault, literal-beyond, not-ending, EntryFault, entry-0, entry-beyond, entry-again, entry-mark}
 use Rattle.search_theory.specs.Legal.{Legal}
 use Rattle.search_theory.proofs.Lists.{found-some}
 use Rattle.search_theory.proofs.Legal.{read-legal, legal-read}
