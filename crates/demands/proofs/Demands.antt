@@ -27,7 +27,7 @@ use Rattle.search.specs.Trail.{image}
 use Rattle.search.specs.Run.{Done, doneOutcome}
 use Rattle.search.specs.Call.{Searching, rowsOf, runs, bySearch}
 use Rattle.search_theory.proofs.Theorems as search
-use Rattle.search_theory.proofs.Faults as faults
+use Rattle.search_theory.proofs.Places as places
 use Rattle.search_theory.proofs.ListedSteps as steps
 use Rattle.solver.proofs.Begun as begun
 use Rattle.demands.specs.Demands.{Demand1, Demand2, Demand3}
@@ -54,8 +54,8 @@ demand-1 =
       first-place = λ p n m. (first-some p n m, some-first p n);
       clue-place = rules.clue-place;
       loop-place = rules.loop-place;
-      list-place = faults.list-place;
-      entry-place = faults.entry-place;
+      list-place = places.list-place;
+      entry-place = places.entry-place;
       too-short = short;
       text-place = dimacs.place-19;
     }

@@ -40,7 +40,7 @@ use Rattle.encoder.specs.Decoding.{decoderAnswer, decoderLeaves, Satisfying, De
 use Rattle.search.specs.Trail.{Slices, valuesOf}
 use Rattle.search.specs.Run.{Found, None, Halted}
 use Rattle.search.specs.Call.{Search, Handed, wrongEntryAt, Searching, rowsOf, begins, IsTaken, bySearch, Says, steps, endsAt}
-use Rattle.search_theory.specs.Faults.{ListFault, EntryFault}
+use Rattle.search_theory.specs.Places.{ListFault, EntryFault}
 use Rattle.search_theory.specs.Openings.{OpenAt, FoundOne}
 use Rattle.search_theory.specs.ListedSteps.{Stepped}
 use Rattle.solver.specs.Begun.{BegunOn}

@@ -12,7 +12,7 @@ pub mod Undo
 pub mod Steps
 pub mod Runs
 pub mod Accepted
-pub mod Faults
+pub mod Places
 pub mod Orders
 pub mod Calls
 pub mod Handed

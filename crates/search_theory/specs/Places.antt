@@ -1,4 +1,4 @@
--- Rows 16 and 18 of document 01's "Turned down" in its words: what is wrong with a list or with a used entry, and where.
+-- The places beside 16 and 18 of document 01's table, in its words: what is wrong with a list or with a used entry, and where.
 use Prim.Native.Nat.{ℕ, _<_}
 use lib.IntN.{ℤ, pos, natAbs}
 use lib.ListN.{length, getD}

@@ -12,14 +12,16 @@ use mathlib.Core.Logic.{_⊎_, ⊎-elim, _↔_}
 use mathlib.Core.Option.{Option, none, some}
 use mathlib.Core.List.{List, [], _∷_, _++_}
 use Rattle.answers.specs.First.{found, orElse, firstWhere, LeastWith, NoneBelow}
-use Rattle.answers.proofs.Bools.{clash, or-cases, or-left, or-right}
+use Rattle.answers.proofs.Bools.{clash, off, or-cases, or-left, or-right}
 use Rattle.answers.proofs.First.{first-with, none-with}
 use Rattle.cnf.specs.Literals.{closes, beyondAt, unclosed, wrongList}
 use Rattle.cnf.proofs.Lists.{unclosed-tail, closed-rest}
 use Rattle.search.specs.Trail.{Slices, entryAt, trailOf, made, isUnassigned, variableValue}
 use Rattle.search.specs.Call.{wrongEntryAt}
-use Rattle.search_theory.specs.Faults.{BeyondAt, ListFault, literal-beyond, not-ending, EntryFault, entry-0, entry-beyond, entry-again, entry-mark}
+use Rattle.search_theory.specs.Places.{BeyondAt, ListFault, literal-beyond, not-ending, EntryFault, entry-0, entry-beyond, entry-again, entry-mark}
+use Rattle.search_theory.specs.Legal.{Legal}
 use Rattle.search_theory.proofs.Lists.{found-some}
+use Rattle.search_theory.proofs.Legal.{read-legal, legal-read}
 use Rattle.search_theory.proofs.Full.{made-assigned}
 
 closes-zero : (l : ℤ) → closes l ≡ true → l ≡ pos 0
@@ -77,29 +79,35 @@ module _ (v : ℕ) (ls : List ℤ) where
 -- 2. Row 18
 
 module _ (s : Slices) where
+  abbrev variableAt : ℕ → ℕ
+  variableAt j = natAbs (entryAt s j .literal)
+
+  abbrev assigned : ℕ → ℕ → Bool
+  assigned i n = not (isUnassigned (variableValue (trailOf s i) n))
+
   -- a variable is assigned by the entries before i exactly if one of them is on it
-  assigned-by : (i n : ℕ) → not (isUnassigned (variableValue (trailOf s i) n)) ≡ true → (j : ℕ) × (j < i) × (natAbs (entryAt s j .literal) ≡ n)
+  assigned-by : (i n : ℕ) → assigned i n ≡ true → (j : ℕ) × (j < i) × (variableAt j ≡ n)
   unfolding trailOf variableValue
   assigned-by zero n h = clash h refl
-  assigned-by (suc i) n h = by (eqb (natAbs (entryAt s i .literal)) n) refl h (assigned-by i n)
+  assigned-by (suc i) n h = by (eqb (variableAt i) n) refl h (assigned-by i n)
     where
-      by : (t : Bool) → eqb (natAbs (entryAt s i .literal)) n ≡ t
+      by : (t : Bool) → eqb (variableAt i) n ≡ t
           → not (isUnassigned (cond t (made (entryAt s i .literal)) (variableValue (trailOf s i) n))) ≡ true
-          → (not (isUnassigned (variableValue (trailOf s i) n)) ≡ true → (j : ℕ) × (j < i) × (natAbs (entryAt s j .literal) ≡ n))
-          → (j : ℕ) × (j < suc i) × (natAbs (entryAt s j .literal) ≡ n)
-      by true q h go = (i, omega arith, eqb-true (natAbs (entryAt s i .literal)) n q)
+          → (assigned i n ≡ true → (j : ℕ) × (j < i) × (variableAt j ≡ n))
+          → (j : ℕ) × (j < suc i) × (variableAt j ≡ n)
+      by true q h go = (i, omega arith, eqb-true (variableAt i) n q)
       by false q h go = let (j, l, e) = go h in (j, omega arith, e)
 
-  by-assigned : (i n j : ℕ) → j < i → natAbs (entryAt s j .literal) ≡ n → not (isUnassigned (variableValue (trailOf s i) n)) ≡ true
+  by-assigned : (i n j : ℕ) → j < i → variableAt j ≡ n → assigned i n ≡ true
   unfolding trailOf variableValue
   by-assigned zero n j l e = absurd (omega arith)
-  by-assigned (suc i) n j l e = by (eqb (natAbs (entryAt s i .literal)) n) refl (ℕ-discrete j i) (by-assigned i n j)
+  by-assigned (suc i) n j l e = by (eqb (variableAt i) n) refl (ℕ-discrete j i) (by-assigned i n j)
     where
-      by : (t : Bool) → eqb (natAbs (entryAt s i .literal)) n ≡ t → Dec (j ≡ i)
-          → (j < i → natAbs (entryAt s j .literal) ≡ n → not (isUnassigned (variableValue (trailOf s i) n)) ≡ true)
+      by : (t : Bool) → eqb (variableAt i) n ≡ t → Dec (j ≡ i)
+          → (j < i → variableAt j ≡ n → assigned i n ≡ true)
           → not (isUnassigned (cond t (made (entryAt s i .literal)) (variableValue (trailOf s i) n))) ≡ true
       by true q d go = made-assigned (entryAt s i .literal)
-      by false q (yes r) go = absurd (eqb-false (natAbs (entryAt s i .literal)) n q (ap (λ k. natAbs (entryAt s k .literal)) (sym r) ∙ e))
+      by false q (yes r) go = absurd (eqb-false (variableAt i) n q (ap variableAt (sym r) ∙ e))
       by false q (no r) go = go (omega arith) e
 
 mark-over : (m : ℕ) → (m ≡ 0 → ⊥) → (m ≡ 1 → ⊥) → 1 < m
@@ -119,7 +127,7 @@ module _ (v : ℕ) (s : Slices) where
     outside = closes l || ltb v (natAbs l)
 
     abbrev again : Bool
-    again = not (isUnassigned (variableValue (trailOf s i) (natAbs l)))
+    again = assigned s i (natAbs l)
 
     fault-at : wrongEntryAt v s i ≡ true → EntryFault v s i
     fault-at h = ⊎-elim (λ k. ⊎-elim (λ m. ⊎-elim zeroed far (or-cases (closes l) _ m)) used (or-cases _ again k)) marks (or-cases _ (ltb 1 mark) h)
@@ -145,3 +153,10 @@ module _ (v : ℕ) (s : Slices) where
   -- beside 18 stands the first used entry with a fault
   pub entry-place : (used i : ℕ) → firstWhere (wrongEntryAt v s) used ≡ some i ↔ LeastWith (EntryFault v s) used i
   entry-place used i = first-with (wrongEntryAt v s) (EntryFault v s) used (λ k h. (fault-at k, wrong-at k)) i
+
+  -- a trail is legal exactly if no used entry has one
+  pub legal-exactly : (used : ℕ) → Legal v (trailOf s used) ↔ NoneBelow (EntryFault v s) used
+  legal-exactly used = (
+    λ l k h f. clash (wrong-at k f) (legal-read v s used l k h),
+    λ n. read-legal v s used (λ k h. off (wrongEntryAt v s k) (λ e. n k h (fault-at k e))),
+  )
