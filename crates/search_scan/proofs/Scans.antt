@@ -123,12 +123,9 @@ module _ {w : Values} {ls : List ℤ} {start i : ℕ} (f : Failing w ls start i)
           let l = length-drop (suc i) ls in
           let q : r ≡ suc i + clauseLength rest = e ∙ (rw add-one refl) in
           let past : firstClause (failedAt w) false (suc i) rest ≡ failedClause w ls = (rw (z, k) at here) in
-          record {
-            seen = omega arith;
-            rest =
-                rw q
-                (begin w (suc i + clauseLength rest) (drop (suc i + clauseLength rest) ls) ∙ ap (firstClause (failedAt w) true (suc i + clauseLength rest)) (sym (drop-drop (clauseLength rest) (suc i) ls)) ∙ passed-over (failedAt w) (suc i) rest ∙ past);
-          }
+          let next : ℕ = suc i + clauseLength rest in
+          let same = ap (firstClause (failedAt w) true next) (sym (drop-drop (clauseLength rest) (suc i) ls)) in
+          record { seen = omega arith; rest = rw q (begin w next (drop next ls) ∙ same ∙ passed-over (failedAt w) (suc i) rest ∙ past) }
 
 -- 3. Forced literals
 
@@ -187,6 +184,9 @@ module _ {w : Values} {ls : List ℤ} {i : ℕ} {c : Clause} (f : Forcing w ls i
 -- a literal more: what it is to the clause is what its value says
 module _ {ms : List ℕ} {ls : List ℤ} {i k n : ℕ} {c : Clause} (f : Forcing (packedValues ms) ls i c) (h : i < length ls)
     (r : Read ms (getD ls i (pos 0)) k n) where
+  abbrev w : Values
+  w = packedValues ms
+
   abbrev literal : ℤ
   literal = getD ls i (pos 0)
 
@@ -195,29 +195,30 @@ module _ {ms : List ℕ} {ls : List ℤ} {i k n : ℕ} {c : Clause} (f : Forcing
 
   -- all false before it
   on-fails : (a b : Bool)
-      → orElse (byValue (cond a False (cond b True Unassigned)) (found (everyLiteral (failsBut (packedValues ms) literal) after) i none) (forcedAt (packedValues ms) (suc i) after)) (firstClause (forcedAt (packedValues ms)) false (suc i) after)
-      ≡ forcedPlace (packedValues ms) ls
-      → forcedRest (packedValues ms) (cond a Fails (cond b Passed (Forces k i))) (suc i) after ≡ forcedPlace (packedValues ms) ls
+      → orElse (byValue (cond a False (cond b True Unassigned)) (found (everyLiteral (failsBut w literal) after) i none) (forcedAt w (suc i) after))
+      (firstClause (forcedAt w) false (suc i) after)
+      ≡ forcedPlace w ls
+      → forcedRest w (cond a Fails (cond b Passed (Forces k i))) (suc i) after ≡ forcedPlace w ls
   on-fails true b e = e
   on-fails false true e = e
   on-fails false false e = rw (r .code) e
 
   -- one unassigned before it, perhaps the same
   on-forces : (q p : ℕ) (a b : Bool)
-      → orElse (found ((a || b) && everyLiteral (λ l. eqb (codeOf l) q || fails (packedValues ms) l) after) p none) (firstClause (forcedAt (packedValues ms)) false (suc i) after)
-      ≡ forcedPlace (packedValues ms) ls
-      → forcedRest (packedValues ms) (cond a (Forces q p) (cond b (Forces q p) Passed)) (suc i) after ≡ forcedPlace (packedValues ms) ls
+      → orElse (found ((a || b) && everyLiteral (λ l. eqb (codeOf l) q || fails w l) after) p none) (firstClause (forcedAt w) false (suc i) after)
+      ≡ forcedPlace w ls
+      → forcedRest w (cond a (Forces q p) (cond b (Forces q p) Passed)) (suc i) after ≡ forcedPlace w ls
   on-forces q p true b e = e
   on-forces q p false true e = e
   on-forces q p false false e = e
 
-  turn : (c : Clause) → forcedRest (packedValues ms) c i (literal ∷ after) ≡ forcedPlace (packedValues ms) ls
-      → forcedRest (packedValues ms) (met c k n i) (suc i) after ≡ forcedPlace (packedValues ms) ls
+  turn : (c : Clause) → forcedRest w c i (literal ∷ after) ≡ forcedPlace w ls
+      → forcedRest w (met c k n i) (suc i) after ≡ forcedPlace w ls
   unfolding firstClause everyLiteral forcedAt
   turn Fails e = on-fails (eqb n (2 - k % 2)) (eqb n (1 + k % 2)) (rw (code-not literal (r .code) (r .some), read-value literal r) at e)
   turn (Forces q p) e =
       rw (← fails-is literal r, ap (λ x. eqb x q) (r .code))
-      (on-forces q p (eqb (codeOf literal) q) (fails (packedValues ms) literal) (rw (code-not literal (r .code) (r .some)) at e))
+      (on-forces q p (eqb (codeOf literal) q) (fails w literal) (rw (code-not literal (r .code) (r .some)) at e))
   turn Passed e = rw (code-not literal (r .code) (r .some)) at e
 
   pub force-on : Forcing (packedValues ms) ls (i + 1) (met c k n i)

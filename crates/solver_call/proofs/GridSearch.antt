@@ -4,7 +4,7 @@ use lib.IntN.{ℤ}
 use lib.ListN.{length, take, drop}
 use lib.Seq.{length-take-le, take-at}
 use mathlib.Core.Path.{_≡_, refl, sym, _∙_, ap, subst}
-use mathlib.Core.List.{List, _++_}
+use mathlib.Core.List.{List, [], _++_}
 use Rattle.answers.specs.declared.Outcome.{Outcome}
 use Rattle.answers.specs.Outcome.{firstRefusal}
 use Rattle.answers.specs.Lent.{filled, unlessRefused}
@@ -22,7 +22,6 @@ use Rattle.search.specs.Call.{Search, searchOn, Handed, handed, Searching, IsTa
 use Rattle.search.proofs.Trails.{read-image}
 use Rattle.search.proofs.Endings.{same-ending, other-ending}
 use Rattle.search_theory.specs.Legal.{Legal}
-use Rattle.search_trail.proofs.Entries.{legal-at}
 use Rattle.search_call.specs.declared.Ending.{Ending as Answer}
 use Rattle.search_call.specs.declared.Ending.the-variants.{Found, None, Halted}
 use Rattle.search_call.specs.declared.End.{End}
@@ -31,7 +30,8 @@ use Rattle.solver.specs.Begun.{BegunOn}
 use Rattle.solver.specs.SolverCall.{solved, trailBytes, atFound}
 use Rattle.solver_call.specs.declared.Needs.{Needs}
 use Rattle.solver.proofs.Begun as begun
-use Rattle.solver_call.specs.GridSearch.{Literals, Gives, Fits, Ends}
+use Rattle.solver_call.specs.GridSearch.{literalTrail, Full, Fits, Ends}
+use Rattle.solver_call.proofs.TrailBytes.{marks-bytes, unmarked-legal}
 
 -- a search that ends as found says so
 is-found : (x : Answer) → endingOf x ≡ DoneFound → x ≡ Found
@@ -150,20 +150,24 @@ module _ {g : Grid} {s : List ℕ} {needed : Needs} {ls ts : List ℤ} {ms vs ds
       reads =
           (λ i. trailOf (hands i .slices) (sym (begun.solved-full s accepted budget ends-found) i)) ∙ read-image v (done .trail)
 
-      recordFits : Legal v (trailOf (slices us ns) v)
-      recordFits = subst (Legal v) (sym reads) (begun.solved-legal s accepted budget)
+      legal : Legal v (trailOf (slices us ns) v)
+      legal = subst (Legal v) (sym reads) (begun.solved-legal s accepted budget)
 
-      pub literals : Literals (length (take m vs)) (take m (us ++ drop m ts))
+      us-full : length us ≡ v
+      us-full = us-long ∙ ts-long
+
+      pub literals : Full (length (take m vs)) (take m (us ++ drop m ts))
       literals =
           rw (vs-long, part-read ts us us-long (fits .trail))
-          (record { long = us-long ∙ ts-long; each = λ i l. legal-at v (slices us ns) v recordFits i l .proper })
+          (record { long = us-full; legal = unmarked-legal v us ns (length us) (rw us-full legal) })
 
-      pub found : {ws es : List ℕ} → Gives (length (take m vs)) (take m (us ++ drop m ts)) ws → es ≡ gridLeaves g (take m (ws ++ drop m vs)) (take n ds)
+      pub found : {ws es : List ℕ} → ws ≡ trailBytes (length (take m vs)) (literalTrail (take m (us ++ drop m ts)))
+          → es ≡ gridLeaves g (take m (ws ++ drop m vs)) (take n ds)
           → length ws ≡ length (take m vs) → length es ≡ length (take n ds)
           → Ends s budget ts ms vs ds e (us ++ drop m ts) (ns ++ drop m ms) (ws ++ drop m vs) (es ++ drop n ds)
       found {ws} {es} w d ws-long es-long =
-          let given : Gives v us ws = rw (vs-long, part-read ts us us-long (fits .trail)) at w in
-          let bytes = given ns recordFits ∙ ap (trailBytes v) reads in
+          let given : ws ≡ trailBytes v (literalTrail us) = rw (vs-long, part-read ts us us-long (fits .trail)) at w in
+          let bytes = given ∙ marks-bytes us [] ns v (length us) ∙ ap (λ k. trailBytes v (trailOf (slices us ns) k)) us-full ∙ ap (trailBytes v) reads in
           let yes = begun.decoder-says s accepted budget ends-found (take n ds) ds-long in
           let drawn = d ∙ grid-leaves (take m (ws ++ drop m vs)) (take n ds)
           ∙ ap (λ b. decoderLeaves s b (take n ds)) (part-read vs ws ws-long (fits .values) ∙ bytes)

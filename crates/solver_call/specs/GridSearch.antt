@@ -1,9 +1,9 @@
 -- What the functions ask and give.
-use Prim.Native.Nat.{ℕ, _≤_, _<_}
-use lib.IntN.{ℤ, pos}
-use lib.ListN.{length, getD, take}
+use Prim.Native.Nat.{ℕ, _≤_}
+use lib.IntN.{ℤ}
+use lib.ListN.{length, take}
 use mathlib.Core.Path.{_≡_}
-use mathlib.Core.List.{List}
+use mathlib.Core.List.{List, []}
 use Rattle.answers.specs.Lent.{filled}
 use Rattle.rules.specs.declared.Grid.{Grid}
 use Rattle.rules.specs.declared.Parsed.the-variants.{Accepted}
@@ -12,23 +12,23 @@ use Rattle.rules.specs.Board.{boardOf}
 use Rattle.encoder.specs.Variables.{variableCount}
 use Rattle.encoder.specs.Clauses.{clauseList}
 use Rattle.encoder.specs.Decoding.{decoded}
-use Rattle.search.specs.Trail.{slices, filledSlices, image, trailOf}
+use Rattle.search.specs.Trail.{Trail, slices, filledSlices, image, trailOf}
 use Rattle.search.specs.Run.{doneOutcome}
-use Rattle.search_theory.specs.Legal.{Proper, Legal}
+use Rattle.search_theory.specs.Legal.{Legal}
 use Rattle.search_call.specs.declared.End.{End}
 use Rattle.search_call.specs.Answers.{endOutcome}
 use Rattle.solver.specs.SolverCall.{solved, trailBytes, atFound}
 use Rattle.solver_call.specs.declared.Needs.{Needs}
 use Rattle.solver_call.specs.Room.{needsOf}
 
--- v literals of v variables
-pub record Literals (v : ℕ) (ts : List ℤ) : Type 0 where
-  pub long : length ts ≡ v
-  pub each : (i : ℕ) → i < v → Proper v (getD ts i (pos 0))
+-- the trail of these literals, each marked 0 since no marks are given: a mark gives no value
+abbrev pub literalTrail : List ℤ → Trail
+literalTrail ts = trailOf (slices ts []) (length ts)
 
--- where these are, with any marks, the literals of a trail, the bytes are that trail's
-abbrev pub Gives : ℕ → List ℤ → List ℕ → Type 0
-Gives v ts vs = (ms : List ℕ) → Legal v (trailOf (slices ts ms) v) → vs ≡ trailBytes v (trailOf (slices ts ms) v)
+-- the literals of a full trail
+pub record Full (v : ℕ) (ts : List ℤ) : Type 0 where
+  pub long : length ts ≡ v
+  pub legal : Legal v (literalTrail ts)
 
 -- the grid that the reader makes of an accepted record
 abbrev pub IsRead : Grid → List ℕ → Type 0

@@ -1,6 +1,8 @@
 // The search on a grid's clauses, and at "found" the drawing to which its trail decodes.
+ghost use mathlib.Core.Path.{_≡_};
 ghost use lib.ListN.{length};
-ghost use Rattle.solver_call.specs.GridSearch.{Literals, Gives, Fits, Ends};
+ghost use Rattle.solver.specs.SolverCall.{trailBytes};
+ghost use Rattle.solver_call.specs.GridSearch.{literalTrail, Full, Fits, Ends};
 use super::Needs;
 use cnf::code_at;
 use decoder::decode_grid;
@@ -11,8 +13,8 @@ use search_call::searched;
 
 // Writes a full trail's bytes: 1 at the variable of each literal, 0 if it is negated.
 fn give_values(trail: &[i32], values: &mut [u8])
-    requires { ⌜ Literals (length (now values)) (now trail) ⌝ }
-    ensures { λ r. ⌜ Gives (length (now (values .entry))) (now (trail .entry)) (now (values .exit)) ⌝ }
+    requires { ⌜ Full (length (now values)) (now trail) ⌝ }
+    ensures { λ r. ⌜ now (values .exit) ≡ trailBytes (length (now (values .entry))) (literalTrail (now (trail .entry))) ⌝ }
 {
     let mut i: usize = 0;
     while i < trail.len() {

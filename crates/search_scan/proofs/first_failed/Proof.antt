@@ -33,7 +33,8 @@ not-closed : (c : tie.Else2 Inv-loop μ-loop Inv-clauses μ-clauses) → closes 
 not-closed c = code-not (lit (c .before)) (c .before .code-at .ensures) (c .if2 .left)
 
 read : (c : tie.After-number Inv-loop μ-loop Inv-clauses μ-clauses)
-    → Read (c .before .before .before .before .before .before .before .args .marks .now) (lit (c .before .before)) (c .before .before .code-at .result) (c .number .result)
+    → let coded = c .before .before in
+    Read (coded .before .before .before .before .before .args .marks .now) (lit coded) (coded .code-at .result) (c .number .result)
 read c = record { code = c .before .before .code-at .ensures; some = c .before .if2 .left; number = c .number .ensures }
 
 clauses-holds : tie.Need-clauses-holds Inv-loop μ-loop Inv-clauses μ-clauses
@@ -49,10 +50,12 @@ add-i : tie.Need-add-i Inv-loop μ-loop Inv-clauses μ-clauses
 add-i c = omega arith
 
 number-requires : tie.Need-number-requires Inv-loop μ-loop Inv-clauses μ-clauses
-number-requires c κs = (
-  code-two (lit (c .before)) (c .before .code-at .ensures) (c .if2 .left),
-  code-within (c .before .before .before .before .before .before .pre) (c .before .before .before .loop .i) (omega arith) (c .before .code-at .ensures),
-)
+number-requires c κs =
+    let coded = c .before in
+    let at-loop = coded .before .before in (
+      code-two (lit coded) (coded .code-at .ensures) (c .if2 .left),
+      code-within (at-loop .before .before .before .pre) (at-loop .loop .i) (omega arith) (coded .code-at .ensures),
+    )
 
 sub-if3 : tie.Need-sub-if3 Inv-loop μ-loop Inv-clauses μ-clauses
 sub-if3 c = omega arith
@@ -65,19 +68,23 @@ clauses-less c = omega (arith, c .after-clause .ensures)
 
 clauses-again : tie.Need-clauses-again Inv-loop μ-loop Inv-clauses μ-clauses
 clauses-again c =
-    fail-other (c .before .before .before .before .before .before .loop .inv .2) (omega arith) (not-closed (c .before .before .before))
-    (read-stands (lit (c .before .before .before .before)) (read (c .before .before)) (c .before .if3 .taken)) (c .after-clause .ensures)
+    let numbered = c .before .before in
+    let coded = numbered .before .before in
+    let other = read-stands (lit coded) (read numbered) (c .before .if3 .taken) in
+    fail-other (coded .before .before .loop .inv .2) (omega arith) (not-closed (numbered .before)) other (c .after-clause .ensures)
 
 loop-less : tie.Need-loop-less Inv-loop μ-loop Inv-clauses μ-clauses
 loop-less c = omega arith
 
 loop-again : tie.Need-loop-again Inv-loop μ-loop Inv-clauses μ-clauses
-loop-again c = (
-  c .before .before .before .before .before .loop .inv .0,
-  omega arith,
-  fail-false (c .before .before .before .before .before .loop .inv .2) (omega arith) (not-closed (c .before .before))
-      (read-fails (lit (c .before .before .before)) (read (c .before)) (c .if3 .left)),
-)
+loop-again c =
+    let numbered = c .before in
+    let coded = numbered .before .before in
+    let at-loop = coded .before .before in (
+      at-loop .loop .inv .0,
+      omega arith,
+      fail-false (at-loop .loop .inv .2) (omega arith) (not-closed (numbered .before)) (read-fails (lit coded) (read numbered) (c .if3 .left)),
+    )
 
 returns : tie.Need-returns Inv-loop μ-loop Inv-clauses μ-clauses
 returns c = fail-none (c .before .loop .inv .2) (c .if1 .taken)

@@ -23,7 +23,8 @@ abbrev lit : tie.After-code-at Inv-loop μ-loop → ℤ
 lit c = getD (c .before .before .before .before .args .list .now) (c .before .before .loop .i) (pos 0)
 
 read : (c : tie.After-number Inv-loop μ-loop)
-    → Read (c .before .before .before .before .before .before .args .marks .now) (lit (c .before .before)) (c .before .before .code-at .result) (c .number .result)
+    → let coded = c .before .before in
+    Read (coded .before .before .before .before .args .marks .now) (lit coded) (coded .code-at .result) (c .number .result)
 read c = record { code = c .before .before .code-at .ensures; some = c .before .if1 .left; number = c .number .ensures }
 
 loop-holds : tie.Need-loop-holds Inv-loop μ-loop
@@ -40,10 +41,10 @@ enum-known-forced c = search needs
 
 returns : tie.Need-returns Inv-loop μ-loop
 returns c =
-    force-found (c .before .before .before .before .before .before .before .loop .inv) (omega arith)
-    (code-zero (lit (c .before .before .before .before .before)) (c .before .before .before .before .before .code-at .ensures)
-    (c .before .before .before .before .if1 .taken))
-    (sym (c .before .before .before .closed .ensures) ∙ c .before .forced .given .1)
+    let ended = c .before .before .before in
+    let coded = ended .before .before in
+    force-found (coded .before .before .loop .inv) (omega arith) (code-zero (lit coded) (coded .code-at .ensures) (ended .before .if1 .taken))
+    (sym (ended .closed .ensures) ∙ c .before .forced .given .1)
 
 enum-told : tie.Need-enum-told Inv-loop μ-loop
 enum-told c = search needs
@@ -56,15 +57,18 @@ loop-less c = omega arith
 
 loop-again : tie.Need-loop-again Inv-loop μ-loop
 loop-again c =
-    force-next (c .before .before .before .before .before .before .loop .inv) (omega arith)
-    (code-zero (lit (c .before .before .before .before)) (c .before .before .before .before .code-at .ensures) (c .before .before .before .if1 .taken))
-    (sym (c .before .before .closed .ensures) ∙ c .enum-told .given .1)
+    let ended = c .before .before in
+    let coded = ended .before .before in
+    force-next (coded .before .before .loop .inv) (omega arith) (code-zero (lit coded) (coded .code-at .ensures) (ended .before .if1 .taken))
+    (sym (ended .closed .ensures) ∙ c .enum-told .given .1)
 
 number-requires : tie.Need-number-requires Inv-loop μ-loop
-number-requires c κs = (
-  code-two (lit (c .before)) (c .before .code-at .ensures) (c .if1 .left),
-  code-within (c .before .before .before .before .before .pre) (c .before .before .before .loop .i) (omega arith) (c .before .code-at .ensures),
-)
+number-requires c κs =
+    let coded = c .before in
+    let at-loop = coded .before .before in (
+      code-two (lit coded) (coded .code-at .ensures) (c .if1 .left),
+      code-within (at-loop .before .before .pre) (at-loop .loop .i) (omega arith) (coded .code-at .ensures),
+    )
 
 met-requires : tie.Need-met-requires Inv-loop μ-loop
 met-requires c κs = search needs

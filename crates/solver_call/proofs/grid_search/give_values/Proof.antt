@@ -4,6 +4,7 @@ use native.Mathlib.Omega.{arith}
 use borrow.Author.Needs.{needs}
 use lib.ListN.{length}
 use mathlib.Core.Path.{refl}
+use Rattle.search_trail.specs.Packed.{HasByte}
 use Rattle.solver_call.proofs.TrailBytes.{TrailBytes, give-start, has-byte, give-on, give-end}
 use Rattle.solver_call.proofs.grid_search.give_values.Statement.{statement}
 use Rattle.solver_call.proofs.grid_search.give_values.Tie as tie
@@ -20,9 +21,14 @@ loop-holds c = give-start refl
 code-at-requires : tie.Need-code-at-requires Inv-loop μ-loop
 code-at-requires c κs = search needs
 
+-- the byte of the literal that was read
+byte : (c : tie.After-code-at Inv-loop μ-loop) → HasByte (c .before .before .loop .values) (c .code-at .result)
+byte c =
+    let at-loop = c .before .before in
+    has-byte (at-loop .loop .inv) (at-loop .before .before .pre) (c .before .loop-test .taken) (c .code-at .ensures)
+
 sub-x : tie.Need-sub-x Inv-loop μ-loop
-sub-x c =
-    omega (arith, has-byte (c .before .before .loop .inv) (c .before .before .before .before .pre) (c .before .loop-test .taken) (c .code-at .ensures) .positive)
+sub-x c = omega (arith, byte c .positive)
 
 cast-values : tie.Need-cast-values Inv-loop μ-loop
 cast-values c = search needs
@@ -31,9 +37,7 @@ sub-values : tie.Need-sub-values Inv-loop μ-loop
 sub-values c = search needs
 
 slice-write-values : tie.Need-slice-write-values Inv-loop μ-loop
-slice-write-values c =
-    let b = has-byte (c .before .before .loop .inv) (c .before .before .before .before .pre) (c .before .loop-test .taken) (c .code-at .ensures) in
-    omega (arith, b .positive, b .inside)
+slice-write-values c = omega (arith, byte c .positive, byte c .inside)
 
 add-i : tie.Need-add-i Inv-loop μ-loop
 add-i c = search needs
@@ -42,13 +46,17 @@ loop-less : tie.Need-loop-less Inv-loop μ-loop
 loop-less c = search needs
 
 loop-again : tie.Need-loop-again Inv-loop μ-loop
-loop-again c = give-on (c .before .before .loop .inv) (c .before .before .before .before .pre) (c .before .loop-test .taken) (c .code-at .ensures)
+loop-again c =
+    let at-loop = c .before .before in
+    give-on (at-loop .loop .inv) (at-loop .before .before .pre) (c .before .loop-test .taken) (c .code-at .ensures)
 
 same-length : tie.Need-same-length Inv-loop μ-loop
 same-length c = c .before .loop .inv .long
 
 returns : tie.Need-returns Inv-loop μ-loop
-returns c = give-end (c .before .loop .inv) (let n = c .before .before .before .pre .long in omega arith)
+returns c =
+    let full = c .before .before .before .pre in
+    give-end (c .before .loop .inv) full (let n = full .long in omega arith)
 
 pub give-values-spec : {M : Type 1} → statement M
 give-values-spec =

@@ -1,4 +1,5 @@
 -- `solver_call::rooms::first_short` meets its contract. Assumes nothing.
+use Prim.Native.Nat.{ℕ}
 use lib.ListN.{drop}
 use mathlib.Core.Path.{sym}
 use mathlib.Core.List.{List}
@@ -14,23 +15,36 @@ use Rattle.solver_call.proofs.rooms.first_short.Tie as tie
 abbrev rows : tie.Start → List Row
 rows c = shortRows (c .args .lent) (c .args .needed)
 
-past-list : (c : tie.Else1) (t : Outcome) → Left (rows (c .before .before .before)) t (drop 1 (rows (c .before .before .before)))
-past-list c t = left-next (left-all (rows (c .before .before .before)) t) (sym (long-enough _ (c .if1 .left)))
+-- the state at the start, from where a buffer had room
+abbrev start1 : tie.Else1 → tie.Start
+start1 c = c .before .before .before
 
-past-trail : (c : tie.Else2) (t : Outcome)
-    → Left (rows (c .before .before .before .before .before .before)) t (drop 2 (rows (c .before .before .before .before .before .before)))
+abbrev start2 : tie.Else2 → tie.Start
+start2 c = start1 (c .before .before .before)
+
+abbrev start3 : tie.Else3 → tie.Start
+start3 c = start2 (c .before .before .before)
+
+abbrev start4 : tie.Else4 → tie.Start
+start4 c = start3 (c .before .before .before)
+
+-- the first n rows have no cause
+abbrev Past : tie.Start → ℕ → Outcome → Type 0
+Past c n t = Left (rows c) t (drop n (rows c))
+
+past-list : (c : tie.Else1) (t : Outcome) → Past (start1 c) 1 t
+past-list c t = left-next (left-all (rows (start1 c)) t) (sym (long-enough _ (c .if1 .left)))
+
+past-trail : (c : tie.Else2) (t : Outcome) → Past (start2 c) 2 t
 past-trail c t = left-next (past-list (c .before .before .before) t) (sym (long-enough _ (c .if2 .left)))
 
-past-marks : (c : tie.Else3) (t : Outcome)
-    → Left (rows (c .before .before .before .before .before .before .before .before .before)) t (drop 3 (rows (c .before .before .before .before .before .before .before .before .before)))
+past-marks : (c : tie.Else3) (t : Outcome) → Past (start3 c) 3 t
 past-marks c t = left-next (past-trail (c .before .before .before) t) (sym (long-enough _ (c .if3 .left)))
 
-past-values : (c : tie.Else4) (t : Outcome)
-    → Left (rows (c .before .before .before .before .before .before .before .before .before .before .before .before)) t (drop 4 (rows (c .before .before .before .before .before .before .before .before .before .before .before .before)))
+past-values : (c : tie.Else4) (t : Outcome) → Past (start4 c) 4 t
 past-values c t = left-next (past-marks (c .before .before .before) t) (sym (long-enough _ (c .if4 .left)))
 
-past-drawing : (c : tie.Else5) (t : Outcome)
-    → Left (rows (c .before .before .before .before .before .before .before .before .before .before .before .before .before .before .before)) t (drop 5 (rows (c .before .before .before .before .before .before .before .before .before .before .before .before .before .before .before)))
+past-drawing : (c : tie.Else5) (t : Outcome) → Past (start4 (c .before .before .before)) 5 t
 past-drawing c t = left-next (past-values (c .before .before .before) t) (sym (long-enough _ (c .if5 .left)))
 
 returns : tie.Need-returns
