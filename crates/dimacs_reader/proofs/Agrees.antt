@@ -13,8 +13,8 @@ use mathlib.Core.List.{List, [], _∷_}
 use Rattle.cnf.specs.Literals.{mostVariables}
 use Rattle.text.specs.Decimal.{lineFeed, space, minus}
 use Rattle.dimacs.specs.Text.{preamble}
-use Rattle.dimacs.specs.Reader.{Header, headerWith, Number, State, ofVariables, ofClauses, element, line, comment, first, digits, clause, when}
-use Rattle.dimacs.specs.Reader.{most, zeroAllowed, isDigit, isFirst, isNext, afterElement, afterNumber, afterWord, stepByte, accepts, literalOf, readElement, ended}
+use Rattle.dimacs.specs.Reader.{Header, headerWith, Number, State, ofVariables, ofClauses, element, line, comment, first, digits, clause, when, most}
+use Rattle.dimacs.specs.Reader.{zeroAllowed, isDigit, isFirst, isNext, afterElement, afterNumber, afterWord, stepByte, accepts, literalOf, readElement, ended}
 use Rattle.dimacs.specs.Tokens.{At, stands, refused, andThen, followedBy, digitsFrom, numberAt, commentsFrom, wordAt, fieldAt, countsAt, headerAt}
 use Rattle.dimacs.specs.Tokens.{unsignedAt, elementAt, behindNumber, lineElementAt}
 use Rattle.dimacs.proofs.Tokens.{digits-step, digits-none, number-step, number-none, comments-step, comments-none, next-small}
