@@ -27,8 +27,8 @@ hasByte text b at = ltb at (length text) && eqb (getD text at 0) b
 abbrev pub followedBy : {A : Type 0} → List ℕ → ℕ → A → ℕ → At A
 followedBy text b a at = cond (hasByte text b at) (stands a (suc at)) (refused at)
 
--- Numbers. The digits after the first, with the number so far; a digit after a leading 0 is refused, and one that takes the number
--- past its bound. The byte that ends a number is not looked at, and the text's end ends one too.
+-- Numbers, whatever follows them; the text's end ends one too.
+-- The digits after the first, with the number so far: a digit after a leading 0 is refused, and one that takes the number past its bound.
 unfoldable pub digitsFrom : ℕ → ℕ → List ℕ → ℕ → At ℕ
 digitsFrom bound x [] at = stands x at
 digitsFrom bound x (b ∷ bs) at =
@@ -44,7 +44,8 @@ numberFrom bound zero (b ∷ bs) at = cond (isFirst b bound zero) (digitsFrom bo
 abbrev pub numberAt : List ℕ → ℕ → Bool → ℕ → At ℕ
 numberAt text bound zero at = numberFrom bound zero (drop at text) at
 
--- The header. A byte of the comment lines: inside a line, any byte, LF ends it; at a line's first byte, `c`, else they are over.
+-- The header, after comment lines.
+-- A byte of a comment line: inside it, any byte, and LF ends the line; as a line's first byte, `c`, or the comment lines are over.
 abbrev pub commentByte : Bool → ℕ → ℕ → (Bool → At Unit) → At Unit
 commentByte true b at go = cond (eqb b lineFeed) (go false) (cond (ltb b 256) (go true) (refused at))
 commentByte false b at go = cond (eqb b 99) (go true) (stands tt at)
@@ -79,11 +80,12 @@ headerAt text at =
     (λ _ first. andThen (wordAt text preamble first)
     (λ _ next. countsAt text next))
 
--- The body. An element, by whether a minus is before it and its number: after the sign (no −0) ..
+-- The body. An element is told by whether a minus stands before it, and by its number.
+-- The number, after the sign: no −0
 abbrev pub unsignedAt : List ℕ → ℕ → Bool → ℕ → At (Bool × ℕ)
 unsignedAt text v negative at = andThen (numberAt text v (not negative) at) (λ x after. stands (negative, x) after)
 
--- .. and with it; a minus only if there is a variable
+-- an element, whatever follows it: a minus only if there is a variable
 abbrev pub elementAt : List ℕ → ℕ → ℕ → At (Bool × ℕ)
 elementAt text v at =
     cond (hasByte text minus at)

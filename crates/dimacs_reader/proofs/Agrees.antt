@@ -1,6 +1,6 @@
 -- The automaton agrees with the tokens: where one stands, it goes to the state after it; where none does, it refuses the same byte.
 -- Assumes nothing.
-use Prim.Native.Nat.{ℕ, zero, suc, _+_, _-_, _*_, _≤_, _<_, _^_}
+use Prim.Native.Nat.{ℕ, suc, _+_, _-_, _*_, _≤_, _<_, _^_}
 use native.Mathlib.Omega.{arith}
 use native.Mathlib.Decide.{decLt}
 use borrow.Author.Tests.{ne-eqb, lt-ltb, le-ltb}
@@ -13,14 +13,14 @@ use mathlib.Core.List.{List, [], _∷_}
 use Rattle.cnf.specs.Literals.{mostVariables}
 use Rattle.text.specs.Decimal.{lineFeed, space, minus}
 use Rattle.dimacs.specs.Text.{preamble}
-use Rattle.dimacs.specs.Reader.{Header, headerWith, Number, State, ofVariables, ofClauses, element, line, comment, first, digits, clause, when}
-use Rattle.dimacs.specs.Reader.{most, zeroAllowed, isDigit, isFirst, isNext, afterElement, afterNumber, afterWord, stepByte, accepts, literalOf, readElement, ended}
+use Rattle.dimacs.specs.Reader.{Header, headerWith, Number, State, ofVariables, ofClauses, element, line, comment, first, digits, clause, when, most}
+use Rattle.dimacs.specs.Reader.{zeroAllowed, isDigit, isFirst, isNext, afterElement, afterNumber, afterWord, stepByte, accepts, literalOf, readElement, ended}
 use Rattle.dimacs.specs.Tokens.{At, stands, refused, andThen, followedBy, digitsFrom, numberAt, commentsFrom, wordAt, fieldAt, countsAt, headerAt}
 use Rattle.dimacs.specs.Tokens.{unsignedAt, elementAt, behindNumber, lineElementAt}
 use Rattle.dimacs.proofs.Tokens.{digits-step, digits-none, number-step, number-none, comments-step, comments-none, next-small}
 use Rattle.dimacs_cursor.proofs.Tests.{first-small}
 use Rattle.dimacs_reader.specs.Lists.{closedAfter}
-use Rattle.dimacs_reader.proofs.Runs.{Run, Dead, run-stay, run-then, run-dead, run-step, dead-step, run-alike, dead-end}
+use Rattle.dimacs_reader.proofs.Runs.{Run, Dead, run-stay, run-then, run-dead, run-step, dead-step, run-alike, dead-end, every-place}
 
 -- where something stands, this holds of it and the place after it; else the automaton refuses
 pub data Agrees {A : Type 0} (text : List ℕ) (s : State) (a : ℕ) (P : A → ℕ → Type 0) : At A → Type 0 where
@@ -106,14 +106,11 @@ module _ (text : List ℕ) (n : Number) where
           let g : Run text (digits n x) a [] (digits n (x * 10 + (b - 48))) (suc a) = run-step h (rw (p, q)) (rw p) in
           agrees-map (agrees-after g (go (next-small x (b - 48) (most n) q))) (λ _ _ r. number-after g (omega arith) r)
 
-  digits-agrees : (fuel x a : ℕ) → length text ≤ a + fuel → MoreDigits x a
-  digits-agrees zero x a e small = rw (digits-none text a (omega arith) (most n) x) (there (digits-over small (λ l. absurd (omega arith))))
-  digits-agrees (suc fuel) x a e small = by (decLt a (length text)) (λ y. digits-agrees fuel y (suc a) (omega arith))
-    where
-      by : Dec (a < length text) → ((y : ℕ) → MoreDigits y (suc a))
-          → Agrees text (digits n x) a (NumberRead text n (digits n x) a) (digitsFrom (most n) x (drop a text) a)
-      by (no h) go = rw (digits-none text a (omega arith) (most n) x) (there (digits-over small (λ l. absurd (h l))))
-      by (yes h) go = digit-agrees h (go _) small
+  digits-agrees : (a x : ℕ) → MoreDigits x a
+  digits-agrees =
+      every-place text (λ a. (x : ℕ) → MoreDigits x a)
+      (λ a h x small. rw (digits-none text a h (most n) x) (there (digits-over small (λ l. absurd (omega arith)))))
+      (λ a h go x. digit-agrees h (go (suc a) (omega arith) _))
 
   number-agrees : (a : ℕ) → Agrees text (first n) a (NumberRead text n (first n) a) (numberAt text (most n) (zeroAllowed n) a)
   number-agrees a = by (decLt a (length text))
@@ -124,7 +121,7 @@ module _ (text : List ℕ) (n : Number) where
       on h true p =
           let b = getD text a 0 in
           let g : Run text (first n) a [] (digits n (b - 48)) (suc a) = run-step h (rw p) refl in
-          agrees-map (agrees-after g (digits-agrees (length text) (b - 48) (suc a) (omega arith) (first-small b (most n) (zeroAllowed n) p)))
+          agrees-map (agrees-after g (digits-agrees (suc a) (b - 48) (first-small b (most n) (zeroAllowed n) p)))
           (λ _ _ r. number-after g (omega arith) r)
 
       by : Dec (a < length text) → Agrees text (first n) a (NumberRead text n (first n) a) (numberAt text (most n) (zeroAllowed n) a)
@@ -169,13 +166,10 @@ module _ (text : List ℕ) where
       by true = refl
       by false = refl
 
-  comments-agrees : (fuel : ℕ) (inside : Bool) (a : ℕ) → length text ≤ a + fuel → Comments inside a
-  comments-agrees zero inside a e = comments-over (omega arith) inside
-  comments-agrees (suc fuel) inside a e = by (decLt a (length text)) (λ t. comments-agrees fuel t (suc a) (omega arith))
-    where
-      by : Dec (a < length text) → ((t : Bool) → Comments t (suc a)) → Comments inside a
-      by (yes h) go = comment-agrees h inside go
-      by (no h) go = comments-over (omega arith) inside
+  comments-agrees : (a : ℕ) (inside : Bool) → Comments inside a
+  comments-agrees =
+      every-place text (λ a. (inside : Bool) → Comments inside a) (λ a h. comments-over h)
+      (λ a h go inside. comment-agrees h inside (go (suc a) (omega arith)))
 
 -- the header is read: V is small
 pub record HeadRead (text : List ℕ) (s : State) (a : ℕ) (h : Header) (b : ℕ) : Type 0 where
@@ -208,7 +202,7 @@ module _ (text : List ℕ) where
 
   pub header-agrees : (a : ℕ) → Agrees text line a (HeadRead text line a) (headerAt text a)
   header-agrees a =
-      agrees-then (λ _ first. andThen (wordAt text preamble first) (λ _ next. countsAt text next)) (comments-agrees text (length text) false a (omega arith))
+      agrees-then (λ _ first. andThen (wordAt text preamble first) (λ _ next. countsAt text next)) (comments-agrees text a false)
       (λ _ b p. agrees-then (λ _ next. countsAt text next) (agrees-on p (word-agrees preamble b))
       (λ _ c q. agrees-map (agrees-after q (counts-agrees c)) (λ _ _ r. record { run = run-then q (r .run); small = r .small })))
 

@@ -1,7 +1,7 @@
 -- The loop that reads the list, and the state at the end of a body that is not refused. Assumes nothing.
-use Prim.Native.Nat.{ℕ, zero, suc, _+_, _≤_, _<_}
+use Prim.Native.Nat.{ℕ, suc, _+_, _≤_, _<_}
 use native.Mathlib.Omega.{arith}
-use native.Mathlib.Decide.{decLt, ℕ-discrete}
+use native.Mathlib.Decide.{ℕ-discrete}
 use native.Mathlib.Numerals.{add-one}
 use borrow.Author.Tests.{eq-eqb, ne-eqb, eqb-true}
 use lib.Dec.{eqb}
@@ -21,7 +21,7 @@ use Rattle.dimacs.specs.Tokens.{At}
 use Rattle.dimacs_reader.specs.declared.Listed.{Listed}
 use Rattle.dimacs_reader.specs.declared.Listed.the-variants.{Elements, Refused as NoList}
 use Rattle.dimacs_reader.specs.Lists.{listAt, listed, closedAfter}
-use Rattle.dimacs_reader.proofs.Runs.{Run, Dead, run-stay, run-then, run-dead, dead-step, dead-end}
+use Rattle.dimacs_reader.proofs.Runs.{Run, Dead, run-stay, run-then, run-dead, dead-step, dead-end, every-place}
 use Rattle.dimacs_reader.proofs.Agrees.{Agrees, there, nowhere, ElementRead, line-element-agrees}
 
 -- the clauses that an element leaves closed
@@ -122,10 +122,7 @@ module _ (text : List ℕ) (h : Header) where
       by (yes q) = not-refused (dead-step l (rw (eq-eqb k (h .clauses) q))) e
       by (no q) = on (line-element-agrees text h k l begun q)
 
-  pub body-ends : (fuel k : ℕ) (begun : Bool) (a : ℕ) → length text ≤ a + fuel → Ends k begun a
-  body-ends zero k begun a l = ends-here {a = a} (omega arith) k begun
-  body-ends (suc fuel) k begun a l = by (decLt a (length text)) (λ b j t m. body-ends fuel j t b (omega arith))
-    where
-      by : Dec (a < length text) → ((b j : ℕ) (t : Bool) → a < b → Ends j t b) → Ends k begun a
-      by (yes m) go = ends-after m k begun go
-      by (no m) go = ends-here {a = a} (omega arith) k begun
+  pub body-ends : (a k : ℕ) (begun : Bool) → Ends k begun a
+  body-ends =
+      every-place text (λ a. (k : ℕ) (begun : Bool) → Ends k begun a) (λ a l. ends-here l)
+      (λ a l go k begun. ends-after l k begun (λ b j t m. go b m j t))

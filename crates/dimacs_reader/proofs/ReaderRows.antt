@@ -87,7 +87,7 @@ module _ (text : List ℕ) (buf : List ℤ) {v c a : ℕ} (e : headerAt text 0 �
       header-is : headerWith v c ≡ headerOf text
       header-is =
           sym (ap (λ (s : Option State). next s noHeader headerIn)
-          (head .run .ends ∙ body-ends text (headerWith v c) (length text) 0 false a (omega arith) taken))
+          (head .run .ends ∙ body-ends text (headerWith v c) a 0 false taken))
 
       pub body-short : n < 2 ^ 64 → length buf < n → Reads text buf (refusal 6 n) buf
       body-short s o = reads text buf (left-turn past-text (ap some many ∙ sym (short-by (length buf) (omega (arith, many)) (omega (arith, many))))) refl

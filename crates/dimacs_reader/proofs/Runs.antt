@@ -1,5 +1,8 @@
--- Laws of the automaton's runs over a text: one step, one after the other, and where a byte is refused. Assumes nothing.
-use Prim.Native.Nat.{ℕ, suc, _≤_, _<_}
+-- Laws of the automaton's runs over a text: one step, one after the other, where a byte is refused; and from the text's end backwards.
+-- Assumes nothing.
+use Prim.Native.Nat.{ℕ, zero, suc, _+_, _≤_, _<_}
+use native.Mathlib.Omega.{arith}
+use native.Mathlib.Decide.{decLt}
 use lib.IntN.{ℤ}
 use lib.ListN.{length, getD, drop, drop-of-length-le}
 use lib.Seq.{drop-cons}
@@ -66,3 +69,16 @@ module _ {text : List ℕ} {a : ℕ} (h : a < length text) where
 pub dead-end : {text : List ℕ} {s : State} {a : ℕ} → length text ≤ a → accepts s ≡ false → Dead text s a [] a
 unfolding refusedFrom listFrom
 dead-end {text} h e = record { place = rw (drop-of-length-le text h, e); list = rw (drop-of-length-le text h) }
+
+-- what holds at the text's end, and at a place if at all later ones, holds at every place
+module _ (text : List ℕ) (P : ℕ → Type 0) (over : (a : ℕ) → length text ≤ a → P a) (step : (a : ℕ) → a < length text → ((b : ℕ) → a < b → P b) → P a) where
+  in-reach : (fuel a : ℕ) → length text ≤ a + fuel → P a
+  in-reach zero a e = over a (omega arith)
+  in-reach (suc fuel) a e = by (decLt a (length text)) (λ b l. in-reach fuel b (omega arith))
+    where
+      by : Dec (a < length text) → ((b : ℕ) → a < b → P b) → P a
+      by (yes h) go = step a h go
+      by (no h) go = over a (omega arith)
+
+  pub every-place : (a : ℕ) → P a
+  every-place a = in-reach (length text) a (omega arith)

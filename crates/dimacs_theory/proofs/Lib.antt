@@ -3,6 +3,7 @@ pub mod Theorems
 pub mod Places
 pub mod Automata
 pub mod Decimals
+pub mod Numbers
 pub mod Closings
 pub mod Runs
 pub mod Shapes

@@ -1,21 +1,21 @@
 -- Every byte keeps what was read; so a text that the reader runs through to the end is an accepted text. Assumes nothing.
 use Prim.Native.Nat.{ℕ, suc, _*_, _+_, _-_, _≤_, _<_}
 use native.Mathlib.Omega.{arith}
-use borrow.Author.Tests.{eqb-true, eqb-false, ltb-true, leb-true, not-true}
-use lib.Dec.{eqb, leb, ltb}
+use borrow.Author.Tests.{eqb-true, eqb-false, ltb-true, not-true}
+use lib.Dec.{eqb, ltb}
 use lib.IntN.{ℤ}
 use mathlib.Core.Path.{_≡_, refl, sym, _∙_, ap, subst}
-use mathlib.Core.Bool.{Bool, true, false, not, _&&_, _||_, cond}
+use mathlib.Core.Bool.{Bool, true, false, not, cond}
 use mathlib.Core.Option.{none, some, Option·some-injective, Option·none-ne-some}
 use mathlib.Core.List.{List, [], _∷_, _++_, append-assoc, append-nil}
 use Rattle.answers.specs.Lists.{tally, All}
-use Rattle.answers.proofs.Bools.{clash, and-both}
-use Rattle.text.specs.Decimal.{lineFeed, space, minus, digit, decimal}
+use Rattle.answers.proofs.Bools.{clash}
+use Rattle.text.specs.Decimal.{lineFeed, space, minus, decimal}
 use Rattle.dimacs.specs.Text.{signed, behind, lines, preamble, headerLine, CommentByte, commentLine, commentLines, Narrow, Accepted}
 use Rattle.dimacs.specs.Reader.{Header, headerWith, Number, State, ofClauses, element, line, comment, first, digits, clause, when, most, zeroAllowed, isDigit}
 use Rattle.dimacs.specs.Reader.{isFirst, isNext, firstDigit, nextDigit, afterWord, wordStep, afterNumber, afterElement, clauseStep, stepByte}
 use Rattle.dimacs.specs.Reader.{accepts, readElement, literalOf, ended}
-use Rattle.dimacs_theory.proofs.Decimals.{decimal-one, decimal-more}
+use Rattle.dimacs_theory.proofs.Numbers.{first-spells, next-spells}
 use Rattle.dimacs_theory.proofs.Closings.{done, closing-right}
 use Rattle.dimacs_theory.proofs.Runs.{Fits, Runs, stay, byte}
 use Rattle.dimacs_theory.proofs.Shapes.{Opened, Listed, listed-more, sign, Head, variables, clauses, literal, spelt, Shape, nothing, remark}
@@ -25,18 +25,6 @@ use Rattle.dimacs_theory.proofs.Shapes.{letters, before, inside, list, 
 taken : (P : State → Type 0) (c : Bool) (s : State) {t : State} → when c s ≡ some t → (c ≡ true → P s) → P t
 taken P true s {t} e f = subst P (Option·some-injective s t e) (f refl)
 taken P false s {t} e f = absurd (Option·none-ne-some t e)
-
--- the byte of a digit
-record Digit (b : ℕ) : Type 0 where
-  low : b - 48 < 10
-  is : b ≡ digit (b - 48)
-
-digit-of : (b : ℕ) → isDigit b ≡ true → Digit b
-digit-of b e =
-    let t = and-both (leb 48 b) (leb b 57) e in
-    let l = leb-true 48 b (t .0) in
-    let u = leb-true b 57 (t .1) in
-    record { low = omega arith; is = omega arith }
 
 header-line : (p v c : List ℕ) → p ++ (v ++ (space ∷ [])) ++ c ++ (lineFeed ∷ []) ≡ p ++ (v ++ (space ∷ c ++ (lineFeed ∷ []))) ++ []
 header-line p v c = simp (append-assoc, append-nil)
@@ -67,16 +55,8 @@ module _ (b : ℕ) {t : State} where
   first-kept {n} {part} {ls} p e =
       taken (λ t. Shape t (part ++ (b ∷ [])) ls) (isFirst b (most n) (zeroAllowed n)) (digits n (b - 48)) e
       (λ c.
-      let two = and-both (isDigit b && (zeroAllowed n || not (eqb b 48))) (leb (b - 48) (most n)) c in
-      let one = and-both (isDigit b) (zeroAllowed n || not (eqb b 48)) (two .0) in
-      let d = digit-of b (one .0) in
-      let spelling : b ∷ [] ≡ decimal (b - 48) = ap (λ x. x ∷ []) (d .is) ∙ sym (decimal-one (b - 48) (d .low)) in
-      subst (λ ds. Shape (digits n (b - 48)) (part ++ ds) ls) (sym spelling)
-      (inside p (record { few = leb-true (b - 48) (most n) (two .1); nonzero = nonzero (zeroAllowed n) (one .1) d })))
-    where
-      nonzero : (z : Bool) → z || not (eqb b 48) ≡ true → Digit b → z ≡ false → b - 48 ≡ 0 → ⊥
-      nonzero true o d h e = clash refl h
-      nonzero false o d h e = let i = d .is in eqb-false b 48 (not-true (eqb b 48) o) (omega arith)
+      let s = first-spells b (most n) (zeroAllowed n) c in
+      subst (λ ds. Shape (digits n (b - 48)) (part ++ ds) ls) (sym (s .spelt)) (inside p (record { few = s .few; nonzero = s .allowed })))
 
   -- a digit more
   next-kept : {n : Number} (x : ℕ) {part : List ℕ} {ls : List ℤ} → Head n part ls → isDigit b ≡ true → nextDigit n x b ≡ some t
@@ -84,12 +64,9 @@ module _ (b : ℕ) {t : State} where
   next-kept {n} x {part} {ls} p i e =
       taken (λ t. Shape t (part ++ decimal x ++ (b ∷ [])) ls) (isNext x (b - 48) (most n)) (digits n (x * 10 + (b - 48))) e
       (λ c.
-      let both = and-both (not (eqb x 0)) (leb (x * 10 + (b - 48)) (most n)) c in
-      let z = eqb-false x 0 (not-true (eqb x 0) (both .0)) in
-      let d = digit-of b i in
-      let spelling : decimal x ++ (b ∷ []) ≡ decimal (x * 10 + (b - 48)) = ap (λ y. decimal x ++ (y ∷ [])) (d .is) ∙ sym (decimal-more x (b - 48) z (d .low)) in
-      subst (λ ds. Shape (digits n (x * 10 + (b - 48))) ds ls) (sym (append-assoc part (decimal x) (b ∷ []) ∙ ap (λ ds. part ++ ds) spelling))
-      (inside p (record { few = leb-true (x * 10 + (b - 48)) (most n) (both .1); nonzero = λ _ y. z (omega arith) })))
+      let s = next-spells b (most n) x (zeroAllowed n) i c in
+      subst (λ ds. Shape (digits n (x * 10 + (b - 48))) ds ls) (sym (append-assoc part (decimal x) (b ∷ []) ∙ ap (λ ds. part ++ ds) (s .spelt)))
+      (inside p (record { few = s .few; nonzero = s .allowed })))
 
   -- the byte behind an element
   behind-kept : {h : Header} (k : ℕ) (closed : Bool) → afterElement h k closed b ≡ some t

@@ -1,12 +1,11 @@
 -- The reader runs through every accepted text, and reads the list that it is the text of. Assumes nothing.
 use Prim.Native.Nat.{ℕ, zero, suc, _+_, _*_, _-_, _≤_, _<_, _^_}
 use native.Mathlib.Omega.{arith}
-use borrow.Author.Tests.{lt-ltb, le-leb, eq-eqb, ne-eqb}
-use lib.Dec.{eqb}
+use borrow.Author.Tests.{lt-ltb, eq-eqb, ne-eqb}
 use lib.IntN.{ℤ, pos, negsuc, natAbs}
 use lib.ListN.{drop}
 use mathlib.Core.Path.{_≡_, refl, subst}
-use mathlib.Core.Bool.{Bool, true, false, not, _||_}
+use mathlib.Core.Bool.{Bool, true, false, not}
 use mathlib.Core.Option.{Option, none, some, Option·some-injective, Option·none-ne-some}
 use mathlib.Core.List.{List, [], _∷_, _++_, append-assoc}
 use Rattle.answers.specs.Lists.{tally, All}
@@ -16,9 +15,10 @@ use Rattle.cnf.specs.Clauses.{clauseCount}
 use Rattle.text.specs.Decimal.{lineFeed, space, minus, digit, decimal}
 use Rattle.dimacs.specs.Text.{signed, behind, lines, preamble, headerLine, CommentByte, commentLine, commentLines, Accepted}
 use Rattle.dimacs.specs.Automaton.{next, endFrom}
-use Rattle.dimacs.specs.Reader.{Header, Number, State, ofVariables, ofClauses, element, line, comment, first, digits, clause, most, zeroAllowed, isDigit}
+use Rattle.dimacs.specs.Reader.{Header, Number, State, ofVariables, ofClauses, element, line, comment, first, digits, clause, most, zeroAllowed}
 use Rattle.dimacs.specs.Reader.{firstDigit, afterWord, stepByte, ended, listFrom}
 use Rattle.dimacs_theory.proofs.Decimals.{digit-by-digit}
+use Rattle.dimacs_theory.proofs.Numbers.{is-digit, first-test, next-test}
 use Rattle.dimacs_theory.proofs.Closings.{Closing, done, more, closing-counts, closing}
 
 -- a run from a state through a text to a state, and the elements that it reads
@@ -59,22 +59,11 @@ pub record Fits (n : Number) (x : ℕ) : Type 0 where
 pub fits : {n : Number} {x : ℕ} → zeroAllowed n ≡ true → x ≤ most n → Fits n x
 fits z h = record { few = h; nonzero = λ e. clash z e }
 
-is-digit : (d : ℕ) → d < 10 → isDigit (digit d) ≡ true
-is-digit d h = let a : 48 ≤ 48 + d = omega arith in let b : 48 + d ≤ 57 = omega arith in rw (le-leb 48 (48 + d) a, le-leb (48 + d) 57 b)
-
 pub first-step : {n : Number} {d : ℕ} → d < 10 → Fits n d → firstDigit n (digit d) ≡ some (digits n d)
-first-step {n} {d} h f =
-    let e : 48 + d - 48 ≡ d = omega arith in
-    rw (is-digit d h, by (zeroAllowed n) (f .nonzero), e, le-leb d (most n) (f .few))
-  where
-    by : (z : Bool) → (z ≡ false → d ≡ 0 → ⊥) → z || not (eqb (48 + d) 48) ≡ true
-    by true f = refl
-    by false f = rw (ne-eqb (48 + d) 48 (λ e. f refl (omega arith)))
+first-step {n} {d} h f = let e : 48 + d - 48 ≡ d = omega arith in rw (first-test d (most n) (zeroAllowed n) h (f .few) (f .nonzero), e)
 
-pub next-step : {n : Number} {x d : ℕ} → (x ≡ 0 → ⊥) → d < 10 → Fits n (x * 10 + d) → stepByte (digits n x) (digit d) ≡ some (digits n (x * 10 + d))
-next-step {n} {x} {d} z h f =
-    let e : 48 + d - 48 ≡ d = omega arith in
-    rw (is-digit d h, ne-eqb x 0 z, e, le-leb (x * 10 + d) (most n) (f .few))
+next-step : {n : Number} {x d : ℕ} → (x ≡ 0 → ⊥) → d < 10 → Fits n (x * 10 + d) → stepByte (digits n x) (digit d) ≡ some (digits n (x * 10 + d))
+next-step {n} {x} {d} z h f = let e : 48 + d - 48 ≡ d = omega arith in rw (is-digit d h, e, next-test x d (most n) z (f .few))
 
 -- a number, from a state whose next byte is its first digit
 module _ {s u : State} {n : Number} {ls : List ℤ}

@@ -6,6 +6,7 @@ use lib.IntN.{ℤ}
 use lib.ListN.{length, getD}
 use mathlib.Core.Path.{_≡_, refl, sym, ap, subst₃}
 use mathlib.Core.Logic.{_↔_}
+use mathlib.Core.Bool.{Bool}
 use mathlib.Core.Option.{none, some}
 use mathlib.Core.List.{List}
 use Rattle.answers.specs.declared.Outcome.{Outcome}
@@ -16,13 +17,16 @@ use Rattle.dimacs.specs.declared.Reading.{Reading}
 use Rattle.dimacs.specs.Text.{textOf, HasText, Narrow, Accepted}
 use Rattle.dimacs.specs.Automaton.{refusedFrom}
 use Rattle.dimacs.specs.Reader.{refusedAt, listOf, headerOf}
+use Rattle.dimacs.specs.Tokens.{stands, numberAt}
 use Rattle.dimacs.specs.Calls.{writerAnswer, readerAnswer}
 use Rattle.dimacs.specs.Answers.{writtenOutcome, readingOutcome}
 use Rattle.dimacs.proofs.Outcomes.{writings, readings}
 use Rattle.dimacs_theory.specs.Place.{Refused, Automaton}
+use Rattle.dimacs_theory.specs.Numbers.{NumberStands}
 use Rattle.dimacs_theory.specs.Reading.{ReadAs, Writes, Reads, written, elementsRead}
 use Rattle.dimacs_theory.proofs.Automata as automata
 use Rattle.dimacs_theory.proofs.Exactly as exact
+use Rattle.dimacs_theory.proofs.Numbers as numbers
 use Rattle.dimacs_theory.proofs.Calls.{writer-passed, writer-answers, writer-hands, reader-passed, reader-answers, reader-hands, count-few}
 
 -- The text of V and a list is read back: the reader takes it, and reads that V, that list and its number of clauses.
@@ -82,3 +86,8 @@ read-write text out buf n e h =
 -- Document 01's numbers and values tell the answers apart: two answers of the writer that are told the same are the same, and two of the text reader likewise.
 pub outcome-one-to-one : ((v w : Written) → writtenOutcome v ≡ writtenOutcome w → v ≡ w) × ((r s : Reading) → readingOutcome r ≡ readingOutcome s → r ≡ s)
 outcome-one-to-one = (one-to-one writings, one-to-one readings)
+
+-- Reading a number at a place gives n and the place after it exactly if n stands there in decimal, up to that place.
+pub number-exactly : (text : List ℕ) (bound : ℕ) (zero : Bool) (at n after : ℕ)
+    → numberAt text bound zero at ≡ stands n after ↔ NumberStands text bound zero at n after
+number-exactly = numbers.number-exactly

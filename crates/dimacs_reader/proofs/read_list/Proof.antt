@@ -5,9 +5,10 @@ use lib.ListN.{length}
 use mathlib.Core.List.{List}
 use Rattle.answers.proofs.Lent.{wrote-length}
 use Rattle.dimacs.specs.Reader.{Header, headerWith, State, clause}
+use Rattle.dimacs.specs.Tokens.{lineElementAt}
 use Rattle.dimacs_cursor.specs.Cursors.{atElement}
 use Rattle.dimacs_cursor.proofs.Answers.{answered}
-use Rattle.dimacs_reader.proofs.Agrees.{agrees-there, agrees-nowhere, ElementRead, line-element-agrees}
+use Rattle.dimacs_reader.proofs.Agrees.{Agrees, agrees-there, agrees-nowhere, ElementRead, line-element-agrees}
 use Rattle.dimacs_reader.proofs.ListLoop.{AtList, list-start, list-over, list-refused, list-more, list-begun, list-few, list-end}
 use Rattle.dimacs_reader.proofs.read_list.Statement.{statement}
 use Rattle.dimacs_reader.proofs.read_list.Tie as tie
@@ -44,15 +45,19 @@ line-element-requires c κs = tt
 enum-known-negative : tie.Need-enum-known-negative Inv-loop μ-loop
 enum-known-negative c = c .match .keys1
 
--- the element that was read
+-- the automaton agrees with what stands at the place; so with the element that was read
+agrees : (c : tie.Else1 Inv-loop μ-loop)
+    → let l = c .before .before in
+    Agrees (bytes l) (state l) (l .loop .at) (ElementRead (bytes l) (header l) (l .loop .k) (state l) (l .loop .at))
+    (lineElementAt (bytes l) (header l .variables) (l .loop .at))
+agrees c = let l = c .before .before in line-element-agrees (bytes l) (header l) (l .loop .k) (omega arith) (l .loop .begun) (c .if1 .left)
+
 read : (c : tie.After-negative Inv-loop μ-loop)
     → let l = c .before .before .before .before .before in let e = c .negative .given .0 in
     ElementRead (bytes l) (header l) (l .loop .k) (state l) (l .loop .at) (e .0, e .1 .0) (e .1 .1 .0 .at)
 read c =
-    let at-else1 = c .before .before .before in
-    let l = at-else1 .before .before in
-    agrees-there (line-element-agrees (bytes l) (header l) (l .loop .k) (omega arith) (l .loop .begun) (at-else1 .if1 .left))
-    (answered atElement (c .before .before .line-element .ensures) (c .negative .given .1))
+    let at-element = c .before .before in
+    agrees-there (agrees (at-element .before)) (answered atElement (at-element .line-element .ensures) (c .negative .given .1))
 
 put-literal-requires : tie.Need-put-literal-requires Inv-loop μ-loop
 put-literal-requires c κs =
@@ -92,8 +97,7 @@ returns-2 c =
     let at-element = c .before .before .before in
     let at-loop = at-element .before .before .before in
     list-refused (at-loop .loop .inv)
-    (agrees-nowhere (line-element-agrees (bytes at-loop) (header at-loop) (at-loop .loop .k) (omega arith) (at-loop .loop .begun) (at-element .before .if1 .left))
-    (answered atElement (at-element .line-element .ensures) (c .before .p .given .1)))
+    (agrees-nowhere (agrees (at-element .before)) (answered atElement (at-element .line-element .ensures) (c .before .p .given .1)))
 
 same-length-3 : tie.Need-same-length-3 Inv-loop μ-loop
 same-length-3 c = wrote-length (c .before .before .loop .inv .wrote)
@@ -105,13 +109,13 @@ same-length-4 : tie.Need-same-length-4 Inv-loop μ-loop
 same-length-4 c = wrote-length (c .before .before .before .loop .inv .wrote)
 
 returns-4 : tie.Need-returns-4 Inv-loop μ-loop
-returns-4 c = list-few (c .before .before .before .loop .inv) (omega arith) (c .before .if2 .left) (c .if3 .taken)
+returns-4 c = list-few (c .before .before .before .loop .inv) (omega arith) (c .before .if2 .left) (omega arith)
 
 same-length-5 : tie.Need-same-length-5 Inv-loop μ-loop
 same-length-5 c = wrote-length (c .before .before .before .loop .inv .wrote)
 
 returns-5 : tie.Need-returns-5 Inv-loop μ-loop
-returns-5 c = list-end (c .before .before .before .loop .inv) (omega arith) (c .before .if2 .left) (c .if3 .left)
+returns-5 c = list-end (c .before .before .before .loop .inv) (omega arith) (c .before .if2 .left) (omega arith)
 
 pub read-list-spec : {M : Type 1} → statement M
 read-list-spec =

@@ -17,128 +17,73 @@ use Rattle.text.proofs.+put_decimal.Tie.{close}
 abbrev μ-put-decimal : Measures 1 put-decimal-kinds.ps ℕ
 μ-put-decimal κs a = a .1 .1 .0
 
-abbrev put-decimal-at : ℕ → In 1 put-decimal-kinds.ps
-put-decimal-at t =
-    and 1 put-decimal-kinds.ps (is 1 put-decimal-kinds.ps μ-put-decimal t) put-decimal.Pre
+module _ (t : ℕ) where
+  -- the number is t; of the calls within, the number is below t
+  abbrev at-t : In 1 put-decimal-kinds.ps
+  at-t = and 1 put-decimal-kinds.ps (is 1 put-decimal-kinds.ps μ-put-decimal t) put-decimal.Pre
 
-abbrev put-decimal-below : ℕ → In 1 put-decimal-kinds.ps
-put-decimal-below t =
-    and 1 put-decimal-kinds.ps (falls 1 put-decimal-kinds.ps _<_ μ-put-decimal t) put-decimal.Pre
+  abbrev below-t : In 1 put-decimal-kinds.ps
+  below-t = and 1 put-decimal-kinds.ps (falls 1 put-decimal-kinds.ps _<_ μ-put-decimal t) put-decimal.Pre
 
-put-decimal-add-put-byte : (t : ℕ) → put-decimal-lts.Need-add-put-byte (
-  put-byte-reads.Asked,
-  put-byte-reads.Learnt,
-  put-decimal-below t,
-  put-decimal.Post,
-) (put-decimal-at t) put-decimal.Post
-put-decimal-add-put-byte t c = omega arith
+  abbrev calls : put-decimal-lts.Claims
+  calls = (put-byte-reads.Asked, put-byte-reads.Learnt, below-t, put-decimal.Post)
 
-put-decimal-cast-put-byte : (t : ℕ) → put-decimal-lts.Need-cast-put-byte (
-  put-byte-reads.Asked,
-  put-byte-reads.Learnt,
-  put-decimal-below t,
-  put-decimal.Post,
-) (put-decimal-at t) put-decimal.Post
-put-decimal-cast-put-byte t c = omega arith
+  add-put-byte : put-decimal-lts.Need-add-put-byte calls at-t put-decimal.Post
+  add-put-byte c = omega arith
 
-put-decimal-put-byte-requires : (t : ℕ) → put-decimal-lts.Need-put-byte-requires (
-  put-byte-reads.Asked,
-  put-byte-reads.Learnt,
-  put-decimal-below t,
-  put-decimal.Post,
-) (put-decimal-at t) put-decimal.Post
-put-decimal-put-byte-requires t c κs = omega (arith, ap length (decimal-one (c .before .if1 .taken)), c .before .before .before .pre .1)
+  cast-put-byte : put-decimal-lts.Need-cast-put-byte calls at-t put-decimal.Post
+  cast-put-byte c = omega arith
 
-put-decimal-returns : (t : ℕ) → put-decimal-lts.Need-returns (
-  put-byte-reads.Asked,
-  put-byte-reads.Learnt,
-  put-decimal-below t,
-  put-decimal.Post,
-) (put-decimal-at t) put-decimal.Post
-put-decimal-returns t c = wrote-recast (decimal-one (c .before .before .before .before .if1 .taken)) (c .before .before .put-byte .ensures)
+  put-byte-requires : put-decimal-lts.Need-put-byte-requires calls at-t put-decimal.Post
+  put-byte-requires c κs = omega (arith, ap length (decimal-one (c .before .if1 .taken)), c .before .before .before .pre .1)
 
-put-decimal-same-length : (t : ℕ) → put-decimal-lts.Need-same-length (
-  put-byte-reads.Asked,
-  put-byte-reads.Learnt,
-  put-decimal-below t,
-  put-decimal.Post,
-) (put-decimal-at t) put-decimal.Post
-put-decimal-same-length t c = wrote-length (put-decimal-returns t c)
+  returns : put-decimal-lts.Need-returns calls at-t put-decimal.Post
+  returns c = wrote-recast (decimal-one (c .before .before .before .before .if1 .taken)) (c .before .before .put-byte .ensures)
 
-put-decimal-put-decimal-requires : (t : ℕ) → put-decimal-lts.Need-put-decimal-requires (
-  put-byte-reads.Asked,
-  put-byte-reads.Learnt,
-  put-decimal-below t,
-  put-decimal.Post,
-) (put-decimal-at t) put-decimal.Post
-put-decimal-put-decimal-requires t c κs =
-    (omega (arith, c .before .before .before .pre .0), omega (arith, tenth (c .before .if1 .left), c .before .before .before .pre .1))
+  same-length : put-decimal-lts.Need-same-length calls at-t put-decimal.Post
+  same-length c = wrote-length (returns c)
 
-put-decimal-add-put-byte-2 : (t : ℕ) → put-decimal-lts.Need-add-put-byte-2 (
-  put-byte-reads.Asked,
-  put-byte-reads.Learnt,
-  put-decimal-below t,
-  put-decimal.Post,
-) (put-decimal-at t) put-decimal.Post
-put-decimal-add-put-byte-2 t c = omega arith
+  put-decimal-requires : put-decimal-lts.Need-put-decimal-requires calls at-t put-decimal.Post
+  put-decimal-requires c κs =
+      let at-start = c .before .before .before in
+      (omega (arith, at-start .pre .0), omega (arith, tenth (c .before .if1 .left), at-start .pre .1))
 
-put-decimal-cast-put-byte-2 : (t : ℕ) → put-decimal-lts.Need-cast-put-byte-2 (
-  put-byte-reads.Asked,
-  put-byte-reads.Learnt,
-  put-decimal-below t,
-  put-decimal.Post,
-) (put-decimal-at t) put-decimal.Post
-put-decimal-cast-put-byte-2 t c = omega arith
+  add-put-byte-2 : put-decimal-lts.Need-add-put-byte-2 calls at-t put-decimal.Post
+  add-put-byte-2 c = omega arith
 
-put-decimal-put-byte-requires-2 : (t : ℕ) → put-decimal-lts.Need-put-byte-requires-2 (
-  put-byte-reads.Asked,
-  put-byte-reads.Learnt,
-  put-decimal-below t,
-  put-decimal.Post,
-) (put-decimal-at t) put-decimal.Post
-put-decimal-put-byte-requires-2 t c κs =
-    omega (
-      arith,
-      tenth (c .before .before .before .before .before .if1 .left),
-      c .before .before .before .put-decimal .ensures .place,
-      c .before .before .before .before .before .before .before .pre .1,
-    )
+  cast-put-byte-2 : put-decimal-lts.Need-cast-put-byte-2 calls at-t put-decimal.Post
+  cast-put-byte-2 c = omega arith
 
-put-decimal-returns-2 : (t : ℕ) → put-decimal-lts.Need-returns-2 (
-  put-byte-reads.Asked,
-  put-byte-reads.Learnt,
-  put-decimal-below t,
-  put-decimal.Post,
-) (put-decimal-at t) put-decimal.Post
-put-decimal-returns-2 t c =
-    wrote-recast (decimal-more (c .before .before .before .before .before .before .before .before .if1 .left))
-    (wrote-after (c .before .before .before .before .before .before .put-decimal .ensures) (c .before .before .put-byte2 .ensures))
+  put-byte-requires-2 : put-decimal-lts.Need-put-byte-requires-2 calls at-t put-decimal.Post
+  put-byte-requires-2 c κs =
+      let at-put-decimal = c .before .before .before in
+      let at-else1 = at-put-decimal .before .before in
+      omega (arith, tenth (at-else1 .if1 .left), at-put-decimal .put-decimal .ensures .place, at-else1 .before .before .pre .1)
 
-put-decimal-same-length-2 : (t : ℕ) → put-decimal-lts.Need-same-length-2 (
-  put-byte-reads.Asked,
-  put-byte-reads.Learnt,
-  put-decimal-below t,
-  put-decimal.Post,
-) (put-decimal-at t) put-decimal.Post
-put-decimal-same-length-2 t c = wrote-length (put-decimal-returns-2 t c)
+  returns-2 : put-decimal-lts.Need-returns-2 calls at-t put-decimal.Post
+  returns-2 c =
+      let at-put-decimal = c .before .before .before .before .before .before in
+      wrote-recast (decimal-more (at-put-decimal .before .before .if1 .left))
+      (wrote-after (at-put-decimal .put-decimal .ensures) (c .before .before .put-byte2 .ensures))
+
+  same-length-2 : put-decimal-lts.Need-same-length-2 calls at-t put-decimal.Post
+  same-length-2 c = wrote-length (returns-2 c)
 
 pub +put-decimal-spec : {M : Type 1} → statement M
-+put-decimal-spec = close μ-put-decimal λ t. put-decimal-lts.spec (
-  put-byte-reads.Asked,
-  put-byte-reads.Learnt,
-  put-decimal-below t,
-  put-decimal.Post,
-)
-    (put-decimal-at t)
++put-decimal-spec =
+    close μ-put-decimal
+    (λ t. put-decimal-lts.spec
+    (calls t)
+    (at-t t)
     put-decimal.Post
-    (put-decimal-add-put-byte t)
-    (put-decimal-cast-put-byte t)
-    (put-decimal-put-byte-requires t)
-    (put-decimal-same-length t)
-    (put-decimal-returns t)
-    (put-decimal-put-decimal-requires t)
-    (put-decimal-add-put-byte-2 t)
-    (put-decimal-cast-put-byte-2 t)
-    (put-decimal-put-byte-requires-2 t)
-    (put-decimal-same-length-2 t)
-    (put-decimal-returns-2 t)
+    (add-put-byte t)
+    (cast-put-byte t)
+    (put-byte-requires t)
+    (same-length t)
+    (returns t)
+    (put-decimal-requires t)
+    (add-put-byte-2 t)
+    (cast-put-byte-2 t)
+    (put-byte-requires-2 t)
+    (same-length-2 t)
+    (returns-2 t))

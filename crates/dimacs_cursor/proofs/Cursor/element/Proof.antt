@@ -3,7 +3,7 @@ use native.Mathlib.Omega.{arith}
 use native.Mathlib.Numerals.{add-one}
 use borrow.Author.Tests.{eq-eqb, ne-eqb, not-true, not-false}
 use mathlib.Core.Path.{_≡_, sym, _∙_}
-use mathlib.Core.Bool.{true}
+use mathlib.Core.Bool.{true, false}
 use Rattle.text.specs.Decimal.{minus}
 use Rattle.dimacs.specs.Tokens.{hasByte}
 use Rattle.dimacs.proofs.Tokens.{has-inside}
@@ -16,15 +16,18 @@ has-byte-requires c κs = tt
 unsigned-requires : tie.Need-unsigned-requires
 unsigned-requires c κs = tt
 
-returns : tie.Need-returns
-returns c = rw (sym (c .before .before .has-byte .ensures) ∙ not-true _ (c .before .if1 .taken)) (c .unsigned .ensures)
+-- no minus, or one
+no-minus : (c : tie.Then1) → let s = c .before .before .before in hasByte (s .args .text .now) minus (s .args .self .at) ≡ false
+no-minus c = sym (c .before .has-byte .ensures) ∙ not-true _ (c .if1 .taken)
 
--- a minus
 is-minus : (c : tie.Else1) → let s = c .before .before .before in hasByte (s .args .text .now) minus (s .args .self .at) ≡ true
 is-minus c = sym (c .before .has-byte .ensures) ∙ not-false _ (c .if1 .left)
 
+returns : tie.Need-returns
+returns c = rw (no-minus (c .before)) (c .unsigned .ensures)
+
 returns-2 : tie.Need-returns-2
-returns-2 c = rw (is-minus (c .before), eq-eqb (c .before .before .before .before .args .variables) 0 (c .if2 .taken))
+returns-2 c = rw (is-minus (c .before), eq-eqb (c .before .before .before .before .args .variables) 0 (omega arith))
 
 add-t8 : tie.Need-add-t8
 add-t8 c =
@@ -37,7 +40,7 @@ unsigned-requires-2 c κs = tt
 returns-3 : tie.Need-returns-3
 returns-3 c =
     let at-start = c .before .before .before .before .before in
-    rw (is-minus (c .before .before), ne-eqb (at-start .args .variables) 0 (c .before .if2 .left)) (rw add-one at (c .unsigned2 .ensures))
+    rw (is-minus (c .before .before), ne-eqb (at-start .args .variables) 0 (omega arith)) (rw add-one at (c .unsigned2 .ensures))
 
 pub element-spec : {M : Type 1} → statement M
 element-spec =
