@@ -51,7 +51,8 @@ fn cell(
     requires { let b = gridBoard g (now «record») in ⌜ WithinLimits at (listOf b (atCell b (familyAt «family» b) x)) ⌝ }
     requires { ⌜ Tables g (now «record») sizes (now table) ⌝ }
     requires { ⌜ x < size g ⌝ }
-    ensures { λ r. let b = gridBoard g (now («record» .entry)) in ⌜ Wrote (now (list .entry)) at (listOf b (atCell b (familyAt «family» b) x)) (now (list .exit)) r ⌝ }
+    ensures { λ r. let b = gridBoard g (now («record» .entry)) in
+        ⌜ Wrote (now (list .entry)) at (listOf b (atCell b (familyAt «family» b) x)) (now (list .exit)) r ⌝ }
 {
     let open = is_open(g, record, x);
     if !open {
@@ -73,7 +74,8 @@ fn cells(
 ) -> usize
     requires { let b = gridBoard g (now «record») in ⌜ WithinLimits at (listOf b (each (opens b) (familyAt «family» b))) ⌝ }
     requires { ⌜ Tables g (now «record») sizes (now table) ⌝ }
-    ensures { λ r. let b = gridBoard g (now («record» .entry)) in ⌜ Wrote (now (list .entry)) at (listOf b (each (opens b) (familyAt «family» b))) (now (list .exit)) r ⌝ }
+    ensures { λ r. let b = gridBoard g (now («record» .entry)) in
+        ⌜ Wrote (now (list .entry)) at (listOf b (each (opens b) (familyAt «family» b))) (now (list .exit)) r ⌝ }
 {
     let n = g.size();
     let mut i = at;

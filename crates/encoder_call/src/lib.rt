@@ -72,7 +72,8 @@ impl Encoded {
 pub fn encode_grid(g: Grid, record: &[u8], counts: Counts, list: &mut [i32]) -> Encoded
     requires { ⌜ Encodable g (now «record») ⌝ }
     requires { ⌜ counts ≡ countsOf (gridBoard g (now «record»)) ⌝ }
-    ensures { λ r. let b = gridBoard g (now («record» .entry)) in ⌜ encodedOutcome r ≡ firstRefusal (roomRows b (now (list .entry))) (countsOutcome (countsOf b)) ⌝ }
+    ensures { λ r. let b = gridBoard g (now («record» .entry)) in
+        ⌜ encodedOutcome r ≡ firstRefusal (roomRows b (now (list .entry))) (countsOutcome (countsOf b)) ⌝ }
     ensures { λ r. let b = gridBoard g (now («record» .entry)) in let before = now (list .entry) in
         ⌜ now (list .exit) ≡ unlessRefused (firstRefusal (roomRows b before) (countsOutcome (countsOf b))) before (filled before (clauseList b)) ⌝ }
 {

@@ -62,10 +62,11 @@ returns c =
 
 returns-2 : tie.Need-returns-2
 returns-2 c =
-    let k = c .before .before .before .before .before .before .before in
+    let yes = c .before .before .before .before .before in
+    let k = yes .before .before in
     let o = k .before .before .before in
     let s = s2 k in
-    ends-yes (rows s) (s .args .drawing .now) (picture s) (ap decodedOutcome (c .before .before .before .before .before .enum-told .given .1)) (outcome k)
+    ends-yes (rows s) (s .args .drawing .now) (picture s) (ap decodedOutcome (yes .enum-told .given .1)) (outcome k)
     (c .before .before .copy .ensures .1 ∙ copied (own o) (s .args .drawing .now) (s .pre .1 ∙ sym (own-long o)) ∙ drawn o)
 
 -- what the calls require, and what else is to be shown

@@ -12,13 +12,17 @@ use borrow.Author.Needs.{needs}
 use Rattle.encoder_lines.proofs.clue_at.Statement.{statement}
 use Rattle.encoder_lines.proofs.clue_at.Tie as tie
 
+-- the start, from where the clue's first number is known
+abbrev s1 : tie.After-count-number → tie.Start
+s1 c = c .before .before .before .before .before .before .before
+
 -- the cell's clauses are the clue's
-is-clue : (c : tie.After-count-number) → let s = c .before .before .before .before .before .before .before in
+is-clue : (c : tie.After-count-number) → let s = s1 c in
     let k = c .before .before in
     listOf (gridBoard (s .args .g) (s .args .«record» .now)) (clueAt (puzzle (s .args .g) (s .args .«record» .now)) (s .args .x))
     ≡ joined (clueNumbers (c .count-number .result) (k .c .given .0 .1 .0) (blacksOf (s .args .g) (s .args .«record» .now) (k .c .given .0 .0) (s .args .x)))
 is-clue c =
-    let s = c .before .before .before .before .before .before .before in
+    let s = s1 c in
     clue-some (s .pre .1 .0 .recordFits) (s .args .x) (s .pre .1 .1) (c .before .before .before .before .cell .ensures) (c .before .before .c .given .1)
     (c .count-number .ensures)
 
@@ -45,7 +49,7 @@ cast-clue c = search needs
 
 clue-requires : tie.Need-clue-requires
 clue-requires c κs =
-    let s = c .before .before .before .before .before .before .before .before in
+    let s = s1 (c .before) in
     (record { limits = limits-recast (is-clue (c .before)) (s .pre .0) }, (s .pre .1 .0, (s .pre .1 .1, search needs)))
 
 same-length : tie.Need-same-length

@@ -19,12 +19,16 @@ Inv-loop list₀ at g «record» sizes table x d n first cells y₀ row₀ i₀ 
 abbrev μ-loop : tie.MeasureT-loop
 μ-loop list₀ at g «record» sizes table x d n first cells y₀ row₀ i₀ j₀ list y row i j = cells - j
 
--- there is a cell left on the line, y is it, and its row begins at a variable's number
-inside : (c : tie.In-loop Inv-loop μ-loop)
-    → let s = c .before .before .before .before in c .before .loop .j < length (line (puzzle (s .args .g) (s .args .«record» .now)) (s .args .d) (s .args .x))
-inside c = omega (arith, c .before .before .before .before .pre .1 .1 .0 .cells)
+-- the start, from a turn of the loop
+abbrev s1 : tie.In-loop Inv-loop μ-loop → tie.Start Inv-loop μ-loop
+s1 c = c .before .before .before .before
 
-there : (c : tie.In-loop Inv-loop μ-loop) → c .before .loop .y < size (c .before .before .before .before .args .g)
+-- there is a cell left on the line, y is it, and its row begins at a variable's number
+inside : (c : tie.In-loop Inv-loop μ-loop) → let s = s1 c in
+    c .before .loop .j < length (line (puzzle (s .args .g) (s .args .«record» .now)) (s .args .d) (s .args .x))
+inside c = omega (arith, s1 c .pre .1 .1 .0 .cells)
+
+there : (c : tie.In-loop Inv-loop μ-loop) → c .before .loop .y < size (s1 c .args .g)
 there c = line-there (c .before .loop .inv) (inside c)
 
 row-small : (c : tie.After-black-number Inv-loop μ-loop) → c .before .before .loop .row ≤ mostVariables
@@ -34,7 +38,7 @@ loop-holds : tie.Need-loop-holds Inv-loop μ-loop
 loop-holds c = let s = c .before .before in line-start _ _ _ _ (s .pre .1 .1 .0 .cell) (s .pre .0)
 
 black-number-requires : tie.Need-black-number-requires Inv-loop μ-loop
-black-number-requires c κs = (c .before .before .before .before .pre .1 .0, there c)
+black-number-requires c κs = (s1 c .pre .1 .0, there c)
 
 count-step-cell-requires : tie.Need-count-step-cell-requires Inv-loop μ-loop
 count-step-cell-requires c κs =
@@ -46,11 +50,7 @@ opposite-requires : tie.Need-opposite-requires Inv-loop μ-loop
 opposite-requires c κs = search needs
 
 go-requires : tie.Need-go-requires Inv-loop μ-loop
-go-requires c κs =
-    record {
-      sides = c .before .before .before .before .before .before .before .before .before .pre .1 .0 .recordFits .sides;
-      inside = there (c .before .before .before .before .before);
-    }
+go-requires c κs = let k = c .before .before .before .before .before in record { sides = s1 k .pre .1 .0 .recordFits .sides; inside = there k }
 
 add-row : tie.Need-add-row Inv-loop μ-loop
 add-row c = let r = row-small (c .before .before .before .before .before) in omega arith
@@ -60,8 +60,8 @@ add-row-2 c = let r = row-small (c .before .before .before .before .before) in o
 
 add-j : tie.Need-add-j Inv-loop μ-loop
 add-j c =
-    let s = c .before .before .before .before .before .before .before .before .before .before in
-    omega (arith, inside (c .before .before .before .before .before .before), line-few (s .pre .1 .0 .recordFits) (s .pre .1 .1 .1 .0) (s .args .d))
+    let k = c .before .before .before .before .before .before in
+    let s = s1 k in omega (arith, inside k, line-few (s .pre .1 .0 .recordFits) (s .pre .1 .1 .1 .0) (s .args .d))
 
 loop-less : tie.Need-loop-less Inv-loop μ-loop
 loop-less c = search needs

@@ -14,16 +14,20 @@ use borrow.Author.Needs.{needs}
 use Rattle.encoder_call.proofs.families.cell.Statement.{statement}
 use Rattle.encoder_call.proofs.families.cell.Tie as tie
 
-open-here : (c : tie.Else1) → let s = c .before .before .before .before in OpenCell (s .args .g) (s .args .«record» .now) (s .args .x)
-open-here c = record { inside = c .before .before .before .before .pre .1 .1; opened = sym (c .before .is-open .ensures) ∙ not-false _ (c .if1 .left) }
+-- the start, from where the cell is known to be open
+abbrev s1 : tie.Else1 → tie.Start
+s1 c = c .before .before .before .before
+
+open-here : (c : tie.Else1) → let s = s1 c in OpenCell (s .args .g) (s .args .«record» .now) (s .args .x)
+open-here c = record { inside = s1 c .pre .1 .1; opened = sym (c .before .is-open .ensures) ∙ not-false _ (c .if1 .left) }
 
 -- the cell's clauses by its numbers
-by-numbers : (c : tie.After-cell-numbers) → let s = c .before .before .before .before .before in
+by-numbers : (c : tie.After-cell-numbers) → let s = s1 (c .before) in
     let b = gridBoard (s .args .g) (s .args .«record» .now) in
     listOf b (atCell b (familyAt (s .args .«family») b) (s .args .x))
     ≡ joined (familyParts (s .args .«family») (s .args .sizes .opens) (c .cell-numbers .result))
 by-numbers c =
-    let s = c .before .before .before .before .before in
+    let s = s1 (c .before) in
     open-list (s .pre .1 .0) (s .args .x) (open-here (c .before)) (c .cell-numbers .ensures) (s .args .«family»)
 
 is-open-requires : tie.Need-is-open-requires
@@ -36,12 +40,12 @@ returns c =
     (wrote-nothing _ _)
 
 cell-numbers-requires : tie.Need-cell-numbers-requires
-cell-numbers-requires c κs = (c .before .before .before .before .pre .1 .0, open-here c)
+cell-numbers-requires c κs = (s1 c .pre .1 .0, open-here c)
 
 open-cell-requires : tie.Need-open-cell-requires
 open-cell-requires c κs =
     let k = c .before in
-    let s = k .before .before .before .before .before in
+    let s = s1 (k .before) in
     (record { limits = limits-recast (by-numbers k) (s .pre .0) }, open-few (s .pre .1 .0) (s .args .x) (open-here (k .before)) (k .cell-numbers .ensures))
 
 same-length : tie.Need-same-length

@@ -13,7 +13,11 @@ Inv-loop g «record» table₀ n below₀ at₀ x₀ table below at x = Filling 
 abbrev μ-loop : tie.MeasureT-loop
 μ-loop g «record» table₀ n below₀ at₀ x₀ table below at x = n - x
 
-inside : (c : tie.In-loop Inv-loop μ-loop) → c .before .loop .x < size (c .before .before .before .before .before .args .g)
+-- the start, from a turn of the loop
+abbrev s1 : tie.In-loop Inv-loop μ-loop → tie.Start Inv-loop μ-loop
+s1 c = c .before .before .before .before .before
+
+inside : (c : tie.In-loop Inv-loop μ-loop) → c .before .loop .x < size (s1 c .args .g)
 inside c = omega (arith, c .before .before .size .ensures)
 
 size-requires : tie.Need-size-requires Inv-loop μ-loop
@@ -26,10 +30,7 @@ put-row-requires : tie.Need-put-row-requires Inv-loop μ-loop
 put-row-requires c κs = fill-room (c .before .before .loop .inv) (omega arith)
 
 with-cell-requires : tie.Need-with-cell-requires Inv-loop μ-loop
-with-cell-requires c κs = (
-  c .before .before .before .before .before .before .before .before .before .pre .0,
-  (inside (c .before .before .before .before), c .before .before .before .before .before .loop .inv .is),
-)
+with-cell-requires c κs = let k = c .before .before .before .before in (s1 k .pre .0, (inside k, k .before .loop .inv .is))
 
 add-x : tie.Need-add-x Inv-loop μ-loop
 add-x c = search needs
@@ -39,7 +40,7 @@ loop-less c = search needs
 
 loop-again : tie.Need-loop-again Inv-loop μ-loop
 loop-again c =
-    fill-on (c .before .before .before .before .before .before .loop .inv) (omega arith) (c .before .before .before .put-row .ensures) (c .with-cell .ensures)
+    let k = c .before .before .before in fill-on (k .before .before .before .loop .inv) (omega arith) (k .put-row .ensures) (c .with-cell .ensures)
 
 same-length : tie.Need-same-length Inv-loop μ-loop
 same-length c = fill-long (c .before .loop .inv)
