@@ -85,17 +85,13 @@ pub extern "C" fn yajilin_search(
     answer: &mut [u64; 4],
 ) -> u64
     ensures { λ r. ⌜ r ≡ bySearch (searchOn variables (now (list .entry)) (now (trail .entry)) (now (marks .entry)) used) budget .outcome .number ⌝ }
-    ensures { λ r. ⌜ slices (now (trail .exit)) (now (marks .exit)) ≡ bySearch (searchOn variables (now (list .entry)) (now (trail .entry)) (now (marks .entry)) used) budget .slices ⌝ }
-    ensures { λ r. ⌜ now (answer .exit) ≡ words (bySearch (searchOn variables (now (list .entry)) (now (trail .entry)) (now (marks .entry)) used) budget .outcome) ⌝ }
+    ensures { λ r. ⌜ slices (now (trail .exit)) (now (marks .exit)) ≡
+        bySearch (searchOn variables (now (list .entry)) (now (trail .entry)) (now (marks .entry)) used) budget .slices ⌝ }
+    ensures { λ r. ⌜ now (answer .exit) ≡
+        words (bySearch (searchOn variables (now (list .entry)) (now (trail .entry)) (now (marks .entry)) used) budget .outcome) ⌝ }
 {
-    let found = search_call::search(
-        variables as usize,
-        list,
-        trail,
-        marks,
-        used as usize,
-        budget,
-    );
+    let v = variables as usize;
+    let found = search_call::search(v, list, trail, marks, used as usize, budget);
     found.outcome().write(answer)
 }
 
@@ -111,16 +107,12 @@ pub extern "C" fn yajilin_next(
     answer: &mut [u64; 4],
 ) -> u64
     ensures { λ r. ⌜ r ≡ byNext (searchOn variables (now (list .entry)) (now (trail .entry)) (now (marks .entry)) used) budget .outcome .number ⌝ }
-    ensures { λ r. ⌜ slices (now (trail .exit)) (now (marks .exit)) ≡ byNext (searchOn variables (now (list .entry)) (now (trail .entry)) (now (marks .entry)) used) budget .slices ⌝ }
-    ensures { λ r. ⌜ now (answer .exit) ≡ words (byNext (searchOn variables (now (list .entry)) (now (trail .entry)) (now (marks .entry)) used) budget .outcome) ⌝ }
+    ensures { λ r. ⌜ slices (now (trail .exit)) (now (marks .exit)) ≡
+        byNext (searchOn variables (now (list .entry)) (now (trail .entry)) (now (marks .entry)) used) budget .slices ⌝ }
+    ensures { λ r. ⌜ now (answer .exit) ≡
+        words (byNext (searchOn variables (now (list .entry)) (now (trail .entry)) (now (marks .entry)) used) budget .outcome) ⌝ }
 {
-    let found = search_next::next(
-        variables as usize,
-        list,
-        trail,
-        marks,
-        used as usize,
-        budget,
-    );
+    let v = variables as usize;
+    let found = search_next::next(v, list, trail, marks, used as usize, budget);
     found.outcome().write(answer)
 }

@@ -98,7 +98,9 @@ rows-most (r ∷ rs) t a h = by (r .beside) (rows-most rs t (a .1) h)
 
 line-short : (s : List ℕ) → length (refusedLine (programNumber s)) ≤ 10
 line-short s =
-    let m = rows-most (programRows s) (answer 0 0 0) (omega arith, (omega arith, (omega arith, (omega arith, (omega arith, (omega arith, tt)))))) (omega arith) in
+    let six : All (λ (r : Row). r .number ≤ 6) (programRows s) =
+    (omega arith, (omega arith, (omega arith, (omega arith, (omega arith, (omega arith, tt)))))) in
+    let m = rows-most (programRows s) (answer 0 0 0) six (omega arith) in
     let d = digits-few 0 (programNumber s) (omega arith) in
     let a = length-append (decimal (programNumber s)) (lineFeed ∷ []) in
     omega arith

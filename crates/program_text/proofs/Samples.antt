@@ -15,11 +15,11 @@ use Rattle.program_text.specs.Lines.{drawingFrom}
 use Rattle.program_text.specs.Programs.{printedClauses, printedSolution}
 
 -- `07 00 01 00 01 01 00`: 1×1 open
-abbrev oneOpen : List ℕ
+abbrev pub oneOpen : List ℕ
 oneOpen = 7 ∷ 0 ∷ 1 ∷ 0 ∷ 1 ∷ 1 ∷ 0 ∷ []
 
 -- `0a 00 01 00 02 02 00 00 00 00`: 2×2 open
-abbrev fourOpen : List ℕ
+abbrev pub fourOpen : List ℕ
 fourOpen = 10 ∷ 0 ∷ 1 ∷ 0 ∷ 2 ∷ 2 ∷ 0 ∷ 0 ∷ 0 ∷ 0 ∷ []
 
 -- `06 0c`, `03 09`
@@ -30,5 +30,6 @@ fourText =
     []
 
 pub samples : (printedClauses oneOpen ≡ oneCellText) × (printedSolution fourOpen ≡ fourText)
-unfolding firstFrom decimalIn lines variables same place clauses clauseList variableValue valuesFrom everyLiteral firstClause forcedAt failedClause forcedPlace lowestUnassigned undo step run drawingFrom
+unfolding firstFrom decimalIn lines variables same place clauses clauseList variableValue valuesFrom everyLiteral firstClause
+    forcedAt failedClause forcedPlace lowestUnassigned undo step run drawingFrom
 samples = (refl, refl)

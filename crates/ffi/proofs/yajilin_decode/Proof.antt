@@ -1,7 +1,6 @@
 -- `ffi::yajilin_decode` meets its contract. Assumes nothing.
-use mathlib.Core.Path.{_∙_, ap}
-use Rattle.answers.specs.declared.Outcome.{Outcome}
-use Rattle.answers.specs.Outcome.{words}
+use mathlib.Core.Path.{_∙_}
+use Rattle.ffi.proofs.Told.{told}
 use borrow.Author.Needs.{needs}
 use Rattle.ffi.proofs.yajilin_decode.Statement.{statement}
 use Rattle.ffi.proofs.yajilin_decode.Tie as tie
@@ -20,10 +19,10 @@ same-length c = search needs
 
 returns : tie.Need-returns
 returns c =
-    let e = c .before .before .outcome .ensures ∙ c .before .before .before .before .before .decode .ensures .0 in (
-      c .write .ensures .0 ∙ ap (λ (t : Outcome). t .number) e,
-      (c .write .ensures .1 ∙ ap words e, c .before .before .before .before .before .decode .ensures .1),
-    )
+    let at-outcome = c .before .before in
+    let at-decode = at-outcome .before .before .before in
+    let t = told (at-outcome .outcome .ensures ∙ at-decode .decode .ensures .0) (c .write .ensures) in
+    (t .0, (t .1, at-decode .decode .ensures .1))
 
 pub yajilin-decode-spec : {M : Type 1} → statement M
 yajilin-decode-spec =

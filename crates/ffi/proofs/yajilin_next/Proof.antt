@@ -1,8 +1,7 @@
 -- `ffi::yajilin_next` meets its contract. Assumes nothing.
 use mathlib.Core.Path.{_∙_, ap}
-use Rattle.answers.specs.declared.Outcome.{Outcome}
-use Rattle.answers.specs.Outcome.{words}
 use Rattle.search.specs.Call.{Handed}
+use Rattle.ffi.proofs.Told.{told}
 use borrow.Author.Needs.{needs}
 use Rattle.ffi.proofs.yajilin_next.Statement.{statement}
 use Rattle.ffi.proofs.yajilin_next.Tie as tie
@@ -24,9 +23,10 @@ same-length-2 c = search needs
 
 returns : tie.Need-returns
 returns c =
-    let e = c .before .before .before .before .before .before .next .ensures in
-    let told = c .before .before .outcome .ensures ∙ ap (λ (h : Handed). h .outcome) e in
-    (c .write .ensures .0 ∙ ap (λ (t : Outcome). t .number) told, (ap (λ (h : Handed). h .slices) e, c .write .ensures .1 ∙ ap words told))
+    let at-outcome = c .before .before in
+    let e = at-outcome .before .before .before .before .next .ensures in
+    let t = told (at-outcome .outcome .ensures ∙ ap (λ (h : Handed). h .outcome) e) (c .write .ensures) in
+    (t .0, (ap (λ (h : Handed). h .slices) e, t .1))
 
 pub yajilin-next-spec : {M : Type 1} → statement M
 yajilin-next-spec =

@@ -1,7 +1,6 @@
 -- `ffi::yajilin_read` meets its contract. Assumes nothing.
-use mathlib.Core.Path.{_∙_, ap}
-use Rattle.answers.specs.declared.Outcome.{Outcome}
-use Rattle.answers.specs.Outcome.{words}
+use mathlib.Core.Path.{_∙_}
+use Rattle.ffi.proofs.Told.{told}
 use borrow.Author.Needs.{needs}
 use Rattle.ffi.proofs.yajilin_read.Statement.{statement}
 use Rattle.ffi.proofs.yajilin_read.Tie as tie
@@ -20,8 +19,10 @@ same-length c = search needs
 
 returns : tie.Need-returns
 returns c =
-    let e = c .before .before .outcome .ensures ∙ c .before .before .before .before .read .ensures .0 in
-    (c .write .ensures .0 ∙ ap (λ (t : Outcome). t .number) e, (c .write .ensures .1 ∙ ap words e, c .before .before .before .before .read .ensures .1))
+    let at-outcome = c .before .before in
+    let at-read = at-outcome .before .before in
+    let t = told (at-outcome .outcome .ensures ∙ at-read .read .ensures .0) (c .write .ensures) in
+    (t .0, (t .1, at-read .read .ensures .1))
 
 pub yajilin-read-spec : {M : Type 1} → statement M
 yajilin-read-spec =
