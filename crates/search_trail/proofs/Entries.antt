@@ -15,7 +15,7 @@ use Rattle.cnf.specs.Literals.{codeOf, mostVariables}
 use Rattle.cnf.proofs.Lists.{code-variable}
 use Rattle.search.specs.Trail.{Entry, entry, Trail, Slices, slices, entryAt, trailOf, Value, Unassigned, made, variableValue, Values}
 use Rattle.search.proofs.Trails.{length-trail, same-trail}
-use Rattle.search_theory.specs.Legal.{LegalEntry as Right, Legal}
+use Rattle.search_theory.specs.Legal.{LegalEntry, Legal}
 use Rattle.search_theory.proofs.Full.{legal-length}
 use Rattle.search_scan.specs.PackedValues.{bareMarks, numberOf, packed}
 use Rattle.search_trail.specs.Packed.{packedTrail, packedMarks, Packed, HasByte, withValue, withMark, madeTrue, assigned}
@@ -33,7 +33,7 @@ module _ (v : ℕ) (s : Slices) where
       by (yes e) go = subst (λ (j : ℕ). Legal v (trailOf s j)) (sym e) l
       by (no e) go = go (omega arith)
 
-  pub legal-at : (n : ℕ) → Legal v (trailOf s n) → (i : ℕ) → i < n → Right v (trailOf s i) (entryAt s i)
+  pub legal-at : (n : ℕ) → Legal v (trailOf s n) → (i : ℕ) → i < n → LegalEntry v (trailOf s i) (entryAt s i)
   unfolding trailOf
   legal-at n l i h = legal-before n l (suc i) (omega arith) .0
 
@@ -136,7 +136,7 @@ module _ {v : ℕ} {ts : List ℤ} {ms : List ℕ} {i : ℕ} (r : Packed v ts ms
         same : (j : ℕ) → j < i → entryAt (slices ts (set (bareMarks ms) i m)) j ≡ entryAt (slices ts (bareMarks ms)) j
         same j l = ap (entry (getD ts j (pos 0))) (getD-set-other (bareMarks ms) i j m 0 (λ e. omega arith))
 
-    pub assign-packed : Right v (packedTrail ts ms i) new → Packed v ts (assigned ts ms i m) (i + 1)
+    pub assign-packed : LegalEntry v (packedTrail ts ms i) new → Packed v ts (assigned ts ms i m) (i + 1)
     assign-packed w =
         rw add-one (record {
           few = r .few;

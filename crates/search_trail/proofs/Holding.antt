@@ -107,7 +107,7 @@ module _ {v : ℕ} (few : v ≤ mostVariables) {s : Slices} (long : HasLength v 
     where
       by : Dec (k < length (new .marks)) → getD (filled bare (new .marks)) k 0 ≤ 1
       by (yes h) =
-          let m = legal-at v new (length u) (subst (Legal v) (sym (read-image (length u) u)) legal) k (let n = new-marks in omega arith) .marked in
+          let m = legal-at v new (length u) (subst (Legal v) (sym (read-image (length u) u)) legal) k (let n = new-marks in omega arith) .mark-small in
           omega (arith, filled-at bare (new .marks) 0 k h)
       by (no h) = omega (arith, filled-past bare (new .marks) 0 k (omega arith), low-most (s .marks) k)
 
