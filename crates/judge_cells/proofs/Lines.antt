@@ -3,7 +3,8 @@ use Prim.Native.Nat.{ℕ, _+_, _≤_, _<_}
 use native.Mathlib.Omega.{arith}
 use native.Mathlib.Numerals.{add-one}
 use lib.ListN.{length, getD, take, length-take}
-use mathlib.Core.Path.{_≡_, refl, sym}
+use lib.Seq.{take-all}
+use mathlib.Core.Path.{_≡_, refl, sym, _∙_, ap}
 use mathlib.Core.Bool.{Bool, true, false}
 use Rattle.answers.specs.Lists.{tally, howMany}
 use Rattle.answers.proofs.Lists.{many-most, many-next}
@@ -29,6 +30,9 @@ tally-bit false n = omega arith
 module _ {p : Puzzle} {d : Direction} {x : ℕ} {test : ℕ → Bool} {y count j : ℕ} (c : CountedTo p d x test y count j) where
   pub count-few : count ≤ j
   count-few = omega (arith, many-most test (take j (line p d x)), length-take j (line p d x))
+
+  pub count-end : length (line p d x) ≤ j → count ≡ howMany test (line p d x)
+  count-end h = c .counted ∙ ap (howMany test) (take-all j (line p d x) h)
 
   module _ (h : j < length (line p d x)) where
     pub count-inside : y < size (p .grid)
