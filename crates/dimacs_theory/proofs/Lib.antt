@@ -4,6 +4,7 @@ pub mod Places
 pub mod Automata
 pub mod Decimals
 pub mod Numbers
+pub mod Elements
 pub mod Closings
 pub mod Runs
 pub mod Shapes

@@ -17,16 +17,17 @@ use Rattle.dimacs.specs.declared.Reading.{Reading}
 use Rattle.dimacs.specs.Text.{textOf, HasText, Narrow, Accepted}
 use Rattle.dimacs.specs.Automaton.{refusedFrom}
 use Rattle.dimacs.specs.Reader.{refusedAt, listOf, headerOf}
-use Rattle.dimacs.specs.Tokens.{stands, numberAt}
+use Rattle.dimacs.specs.Tokens.{stands, numberAt, elementAt}
 use Rattle.dimacs.specs.Calls.{writerAnswer, readerAnswer}
 use Rattle.dimacs.specs.Answers.{writtenOutcome, readingOutcome}
 use Rattle.dimacs.proofs.Outcomes.{writings, readings}
 use Rattle.dimacs_theory.specs.Place.{Refused, Automaton}
-use Rattle.dimacs_theory.specs.Numbers.{NumberStands}
+use Rattle.dimacs_theory.specs.Numbers.{NumberStands, toldBy, ElementStands}
 use Rattle.dimacs_theory.specs.Reading.{ReadAs, Writes, Reads, written, elementsRead}
 use Rattle.dimacs_theory.proofs.Automata as automata
 use Rattle.dimacs_theory.proofs.Exactly as exact
 use Rattle.dimacs_theory.proofs.Numbers as numbers
+use Rattle.dimacs_theory.proofs.Elements as elements
 use Rattle.dimacs_theory.proofs.Calls.{writer-passed, writer-answers, writer-hands, reader-passed, reader-answers, reader-hands, count-few}
 
 -- The text of V and a list is read back: the reader takes it, and reads that V, that list and its number of clauses.
@@ -91,3 +92,8 @@ outcome-one-to-one = (one-to-one writings, one-to-one readings)
 pub number-exactly : (text : List ℕ) (bound : ℕ) (zero : Bool) (at n after : ℕ)
     → numberAt text bound zero at ≡ stands n after ↔ NumberStands text bound zero at n after
 number-exactly = numbers.number-exactly
+
+-- The same of an element, which is 0 or a literal of V.
+pub element-exactly : (text : List ℕ) (v at after : ℕ) (e : Bool × ℕ)
+    → elementAt text v at ≡ stands e after ↔ ((l : ℤ) × (e ≡ toldBy l) × ElementStands text v at l after)
+element-exactly = elements.element-exactly

@@ -28,7 +28,10 @@ abbrev lit : tie.After-code-at Inv-loop μ-loop → ℤ
 lit c = getD (c .before .before .before .args .list .now) (c .before .before .loop .i) (pos 0)
 
 returns : tie.Need-returns Inv-loop μ-loop
-returns c = seek-found (c .before .before .before .loop .inv) (omega arith) (code-beyond _ (lit (c .before)) (c .before .code-at .ensures) (c .if1 .taken)) refl
+returns c =
+    let at-loop = c .before .before .before in
+    seek-found (at-loop .loop .inv) (omega arith)
+    (code-beyond (at-loop .before .args .v) (lit (c .before)) (c .before .code-at .ensures) (omega arith)) refl
 
 add-i : tie.Need-add-i Inv-loop μ-loop
 add-i c = omega arith
@@ -37,7 +40,9 @@ loop-less : tie.Need-loop-less Inv-loop μ-loop
 loop-less c = omega arith
 
 loop-again : tie.Need-loop-again Inv-loop μ-loop
-loop-again c = seek-on (c .before .before .before .loop .inv) (omega arith) (code-within _ (lit (c .before)) (c .before .code-at .ensures) (c .if1 .left))
+loop-again c =
+    let at-loop = c .before .before .before in
+    seek-on (at-loop .loop .inv) (omega arith) (code-within (at-loop .before .args .v) (lit (c .before)) (c .before .code-at .ensures) (omega arith))
 
 returns-2 : tie.Need-returns-2 Inv-loop μ-loop
 returns-2 c = seek-none (c .before .loop .inv) (omega arith) refl
