@@ -44,11 +44,11 @@ openCount b = length (opens b)
 abbrev pub lower : Board → ℕ → List ℕ
 lower b x = keep (b .isOpen) (upTo x)
 
--- open cells are ranked 0 to F − 1 in cell order
+-- the rank of an open cell: 0 to F − 1 in cell order
 abbrev pub rank : Board → ℕ → ℕ
 rank b x = length (lower b x)
 
--- what an open cell gives; a clue gives nothing
+-- what f says of a cell: nothing of a clue
 abbrev pub atCell : {A : Type 0} → Board → (ℕ → List A) → ℕ → List A
 atCell b f x = cond (b .isOpen x) (f x) []
 
