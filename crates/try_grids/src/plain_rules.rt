@@ -95,14 +95,14 @@ fn first_link(links: u8) -> u8
     WEST
 }
 
-// How many links lead from a cell back to it.
+// How many links lead from a white cell back to it, 0 if they do not.
 fn loop_length(columns: usize, drawing: &[u8], start: usize) -> usize
     requires { ⌜ (0 < columns) × (columns ≤ 12) × (start < 12) ⌝ }
 {
     let mut x = start;
     let mut back = 0;
     for k in 0..CELLS {
-        // not the link by which the cell was entered
+        // by the link that the cell was not entered by
         let direction = first_link(at(drawing, x) ^ back);
         x = beside(columns, x, direction);
         if x == start {
