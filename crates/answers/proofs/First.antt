@@ -38,7 +38,8 @@ from-cases p a (suc n) = by (p a) refl (from-cases p (suc a) n)
 
     by : (t : Bool) → p a ≡ t
         → ((m : ℕ) × LeastFrom p (suc a) n m × (firstFrom p (suc a) n ≡ some m)) ⊎ (NoneFrom p (suc a) n × (firstFrom p (suc a) n ≡ none))
-        → ((m : ℕ) × LeastFrom p a (suc n) m × (found t a (firstFrom p (suc a) n) ≡ some m)) ⊎ (NoneFrom p a (suc n) × (found t a (firstFrom p (suc a) n) ≡ none))
+        → ((m : ℕ) × LeastFrom p a (suc n) m × (found t a (firstFrom p (suc a) n) ≡ some m))
+        ⊎ (NoneFrom p a (suc n) × (found t a (firstFrom p (suc a) n) ≡ none))
     by true q r = inl (a, record { low = omega arith; below = omega arith; holds = q; first = λ k lo hi. absurd (omega arith) }, refl)
     by false q (inl r) = let l = r .1 in inl (r .0, record { low = omega arith; below = omega arith; holds = l .holds; first = split q (l .first) }, r .2)
     by false q (inr r) = inr (split q (λ k lo hi. r .0 k lo (omega arith)), r .1)

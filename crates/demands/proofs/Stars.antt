@@ -63,7 +63,8 @@ abbrev claims : GridStar → Facts
 claims g = record { number = 0; variables = g .grid .outcome .second; clauses = g .grid .list; says = g .says }
 
 computed : map computes gridStars ≡ map claims gridStars
-unfolding firstFrom outward same variables place clauses clauseList trailOf variableValue everyLiteral firstClause forcedAt failedClause forcedPlace lowestUnassigned undo step run
+unfolding firstFrom outward same variables place clauses clauseList trailOf variableValue everyLiteral firstClause forcedAt failedClause forcedPlace
+    lowestUnassigned undo step run
 computed = refl
 
 -- 2×2 open: after "found" comes "none"

@@ -107,7 +107,8 @@ impl Answer {
 
 // 17, 16 and 18: the first cause against a list and a trail.
 pub fn check(variables: usize, list: &[i32], trail: &[i32], marks: &[u8], used: usize) -> Checked
-    ensures { λ r. ⌜ ((t : Outcome) → checkedTells r t ≡ firstRefusal (searchRows (searchOn variables (now (list .entry)) (now (trail .entry)) (now (marks .entry)) used)) t) ⌝ }
+    ensures { λ r. ⌜ ((t : Outcome) → checkedTells r t
+        ≡ firstRefusal (searchRows (searchOn variables (now (list .entry)) (now (trail .entry)) (now (marks .entry)) used)) t) ⌝ }
 {
     if wrong_lengths(variables, trail, marks, used) {
         return Checked::Refused(SearchRefusal::Lengths);
@@ -127,7 +128,8 @@ pub fn check(variables: usize, list: &[i32], trail: &[i32], marks: &[u8], used: 
 fn run(list: &[i32], trail: &mut [i32], marks: &mut [u8], first: usize, budget: u64) -> End
     requires { ⌜ Packed (length (now marks)) (now trail) (now marks) first ⌝ }
     requires { ⌜ ListFits (length (now marks)) (now list) ⌝ }
-    ensures { λ r. ⌜ handed (endOutcome r) (now (trail .exit)) (now (marks .exit)) ≡ handsRun (now (list .entry)) budget (now (trail .entry)) (now (marks .entry)) first ⌝ }
+    ensures { λ r. ⌜ handed (endOutcome r) (now (trail .exit)) (now (marks .exit))
+        ≡ handsRun (now (list .entry)) budget (now (trail .entry)) (now (marks .entry)) first ⌝ }
 {
     let mut used = first;
     let mut n: u64 = 0;
@@ -163,7 +165,8 @@ fn run(list: &[i32], trail: &mut [i32], marks: &mut [u8], first: usize, budget: 
 // The search of an accepted list from an accepted trail. V is the marks' length.
 pub fn searched(list: &[i32], trail: &mut [i32], marks: &mut [u8], used: usize, budget: u64) -> End
     requires { ⌜ IsTaken Searching (searchOn (length (now marks)) (now list) (now trail) (now marks) used) ⌝ }
-    ensures { λ r. ⌜ handed (endOutcome r) (now (trail .exit)) (now (marks .exit)) ≡ handsTaken Searching (searchOn (length (now (marks .entry))) (now (list .entry)) (now (trail .entry)) (now (marks .entry)) used) budget ⌝ }
+    ensures { λ r. ⌜ handed (endOutcome r) (now (trail .exit)) (now (marks .exit))
+        ≡ handsTaken Searching (searchOn (length (now (marks .entry))) (now (list .entry)) (now (trail .entry)) (now (marks .entry)) used) budget ⌝ }
 {
     clear_marks(marks, used);
     pack_values(trail, marks, used);
@@ -183,7 +186,8 @@ pub fn search(
     used: usize,
     budget: u64,
 ) -> Answer
-    ensures { λ r. ⌜ handed (answerOutcome r) (now (trail .exit)) (now (marks .exit)) ≡ bySearch (searchOn variables (now (list .entry)) (now (trail .entry)) (now (marks .entry)) used) budget ⌝ }
+    ensures { λ r. ⌜ handed (answerOutcome r) (now (trail .exit)) (now (marks .exit))
+        ≡ bySearch (searchOn variables (now (list .entry)) (now (trail .entry)) (now (marks .entry)) used) budget ⌝ }
 {
     let c = check(variables, list, trail, marks, used);
     if let Checked::Refused(r) = c {

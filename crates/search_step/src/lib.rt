@@ -49,7 +49,8 @@ fn append_forced(
 ) -> Stepped
     requires { ⌜ Packed (length (now marks)) (now trail) (now marks) used ⌝ }
     requires { ⌜ Allows (now trail) (now marks) used (entry (getD (now list) place (pos 0)) 0) ⌝ }
-    ensures { λ r. ⌜ stepHanded r (now (trail .exit)) (now (marks .exit)) ≡ handsNext (appends (entry (getD (now (list .entry)) place (pos 0)) 0)) (now (trail .entry)) (now (marks .entry)) used ⌝ }
+    ensures { λ r. ⌜ stepHanded r (now (trail .exit)) (now (marks .exit))
+        ≡ handsNext (appends (entry (getD (now (list .entry)) place (pos 0)) 0)) (now (trail .entry)) (now (marks .entry)) used ⌝ }
 {
     copy_at(trail, used, list, place);
     assign(trail, marks, used, 0);
@@ -60,7 +61,8 @@ fn append_forced(
 fn append_choice(trail: &mut [i32], marks: &mut [u8], used: usize, index: usize) -> Stepped
     requires { ⌜ Packed (length (now marks)) (now trail) (now marks) used ⌝ }
     requires { ⌜ Allows (now trail) (now marks) used (entry (negsuc index) 1) ⌝ }
-    ensures { λ r. ⌜ stepHanded r (now (trail .exit)) (now (marks .exit)) ≡ handsNext (appends (entry (negsuc index) 1)) (now (trail .entry)) (now (marks .entry)) used ⌝ }
+    ensures { λ r. ⌜ stepHanded r (now (trail .exit)) (now (marks .exit))
+        ≡ handsNext (appends (entry (negsuc index) 1)) (now (trail .entry)) (now (marks .entry)) used ⌝ }
 {
     put_not(trail, used, index + 1);
     assign(trail, marks, used, 1);
@@ -71,7 +73,8 @@ fn append_choice(trail: &mut [i32], marks: &mut [u8], used: usize, index: usize)
 pub fn step(list: &[i32], trail: &mut [i32], marks: &mut [u8], used: usize) -> Stepped
     requires { ⌜ Packed (length (now marks)) (now trail) (now marks) used ⌝ }
     requires { ⌜ ListFits (length (now marks)) (now list) ⌝ }
-    ensures { λ r. ⌜ stepHanded r (now (trail .exit)) (now (marks .exit)) ≡ handsNext (step (length (now (marks .entry))) (now (list .entry))) (now (trail .entry)) (now (marks .entry)) used ⌝ }
+    ensures { λ r. ⌜ stepHanded r (now (trail .exit)) (now (marks .exit))
+        ≡ handsNext (step (length (now (marks .entry))) (now (list .entry))) (now (trail .entry)) (now (marks .entry)) used ⌝ }
 {
     let failed = first_failed(list, marks);
     if let Place::At(_) = failed {

@@ -59,7 +59,9 @@ module _ {v : ℕ} (s : Slices) {used : ℕ} where
 
   pub right-lengths : Sized v s used → wrongLengths v s used ≡ false
   right-lengths z =
-      rw (le-ltb mostVariables v (z .few), eq-eqb (length (s .trail)) v (z .long .trail), eq-eqb (length (s .marks)) v (z .long .marks), le-ltb v used (z .inside))
+      let trail = eq-eqb (length (s .trail)) v (z .long .trail) in
+      let marks = eq-eqb (length (s .marks)) v (z .long .marks) in
+      rw (le-ltb mostVariables v (z .few), trail, marks, le-ltb v used (z .inside))
 
 -- the search's rows are the first of either call
 first-rows : (x : Call) (s : Search) → Clear (rowsOf s x) → Clear (searchRows s)

@@ -115,13 +115,15 @@ module _ {x : Call} {s : Search} (ok : IsTaken x s) (budget : ℕ) where
   -- Halted, the steps are the whole budget and fewer than 2^(V+1) − 1.
   pub halted-steps : Says (hands x s budget) Halted → (steps (hands x s budget) ≡ budget) × (steps (hands x s budget) < 2 ^ (s .variables + 1) - 1)
   halted-steps e =
-      let m : Meaning (s .variables) (s .list) x (begins s) budget Halted (done .steps) (done .trail) = rw (ending ok budget Halted e) at (comes ok budget .says) in
+      let m : Meaning (s .variables) (s .list) x (begins s) budget Halted (done .steps) (done .trail) =
+      rw (ending ok budget Halted e) at (comes ok budget .says) in
       rw counted (m .0, let f = m .1 in omega (arith, most))
 
   -- What a call has found, `next` may go on from.
   pub found-next : Says (hands x s budget) Found → IsTaken Following (resumed s (hands x s budget))
   found-next e =
-      let m : Meaning (s .variables) (s .list) x (begins s) budget Found (done .steps) (done .trail) = rw (ending ok budget Found e) at (comes ok budget .says) in
+      let m : Meaning (s .variables) (s .list) x (begins s) budget Found (done .steps) (done .trail) =
+      rw (ending ok budget Found e) at (comes ok budget .says) in
       let full = full-length (s .variables) (done .trail) (comes ok budget .legal) (m .0) in
       next-exactly .1 (
         resumed-taken ok budget,

@@ -38,7 +38,8 @@ pub fn find_drawing(
     budget: u64,
 ) -> End
     requires { ⌜ Fits g (now «record») needed (now list) (now trail) (now marks) (now values) (now drawing) ⌝ }
-    ensures { λ r. ⌜ Ends (now («record» .entry)) budget (now (trail .entry)) (now (marks .entry)) (now (values .entry)) (now (drawing .entry)) r (now (trail .exit)) (now (marks .exit)) (now (values .exit)) (now (drawing .exit)) ⌝ }
+    ensures { λ r. ⌜ Ends (now («record» .entry)) budget (now (trail .entry)) (now (marks .entry)) (now (values .entry)) (now (drawing .entry)) r
+        (now (trail .exit)) (now (marks .exit)) (now (values .exit)) (now (drawing .exit)) ⌝ }
 {
     let elements = needed.elements;
     let v = needed.variables;

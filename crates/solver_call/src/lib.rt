@@ -63,8 +63,12 @@ pub fn solve_grid(
     budget: u64,
 ) -> Solved
     requires { ⌜ IsRead g (now «record») ⌝ }
-    ensures { λ r. ⌜ solvedOutcome r ≡ solverAnswer (now («record» .entry)) budget (lentOf (now (list .entry)) (now (trail .entry)) (now (marks .entry)) (now (values .entry)) (now (drawing .entry))) ⌝ }
-    ensures { λ r. ⌜ lentOf (now (list .exit)) (now (trail .exit)) (now (marks .exit)) (now (values .exit)) (now (drawing .exit)) ≡ solverLeaves (now («record» .entry)) budget (lentOf (now (list .entry)) (now (trail .entry)) (now (marks .entry)) (now (values .entry)) (now (drawing .entry))) ⌝ }
+    ensures { λ r. ⌜ solvedOutcome r
+        ≡ solverAnswer (now («record» .entry)) budget
+        (lentOf (now (list .entry)) (now (trail .entry)) (now (marks .entry)) (now (values .entry)) (now (drawing .entry))) ⌝ }
+    ensures { λ r. ⌜ lentOf (now (list .exit)) (now (trail .exit)) (now (marks .exit)) (now (values .exit)) (now (drawing .exit))
+        ≡ solverLeaves (now («record» .entry)) budget
+        (lentOf (now (list .entry)) (now (trail .entry)) (now (marks .entry)) (now (values .entry)) (now (drawing .entry))) ⌝ }
 {
     let counts = count(g, record);
     let cells = g.size();
@@ -109,8 +113,12 @@ pub fn solve(
     drawing: &mut [u8],
     budget: u64,
 ) -> Solved
-    ensures { λ r. ⌜ solvedOutcome r ≡ solverAnswer (now («record» .entry)) budget (lentOf (now (list .entry)) (now (trail .entry)) (now (marks .entry)) (now (values .entry)) (now (drawing .entry))) ⌝ }
-    ensures { λ r. ⌜ lentOf (now (list .exit)) (now (trail .exit)) (now (marks .exit)) (now (values .exit)) (now (drawing .exit)) ≡ solverLeaves (now («record» .entry)) budget (lentOf (now (list .entry)) (now (trail .entry)) (now (marks .entry)) (now (values .entry)) (now (drawing .entry))) ⌝ }
+    ensures { λ r. ⌜ solvedOutcome r
+        ≡ solverAnswer (now («record» .entry)) budget
+        (lentOf (now (list .entry)) (now (trail .entry)) (now (marks .entry)) (now (values .entry)) (now (drawing .entry))) ⌝ }
+    ensures { λ r. ⌜ lentOf (now (list .exit)) (now (trail .exit)) (now (marks .exit)) (now (values .exit)) (now (drawing .exit))
+        ≡ solverLeaves (now («record» .entry)) budget
+        (lentOf (now (list .entry)) (now (trail .entry)) (now (marks .entry)) (now (values .entry)) (now (drawing .entry))) ⌝ }
 {
     let p = read(record);
     let Parsed::Accepted(g) = p else {

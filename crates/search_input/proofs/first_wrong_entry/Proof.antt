@@ -11,10 +11,11 @@ use Rattle.search_input.proofs.first_wrong_entry.Tie as tie
 
 -- the place at which both functions stop
 both : (c : tie.After-first-again)
-    → Until (wrongEntryAt (c .before .before .before .args .v) (slices (c .before .before .before .args .trail .now) (c .before .before .before .args .marks .now))) (c .before .before .before .args .used) (c .first-again .result)
+    → let start = c .before .before .before in
+    Until (wrongEntryAt (start .args .v) (slices (start .args .trail .now) (start .args .marks .now))) (start .args .used) (c .first-again .result)
 both c =
-    wrong-entries (c .before .before .before .args .v) (c .before .before .before .args .trail .now) (c .before .before .before .args .marks .now)
-    (c .before .first-faulty .ensures) (c .first-again .ensures)
+    let start = c .before .before .before in
+    wrong-entries (start .args .v) (start .args .trail .now) (start .args .marks .now) (c .before .first-faulty .ensures) (c .first-again .ensures)
 
 first-faulty-requires : tie.Need-first-faulty-requires
 first-faulty-requires c κs = search needs

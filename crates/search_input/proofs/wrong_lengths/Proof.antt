@@ -16,11 +16,13 @@ returns-2 c = rw (sym (c .before .before .too-many-variables .ensures) ∙ c .be
 
 returns-3 : tie.Need-returns-3
 returns-3 c =
-    rw (sym (c .before .before .before .too-many-variables .ensures) ∙ c .before .before .if1 .left, eq-eqb _ _ (c .before .if2 .left), ne-eqb _ _ (c .if3 .taken))
+    let after-if1 = c .before .before in
+    rw (sym (after-if1 .before .too-many-variables .ensures) ∙ after-if1 .if1 .left, eq-eqb _ _ (c .before .if2 .left), ne-eqb _ _ (c .if3 .taken))
 
 returns-4 : tie.Need-returns-4
 returns-4 c =
-    rw (sym (c .before .before .before .too-many-variables .ensures) ∙ c .before .before .if1 .left, eq-eqb _ _ (c .before .if2 .left), eq-eqb _ _ (c .if3 .left))
+    let after-if1 = c .before .before in
+    rw (sym (after-if1 .before .too-many-variables .ensures) ∙ after-if1 .if1 .left, eq-eqb _ _ (c .before .if2 .left), eq-eqb _ _ (c .if3 .left))
 
 pub wrong-lengths-spec : {M : Type 1} → statement M
 wrong-lengths-spec =
