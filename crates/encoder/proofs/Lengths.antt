@@ -208,9 +208,6 @@ module _ (b : Board) (bounded : BoundedBoard b) where
         ),
       ))
 
-  pub few-clauses : length (clauses b) < 2 ^ 28
-  few-clauses = let h = clauses-few .many in omega arith
-
   pub short-list : length (clauseList b) < 2 ^ 40
   unfolding clauseList
   short-list =
