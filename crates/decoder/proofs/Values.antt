@@ -26,7 +26,7 @@ use Rattle.encoder.proofs.Values.{value-known}
 use Rattle.encoder.proofs.Bounds.{place-below}
 use Rattle.encoder_numbers.specs.declared.Sizes.{Sizes}
 use Rattle.encoder_numbers.specs.Tables.{sizesBelow, ifOpenCell, openNeighbour, OpenPair}
-use Rattle.encoder_numbers.proofs.Neighbours.{held-laws}
+use Rattle.encoder_numbers.proofs.Neighbours.{fits-laws}
 use Rattle.decoder.specs.Values.{Valued}
 
 -- a link, by the values of E either way
@@ -49,7 +49,7 @@ module _ {g : Grid} {s values table : List ℕ} {sizes : Sizes} (p : Valued g s 
   w = valueOf b values
 
   law : Laws b
-  law = held-laws (p .tables .recordFits)
+  law = fits-laws (p .tables .recordFits)
 
   -- only a variable has a value that holds
   proper : (v : Variable) → w v ≡ true → Known b v

@@ -18,7 +18,7 @@ use Rattle.dimacs.specs.Reader.{accepts, readElement, literalOf, ended}
 use Rattle.dimacs_theory.proofs.Numbers.{first-spells, next-spells}
 use Rattle.dimacs_theory.proofs.Closings.{done, closing-right}
 use Rattle.dimacs_theory.proofs.Runs.{Fits, Runs, stay, byte}
-use Rattle.dimacs_theory.proofs.Shapes.{Opened, Listed, listed-more, sign, Head, variables, clauses, literal, spelt, Shape, nothing, remark}
+use Rattle.dimacs_theory.proofs.Shapes.{Opened, ListPart, list-part-more, sign, Head, variables, clauses, literal, spelt, Shape, nothing, remark}
 use Rattle.dimacs_theory.proofs.Shapes.{letters, before, inside, list, Before}
 
 -- a byte that is taken where a test holds
@@ -100,10 +100,10 @@ module _ (b : ℕ) {t : State} where
       let r = behind-kept k (eqb x 0) e in
       let text : part ++ sign negative ++ decimal x ++ (b ∷ []) ≡ part ++ (signed l ++ (behind l ∷ [])) = rw (s .text, s .zero, r .1) (simp append-assoc) in
       subst (λ t. Shape t (part ++ sign negative ++ decimal x ++ (b ∷ [])) (ls ++ (l ∷ []))) (ap (λ c. clause h (tally c k) (not c)) (s .zero) ∙ r .0)
-      (rw text (list (listed-more l p room (omega arith))))
+      (rw text (list (list-part-more l p room (omega arith))))
 
   -- the first byte of an element
-  clause-kept : {h : Header} {k : ℕ} {begun : Bool} {part : List ℕ} {ls : List ℤ} → Listed h k begun part ls → clauseStep h k b ≡ some t
+  clause-kept : {h : Header} {k : ℕ} {begun : Bool} {part : List ℕ} {ls : List ℤ} → ListPart h k begun part ls → clauseStep h k b ≡ some t
       → Shape t (part ++ (b ∷ [])) ls
   clause-kept {h} {k} {begun} {part} {ls} p e = by (eqb k (h .clauses)) refl (eqb b minus) refl e
     where
@@ -182,7 +182,7 @@ read {text = text} {ls = ls} r (byte {b = b} {bs = bs} {es = es} {ls = ms} e f q
     rw (← append-assoc text (b ∷ []) bs, ← append-assoc ls es ms) (read (rw f at (kept b r e)) q)
 
 -- C clauses and none begun: the text of the list
-complete : {h : Header} {k : ℕ} {part : List ℕ} {ls : List ℤ} → Listed h k false part ls → k ≡ h .clauses → Narrow part
+complete : {h : Header} {k : ℕ} {part : List ℕ} {ls : List ℤ} → ListPart h k false part ls → k ≡ h .clauses → Narrow part
 complete {h} {k} {ls = ls} p e =
     let n = p .count in
     let c = p .counted in

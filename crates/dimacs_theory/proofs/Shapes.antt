@@ -23,7 +23,7 @@ pub record Opened (text part : List ℕ) : Type 0 where
   pub is : text ≡ commentLines comments ++ part
 
 -- the header and the elements ls, with k clauses closed and perhaps one begun
-pub record Listed (h : Header) (k : ℕ) (begun : Bool) (part : List ℕ) (ls : List ℤ) : Type 0 where
+pub record ListPart (h : Header) (k : ℕ) (begun : Bool) (part : List ℕ) (ls : List ℤ) : Type 0 where
   pub few : h .variables ≤ mostVariables
   pub counted : h .clauses < 2 ^ 64
   pub is : part ≡ headerLine (h .variables) (h .clauses) ++ lines ls
@@ -39,7 +39,7 @@ sign false = []
 pub data Head : Number → List ℕ → List ℤ → Type 0 where
   variables : {part : List ℕ} → part ≡ preamble → Head ofVariables part []
   clauses : {v : ℕ} {part : List ℕ} → v ≤ mostVariables → part ≡ preamble ++ (decimal v ++ (space ∷ [])) → Head (ofClauses v) part []
-  literal : {h : Header} {k : ℕ} {begun negative : Bool} {part : List ℕ} {ls : List ℤ} → Listed h k begun part ls → k < h .clauses
+  literal : {h : Header} {k : ℕ} {begun negative : Bool} {part : List ℕ} {ls : List ℤ} → ListPart h k begun part ls → k < h .clauses
       → (negative ≡ true → h .variables ≡ 0 → ⊥) → Head (element h k negative) (part ++ sign negative) ls
 
 -- what was read in a state
@@ -49,7 +49,7 @@ pub data Shape : State → List ℕ → List ℤ → Type 0 where
   letters : {w : ℕ} {ws part : List ℕ} → part ++ w ∷ ws ≡ preamble → Shape (word (w ∷ ws)) part []
   before : {n : Number} {part : List ℕ} {ls : List ℤ} → Head n part ls → Shape (first n) part ls
   inside : {n : Number} {x : ℕ} {part : List ℕ} {ls : List ℤ} → Head n part ls → Fits n x → Shape (digits n x) (part ++ decimal x) ls
-  list : {h : Header} {k : ℕ} {begun : Bool} {part : List ℕ} {ls : List ℤ} → Listed h k begun part ls → Shape (clause h k begun) part ls
+  list : {h : Header} {k : ℕ} {begun : Bool} {part : List ℕ} {ls : List ℤ} → ListPart h k begun part ls → Shape (clause h k begun) part ls
 
 pub record Before (s : State) (text : List ℕ) (ls : List ℤ) : Type 0 where
   pub part : List ℕ
@@ -72,10 +72,10 @@ unfolding lines
 lines-more [] l = refl
 lines-more (m ∷ ls) l = rw (lines-more ls l) (sym (append-assoc (signed m) (behind m ∷ lines ls) _))
 
-pub listed-more : {h : Header} {k : ℕ} {begun : Bool} {part : List ℕ} {ls : List ℤ} (l : ℤ) → Listed h k begun part ls → k < h .clauses
+pub list-part-more : {h : Header} {k : ℕ} {begun : Bool} {part : List ℕ} {ls : List ℤ} (l : ℤ) → ListPart h k begun part ls → k < h .clauses
     → natAbs l ≤ h .variables
-    → Listed h (tally (closes l) k) (not (closes l)) (part ++ (signed l ++ (behind l ∷ []))) (ls ++ (l ∷ []))
-listed-more {h} {k} {ls = ls} l p room w =
+    → ListPart h (tally (closes l) k) (not (closes l)) (part ++ (signed l ++ (behind l ∷ []))) (ls ++ (l ∷ []))
+list-part-more {h} {k} {ls = ls} l p room w =
     record {
       few = p .few;
       counted = p .counted;

@@ -17,7 +17,7 @@ use Rattle.rules.specs.declared.CellByte.the-variants.{Is, NotAllowed}
 use Rattle.rules.specs.Record.{Puzzle, directionOf, isCell, cellOf, sides, size, puzzle, isSide, IsAccepted}
 use Rattle.rules.specs.Board.{Clue, cluesFrom, board, boardOf}
 use Rattle.rules.proofs.Boards.{Filled}
-use Rattle.rules.proofs.Records.{held-filled, accepted-clear, accepted-fits}
+use Rattle.rules.proofs.Records.{fits-filled, accepted-clear, accepted-fits}
 use Rattle.encoder.specs.Bounds.{BoundedBoard}
 use Rattle.answers.proofs.Elements.{all-map}
 use Rattle.encoder.proofs.Lines.{line-short}
@@ -63,5 +63,5 @@ pub accepted-bounded : (s : List ℕ) → IsAccepted s → BoundedBoard (boardOf
 accepted-bounded s acc =
     let (c1, (c2, (c3, c))) = accepted-clear s acc in
     let w = or-neither (not (isSide (sides s .rows))) (not (isSide (sides s .columns))) (no-cause _ c3) in
-    bounded-board (puzzle (sides s) s) (side-small _ (not-false _ (w .0))) (side-small _ (not-false _ (w .1))) (held-filled (accepted-fits s acc))
+    bounded-board (puzzle (sides s) s) (side-small _ (not-false _ (w .0))) (side-small _ (not-false _ (w .1))) (fits-filled (accepted-fits s acc))
     (all-map (λ c. numberOf c ≤ 44) cellOf (drop 6 s) (λ v m. cell-small v))

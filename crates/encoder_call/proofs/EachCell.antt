@@ -20,7 +20,7 @@ use Rattle.encoder_numbers.specs.Numbered.{cellNumbersOf}
 use Rattle.encoder_cells.proofs.Cells.{each-ranked, literals-each, touching-list, links-list, start-list, distance-list}
 use Rattle.encoder_numbers.specs.Tables.{Tables, OpenCell}
 use Rattle.encoder_numbers.specs.declared.Sizes.{Sizes}
-use Rattle.encoder_numbers.proofs.Neighbours.{held-laws, some-open, few, product-few, number-q}
+use Rattle.encoder_numbers.proofs.Neighbours.{fits-laws, some-open, few, product-few, number-q}
 use Rattle.encoder_call.specs.declared.Family.{Family}
 use Rattle.encoder_call.specs.declared.Family.the-variants.{Touching, Links, Start, Distance}
 use Rattle.encoder_call.specs.Families.{familyAt, familyParts}
@@ -61,7 +61,7 @@ module _ {g : Grid} {s table : List ℕ} {sizes : Sizes} (t : Tables g s sizes t
         → listOf (gridBoard g s) (atCell (gridBoard g s) (familyAt w (gridBoard g s)) x) ≡ joined (familyParts w (sizes .opens) numbers)
     open-list w =
         ap (listOf (gridBoard g s)) (at-open (gridBoard g s) x (familyAt w (gridBoard g s)) (o .opened))
-        ∙ family-list w (gridBoard g s) (held-laws (t .recordFits)) x (o .opened)
+        ∙ family-list w (gridBoard g s) (fits-laws (t .recordFits)) x (o .opened)
         ∙ (λ i. joined (familyParts w (sym (t .sized) i .opens) (sym e i)))
 
     pub open-few : (0 < sizes .opens) × (numbers .distance ≤ mostVariables)

@@ -29,7 +29,7 @@ use Rattle.encoder.proofs.Bounds.{few-variables, list-not-beyond}
 use Rattle.encoder.proofs.Lengths.{short-list}
 use Rattle.encoder.proofs.Sizes.{accepted-bounded}
 use Rattle.encoder_shapes.specs.Limits.{WithinLimits}
-use Rattle.encoder_numbers.proofs.Neighbours.{held-laws}
+use Rattle.encoder_numbers.proofs.Neighbours.{fits-laws}
 use Rattle.encoder_size.specs.declared.Counts.{Counts}
 use Rattle.encoder_size.specs.Counts.{countsOf}
 use Rattle.encoder_call.specs.declared.EncodeRefusal.{EncodeRefusal}
@@ -57,7 +57,7 @@ module _ {g : Grid} {s : List ℕ} (w : Encodable g s) where
         place = omega (arith, few);
         literals =
             all-in (NotBeyond mostVariables) list
-            (λ l m. let h = all-at (NotBeyond (variableCount (gridBoard g s))) (list-not-beyond (gridBoard g s) (held-laws (w .recordFits))) m in omega arith);
+            (λ l m. let h = all-at (NotBeyond (variableCount (gridBoard g s))) (list-not-beyond (gridBoard g s) (fits-laws (w .recordFits))) m in omega arith);
       }
 
   -- what the call tells after the reader's rows, and leaves

@@ -14,7 +14,7 @@ use Rattle.rules.specs.Directions.{opposite}
 use Rattle.rules.specs.Record.{size, puzzle, mostCells, RecordFits}
 use Rattle.rules.specs.Board.{Board, gridBoard}
 use Rattle.rules.proofs.Boards.{Laws, laws}
-use Rattle.rules.proofs.Records.{held-filled}
+use Rattle.rules.proofs.Records.{fits-filled}
 use Rattle.encoder.specs.Variables.{Z, S, E, Q, neighbours, openCount, number, rank, earlier}
 use Rattle.encoder.proofs.Neighbours.{in-opens}
 use Rattle.encoder.proofs.Places.{place-z, place-s, place-e, place-q}
@@ -25,8 +25,8 @@ use Rattle.encoder_numbers.specs.Tables.{sizesBelow, openNeighbour, Tabl
 use Rattle.encoder_numbers.specs.Numbered.{blackOf, noNeighbour, neighbourNumbersIf, neighbourNumbersTo, neighbourNumbersOf, cellNumbersOf}
 use Rattle.encoder_numbers.proofs.Numbers.{Few, sizes-few, there-none, there-some}
 
-pub held-laws : {g : Grid} {s : List ℕ} → RecordFits g s → Laws (gridBoard g s)
-held-laws {g} {s} h = laws (puzzle g s) (held-filled h)
+pub fits-laws : {g : Grid} {s : List ℕ} → RecordFits g s → Laws (gridBoard g s)
+fits-laws {g} {s} h = laws (puzzle g s) (fits-filled h)
 
 -- there is an open cell, so F is not 0
 some-member : {A : Type 0} {x : A} {xs : List A} → x ∈ xs → 0 < length xs
@@ -34,17 +34,17 @@ some-member (List·Memᴰ·head e) = omega arith
 some-member (List·Memᴰ·tail m) = omega arith
 
 pub some-open : {g : Grid} {s : List ℕ} {x : ℕ} → RecordFits g s → OpenCell g s x → 0 < openCount (gridBoard g s)
-some-open {g} {s} h o = some-member (in-opens (gridBoard g s) (held-laws h) (o .opened))
+some-open {g} {s} h o = some-member (in-opens (gridBoard g s) (fits-laws h) (o .opened))
 
 -- an open neighbour, and the same link seen from there
 module _ {g : Grid} {s : List ℕ} (h : RecordFits g s) {x : ℕ} {d : Direction} {y : ℕ} where
   pub open-pair : OpenCell g s x → some y ≡ openNeighbour (gridBoard g s) d x → OpenPair g s x d y
   open-pair o e =
       let r = there-some (gridBoard g s) x d e in
-      record { here = o; leads = r .0; there = record { inside = held-laws h .wired .inside d x y (r .0) .1; opened = r .1 } }
+      record { here = o; leads = r .0; there = record { inside = fits-laws h .wired .inside d x y (r .0) .1; opened = r .1 } }
 
   pub pair-back : {c : Direction} → c ≡ opposite d → OpenPair g s x d y → OpenPair g s y c x
-  pair-back q p = record { here = p .there; leads = ap (λ d. gridBoard g s .next d y) q ∙ held-laws h .wired .back d x y (p .leads); there = p .here }
+  pair-back q p = record { here = p .there; leads = ap (λ d. gridBoard g s .next d y) q ∙ fits-laws h .wired .back d x y (p .leads); there = p .here }
 
 module _ {g : Grid} {s table : List ℕ} {sizes : Sizes} (t : Tables g s sizes table) where
   -- the sizes, all and those of the cells before x, and their bounds
@@ -60,24 +60,24 @@ module _ {g : Grid} {s table : List ℕ} {sizes : Sizes} (t : Tables g s sizes t
   -- Z, S, Q and E of an open cell
   module _ {x : ℕ} (o : OpenCell g s x) {z : Sizes} (e : z ≡ sizesBelow g s x) where
     pub number-z : z .opens + 1 ≡ number (gridBoard g s) (Z x)
-    number-z = let p = place-z (gridBoard g s) (held-laws (t .recordFits)) x (o .opened) in omega (arith, ap (λ (z : Sizes). z .opens) e)
+    number-z = let p = place-z (gridBoard g s) (fits-laws (t .recordFits)) x (o .opened) in omega (arith, ap (λ (z : Sizes). z .opens) e)
 
     pub number-s : sizes .opens + z .opens + 1 ≡ number (gridBoard g s) (S x)
     number-s =
-        let p = place-s (gridBoard g s) (held-laws (t .recordFits)) x (o .opened) in
+        let p = place-s (gridBoard g s) (fits-laws (t .recordFits)) x (o .opened) in
         omega (arith, ap (λ (z : Sizes). z .opens) e, ap (λ (z : Sizes). z .opens) (t .sized))
 
     pub number-q : sizes .opens + sizes .opens + sizes .links + z .opens * sizes .opens + 1 ≡ number (gridBoard g s) (Q x 0)
     number-q =
         let b = gridBoard g s in
-        let p = place-q b (held-laws (t .recordFits)) x 0 (o .opened) (some-open (t .recordFits) o) in
+        let p = place-q b (fits-laws (t .recordFits)) x 0 (o .opened) (some-open (t .recordFits) o) in
         let q : z .opens * sizes .opens ≡ rank b x * openCount b = (λ i. e i .opens * t .sized i .opens) in
         omega (arith, ap (λ (z : Sizes). z .opens) (t .sized), ap (λ (z : Sizes). z .links) (t .sized))
 
     pub number-e : {d : Direction} {y n : ℕ} → OpenPair g s x d y → n ≡ length (neighbours (gridBoard g s) x (earlier d))
         → sizes .opens + sizes .opens + z .links + n + 1 ≡ number (gridBoard g s) (E x d)
     number-e {d} {y} p q =
-        let k = place-e (gridBoard g s) (held-laws (t .recordFits)) x d y (o .opened) (p .leads) (p .there .opened) in
+        let k = place-e (gridBoard g s) (fits-laws (t .recordFits)) x d y (o .opened) (p .leads) (p .there .opened) in
         omega (arith, ap (λ (z : Sizes). z .links) e, ap (λ (z : Sizes). z .opens) (t .sized))
 
     -- the number of Z, or 0

@@ -16,7 +16,7 @@ use Rattle.rules.specs.declared.Cell.the-variants.{Open, Clue as Clued}
 use Rattle.rules.specs.declared.Grid.{Grid}
 use Rattle.rules.specs.Record.{Puzzle, cellByte, size, puzzle, mostCells, RecordFits}
 use Rattle.rules.specs.Board.{Clue, Board, openCell, line, clueOf, cluesFrom, gridBoard}
-use Rattle.rules.proofs.Records.{cell-at, held-filled}
+use Rattle.rules.proofs.Records.{cell-at, fits-filled}
 use Rattle.answers.specs.Lists.{upTo, each}
 use Rattle.encoder.specs.Variables.{directions, openCount, ifOpen, ifThere, neighbours, out, outgoing, linkVariables, clueCounts, counts, variableCount, lower}
 use Rattle.encoder.specs.Variables.{rank, linksBelow, earlier}
@@ -144,7 +144,7 @@ counts-few {g} {s} {x} h l = by (getD (puzzle g s .cells) x Open) refl
 pub below-few : {g : Grid} {s : List ℕ} → RecordFits g s → (x : ℕ) → x ≤ size g → countsBelow (puzzle g s) x ≤ x * 2 ^ 20
 below-few h zero l = omega arith
 below-few {g} {s} h (suc x) l =
-    let f = held-filled h in
+    let f = fits-filled h in
     let k = below-few h x (omega arith) in
     let e : countsBelow (puzzle g s) (suc x) ≡ countsBelow (puzzle g s) x + countsOf (puzzle g s) x = ap (countsBelow (puzzle g s)) (sym (add-one x))
     ∙ counts-on (puzzle g s) x (omega arith) in
@@ -152,14 +152,14 @@ below-few {g} {s} h (suc x) l =
 
 pub counts-are : {g : Grid} {s : List ℕ} → RecordFits g s → countsBelow (puzzle g s) (size g) ≡ length (counts (gridBoard g s))
 counts-are {g} {s} h =
-    let f = held-filled h in ap (λ cs. length (each (cluesFrom (puzzle g s) 0 cs) clueCounts)) (take-all (size g) (puzzle g s .cells) (omega arith))
+    let f = fits-filled h in ap (λ cs. length (each (cluesFrom (puzzle g s) 0 cs) clueCounts)) (take-all (size g) (puzzle g s .cells) (omega arith))
 
 -- 3. The sizes of the cells before x, one cell more, and their bounds
 
 module _ {g : Grid} {s : List ℕ} (h : RecordFits g s) {x : ℕ} (l : x < size g) {z : Sizes} (e : z ≡ sizesBelow g s x) {c : Cell}
     (q : c ≡ getD (puzzle g s .cells) x Open) where
   counts-next : countsBelow (puzzle g s) (x + 1) ≡ countsBelow (puzzle g s) x + countsOf (puzzle g s) x
-  counts-next = let f = held-filled h in counts-on (puzzle g s) x (omega arith)
+  counts-next = let f = fits-filled h in counts-on (puzzle g s) x (omega arith)
 
   opens-is : z .opens ≡ rank (gridBoard g s) x
   opens-is = ap (λ (z : Sizes). z .opens) e

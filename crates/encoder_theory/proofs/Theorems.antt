@@ -17,7 +17,7 @@ use Rattle.rules.specs.Record.{Puzzle, puzzle, sides, size, IsAccepted}
 use Rattle.rules.specs.Board.{Board, line, board, boardOf}
 use Rattle.rules.specs.Drawing.{blacksNearest, blackAt, SolutionBytes}
 use Rattle.rules.proofs.Boards.{Laws, Filled}
-use Rattle.rules.proofs.Records.{held-filled, accepted-fits, accepted-laws}
+use Rattle.rules.proofs.Records.{fits-filled, accepted-fits, accepted-laws}
 use Rattle.cnf.specs.Literals.{mostVariables, tooManyVariables, wrongList}
 use Rattle.cnf.specs.Clauses.{clauseCount}
 use Rattle.encoder.specs.Variables.{T, variableCount}
@@ -88,7 +88,7 @@ pub side-by-side : (s : List ℕ) → IsAccepted s → (a : List Bool) → Satis
 side-by-side s acc a h ds dec x d n inside is j t l k = (λ p. eqb-true _ t (sym e ∙ p), λ p. e ∙ eq-eqb _ t p)
   where
     clue : record { cell = x; number = n; line = line (puzzle (sides s) s) d x } ∈ boardOf s .clues
-    clue = let f = held-filled (accepted-fits s acc) in clue-in (puzzle (sides s) s) x (omega arith) is
+    clue = let f = fits-filled (accepted-fits s acc) in clue-in (puzzle (sides s) s) x (omega arith) is
 
     e : valuation (boardOf s) a (T x j t) ≡ eqb (blacksNearest (blackAt ds) (line (puzzle (sides s) s) d x) j) t
     e =

@@ -54,8 +54,8 @@ sides-small g h k =
     record { wide = omega arith; narrow = omega arith; few = omega arith }
 
 -- a grid with its record has as many cells as its sides say
-pub held-filled : {g : Grid} {s : List ℕ} → RecordFits g s → Filled (puzzle g s)
-held-filled {g} {s} h = let l = h .long in length-map (drop 6 s) cellOf ∙ omega (arith, length-drop 6 s)
+pub fits-filled : {g : Grid} {s : List ℕ} → RecordFits g s → Filled (puzzle g s)
+fits-filled {g} {s} h = let l = h .long in length-map (drop 6 s) cellOf ∙ omega (arith, length-drop 6 s)
 
 module _ (s : List ℕ) (acc : IsAccepted s) where
   pub accepted-clear : Clear (recordRows s)
@@ -69,7 +69,7 @@ module _ (s : List ℕ) (acc : IsAccepted s) where
       record { sides = sides-small (sides s) (not-false _ (w .0)) (not-false _ (w .1)); long = eqb-true _ _ (not-false _ (no-cause _ c4)) }
 
   pub accepted-laws : Laws (boardOf s)
-  accepted-laws = laws (puzzle (sides s) s) (held-filled accepted-fits)
+  accepted-laws = laws (puzzle (sides s) s) (fits-filled accepted-fits)
 
 -- The causes of rows 1 to 4, by the code's tests
 module _ (s : List ℕ) where

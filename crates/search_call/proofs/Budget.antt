@@ -14,8 +14,8 @@ use Rattle.search.proofs.Trails.{length-trail}
 use Rattle.search.proofs.BudgetSums.{counted}
 use Rattle.search_theory.specs.Legal.{Legal}
 use Rattle.search_scan.specs.PackedValues.{bareMarks}
-use Rattle.search_trail.specs.Packed.{packedTrail, Packed, holding}
-use Rattle.search_trail.proofs.Holding.{Held, packed-held, holds}
+use Rattle.search_trail.specs.Packed.{packedTrail, Packed, withTrail}
+use Rattle.search_trail.proofs.WithTrail.{HasTrail, packed-has-trail, holds}
 use Rattle.search_step.specs.declared.Stepped.{Stepped}
 use Rattle.search_step.specs.declared.Stepped.the-variants.{MovedTo, Found as SaysFound, None as SaysNone}
 use Rattle.search_step.specs.Steps.{ListFits, StepHanded, stepHanded, answerOf, leaves, handsNext}
@@ -24,7 +24,7 @@ use Rattle.search_call.specs.declared.Ending.{Ending as Answer}
 use Rattle.search_call.specs.declared.Ending.the-variants.{Found as FoundAt, None as NoneAt, Halted as HaltedAt}
 use Rattle.search_call.specs.declared.End.{End}
 use Rattle.search_call.specs.Answers.{endingOf, endOutcome}
-use Rattle.search_call.specs.Runs.{goesOn, runLeaves, handsRun}
+use Rattle.search_call.specs.Runs.{unlessAnswered, runLeaves, handsRun}
 
 abbrev endAt : Answer → ℕ → ℕ → End
 endAt x n used = record { ending = x; steps = n; used = used }
@@ -45,9 +45,9 @@ none-next (Moved w) e = let z : _≡_ {A = ℕ} 0 1 = cc in absurd (omega arith)
 none-next AnsweredFound e = let z : _≡_ {A = ℕ} 0 1 = cc in absurd (omega arith)
 none-next AnsweredNone e = refl
 
--- the trail that a step moved to is held by what it leaves
-pub held-moved : {v : ℕ} {ls : List ℤ} {t u : Trail} {s : Slices} → ListFits v ls → Held v t s → step v ls t ≡ Moved u → Held v u (holding u s)
-held-moved {v} {t = t} {u} {s} fits h q =
+-- the trail that a step moved to stands in what it leaves
+pub has-trail-moved : {v : ℕ} {ls : List ℤ} {t u : Trail} {s : Slices} → ListFits v ls → HasTrail v t s → step v ls t ≡ Moved u → HasTrail v u (withTrail u s)
+has-trail-moved {v} {t = t} {u} {s} fits h q =
     let k = h .packed in
     holds (k .few) {s = s} (record { trail = k .literals; marks = k .bytes }) u (step-legal t fits (subst (Legal v) (h .trail) (k .legal)) q)
 
@@ -120,10 +120,10 @@ module _ {ls : List ℤ} {budget : ℕ} {ts₀ : List ℤ} {ms₀ : List ℕ} {f
     unfolding run
     next-rest q = ap (λ (x : Next). counted n (after x t (λ u. run v ls later u))) (sym q) ∙ (rw one at (g .rest))
 
-    next-left : {x : Next} → step v ls t ≡ x → goesOn x (leaves x (slices ts ms)) (λ u. runLeaves v ls later u (leaves x (slices ts ms))) ≡ wholeLeft
+    next-left : {x : Next} → step v ls t ≡ x → unlessAnswered x (leaves x (slices ts ms)) (λ u. runLeaves v ls later u (leaves x (slices ts ms))) ≡ wholeLeft
     unfolding runLeaves
     next-left q =
-        ap (λ (x : Next). goesOn x (leaves x (slices ts ms)) (λ u. runLeaves v ls later u (leaves x (slices ts ms)))) (sym q) ∙ (rw one at (g .left))
+        ap (λ (x : Next). unlessAnswered x (leaves x (slices ts ms)) (λ u. runLeaves v ls later u (leaves x (slices ts ms)))) (sym q) ∙ (rw one at (g .left))
 
     module _ {r : Stepped} {us : List ℤ} {ns : List ℕ} (s : stepHanded r us ns ≡ handsNext (step (length ms) ls) ts ms used) where
       says : {x : Stepped} → r ≡ x → x ≡ answerOf (step v ls t)
@@ -135,7 +135,7 @@ module _ {ls : List ℤ} {budget : ℕ} {ts₀ : List ℤ} {ms₀ : List ℕ} {f
       pub go-moved : {u : ℕ} → r ≡ MovedTo u → Going ls budget ts₀ ms₀ first us ns u (n + 1)
       go-moved {u} e =
           let (w, q, p) = moved-next (step v ls t) (says e) in
-          let k : Held v w (slices us ns) = subst (Held v w) (sym (has q)) (held-moved (g .listed) (packed-held (g .running)) q) in
+          let k : HasTrail v w (slices us ns) = subst (HasTrail v w) (sym (has q)) (has-trail-moved (g .listed) (packed-has-trail (g .running)) q) in
           let at : packedTrail us ns u ≡ w = ap (packedTrail us ns) p ∙ k .trail in
           let d : Done = run v ls later w in
           let z : n + 1 + d .steps ≡ n + suc (d .steps) = omega arith in
@@ -153,15 +153,15 @@ module _ {ls : List ℤ} {budget : ℕ} {ts₀ : List ℤ} {ms₀ : List ℕ} {f
       pub go-none : r ≡ SaysNone → handed (endOutcome (endAt NoneAt (n + 1) used)) us ns ≡ handsRun ls budget ts₀ ms₀ first
       go-none e = let q = none-next (step v ls t) (says e) in answers NoneAt (next-rest q) (has q ∙ next-left q)
 
--- where a run ends, its trail is held by what it leaves
-pub run-held : {v : ℕ} {ls : List ℤ} → ListFits v ls → (budget : ℕ) (t : Trail) (s : Slices) → Held v t s
-    → Held v (run v ls budget t .trail) (runLeaves v ls budget t s)
+-- where a run ends, its trail stands in what it leaves
+pub run-has-trail : {v : ℕ} {ls : List ℤ} → ListFits v ls → (budget : ℕ) (t : Trail) (s : Slices) → HasTrail v t s
+    → HasTrail v (run v ls budget t .trail) (runLeaves v ls budget t s)
 unfolding run runLeaves
-run-held fits zero t s h = h
-run-held {v} {ls} fits (suc budget) t s h = by (step v ls t) refl (run-held fits budget)
+run-has-trail fits zero t s h = h
+run-has-trail {v} {ls} fits (suc budget) t s h = by (step v ls t) refl (run-has-trail fits budget)
   where
-    by : (x : Next) → step v ls t ≡ x → ((u : Trail) (s : Slices) → Held v u s → Held v (run v ls budget u .trail) (runLeaves v ls budget u s))
-        → Held v (after x t (λ u. run v ls budget u) .trail) (goesOn x (leaves x s) (λ u. runLeaves v ls budget u (leaves x s)))
-    by (Moved u) q go = go u (holding u s) (held-moved fits h q)
+    by : (x : Next) → step v ls t ≡ x → ((u : Trail) (s : Slices) → HasTrail v u s → HasTrail v (run v ls budget u .trail) (runLeaves v ls budget u s))
+        → HasTrail v (after x t (λ u. run v ls budget u) .trail) (unlessAnswered x (leaves x s) (λ u. runLeaves v ls budget u (leaves x s)))
+    by (Moved u) q go = go u (withTrail u s) (has-trail-moved fits h q)
     by AnsweredFound q go = h
     by AnsweredNone q go = h

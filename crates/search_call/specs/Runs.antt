@@ -11,17 +11,17 @@ use Rattle.search_trail.specs.Packed.{packedTrail}
 use Rattle.search_step.specs.Steps.{leaves}
 
 -- a run goes on from the trail that a step moved to; an answer ends it
-abbrev pub goesOn : Next → Slices → (Trail → Slices) → Slices
-goesOn (Moved u) left go = go u
-goesOn AnsweredFound left go = left
-goesOn AnsweredNone left go = left
+abbrev pub unlessAnswered : Next → Slices → (Trail → Slices) → Slices
+unlessAnswered (Moved u) left go = go u
+unlessAnswered AnsweredFound left go = left
+unlessAnswered AnsweredNone left go = left
 
 -- it leaves in the buffers what its steps leave, one after the other
 unfoldable pub runLeaves : ℕ → List ℤ → ℕ → Trail → Slices → Slices
 runLeaves v ls zero t s = s
 runLeaves v ls (suc budget) t s =
     let left : Slices = leaves (step v ls t) s in
-    goesOn (step v ls t) left (λ u. runLeaves v ls budget u left)
+    unlessAnswered (step v ls t) left (λ u. runLeaves v ls budget u left)
 
 -- what it hands out from the trail in the buffers
 abbrev pub handsRun : List ℤ → ℕ → List ℤ → List ℕ → ℕ → Handed

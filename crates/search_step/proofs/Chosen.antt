@@ -14,7 +14,7 @@ use Rattle.search_theory.proofs.Choices.{choice-laws}
 use Rattle.search_theory.proofs.Steps.{Stepped, moved, exhausted, full, stepped}
 use Rattle.search_scan.specs.PackedValues.{packedValues}
 use Rattle.search_trail.specs.Packed.{packedTrail, Packed}
-use Rattle.search_trail.proofs.Holding.{packed-values}
+use Rattle.search_trail.proofs.WithTrail.{packed-values}
 use Rattle.search_step.specs.declared.Stepped.the-variants.{Found}
 use Rattle.search_step.specs.Steps.{ListFits, Allows, appends, StepHanded, stepHanded, answerOf, leaves, handsNext}
 

@@ -10,7 +10,7 @@ use Rattle.search.specs.Trail.{Entry, Trail, Slices, slices}
 use Rattle.search.specs.Step.{Next, Moved, AnsweredFound, AnsweredNone}
 use Rattle.search_theory.specs.Legal.{Legal}
 use Rattle.search_scan.specs.PackedValues.{Within}
-use Rattle.search_trail.specs.Packed.{packedTrail, holding}
+use Rattle.search_trail.specs.Packed.{packedTrail, withTrail}
 use Rattle.search_step.specs.declared.Stepped.{Stepped}
 use Rattle.search_step.specs.declared.Stepped.the-variants.{MovedTo, Found, None}
 
@@ -43,7 +43,7 @@ answerOf AnsweredNone = None
 
 -- it leaves the trail that it moved to; answering changes nothing
 abbrev pub leaves : Next → Slices → Slices
-leaves (Moved u) s = holding u s
+leaves (Moved u) s = withTrail u s
 leaves AnsweredFound s = s
 leaves AnsweredNone s = s
 

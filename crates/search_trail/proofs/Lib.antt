@@ -1,6 +1,6 @@
--- Laws of the buffers of a search. Bytes: marks and values in one byte. Entries: a trail with an entry more or less. Holding: a trail that is written whole.
+-- Laws of the buffers of a search. Bytes: marks and values in one byte. Entries: a trail with an entry more or less. WithTrail: a trail that is written whole.
 -- ClearedSlices: what is written when a search ends.
 pub mod Bytes
 pub mod Entries
-pub mod Holding
+pub mod WithTrail
 pub mod ClearedSlices

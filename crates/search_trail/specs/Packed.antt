@@ -28,8 +28,8 @@ pub record Packed (v : ℕ) (ts : List ℤ) (ms : List ℕ) (used : ℕ) : Type 
   pub values : ms ≡ packedMarks ts ms used
 
 -- a trail is written into the buffers: its entries from the first place on, elements past them are untouched; and above the marks the values that it gives
-abbrev pub holding : Trail → Slices → Slices
-holding t s =
+abbrev pub withTrail : Trail → Slices → Slices
+withTrail t s =
     let written : Slices = filledSlices (slices (s .trail) (bareMarks (s .marks))) (image (length t) t) in
     slices (written .trail) (packed (variableValue t) (written .marks))
 

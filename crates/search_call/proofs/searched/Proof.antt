@@ -5,7 +5,8 @@ use native.Mathlib.Omega.{arith}
 use lib.IntN.{ℤ}
 use Rattle.search_theory.proofs.Accepted.{taken-sized}
 use Rattle.search_call.specs.declared.End.{End}
-use Rattle.search_call.proofs.Calls.{Cleared, Loaded, Ran, cleared-running, cleared-legal, loaded-running, loaded-listed, ended-literals, ended-bytes}
+use Rattle.search_call.proofs.Calls.{Cleared, ValuesPacked, Ran, cleared-running, cleared-legal, values-packed-running, values-packed-listed}
+use Rattle.search_call.proofs.Calls.{ended-literals, ended-bytes}
 use Rattle.search_call.proofs.Calls.{ended}
 use borrow.Author.Needs.{needs}
 use Rattle.search_call.proofs.searched.Statement.{statement}
@@ -24,11 +25,12 @@ ClearedAt c ns = Cleared (c .args .list .now) (c .args .trail .now) (c .args .ma
 cleared : (c : tie.After-clear-marks) → ClearedAt (start1 c) (c .clear-marks .last .0)
 cleared c = record { accepted = start1 c .pre; clears = c .clear-marks .ensures }
 
-abbrev LoadedAt : tie.Start → List ℕ → List ℕ → Type 0
-LoadedAt c ns ws = Loaded (c .args .list .now) (c .args .trail .now) (c .args .marks .now) (c .args .used) ns ws
+abbrev ValuesPackedAt : tie.Start → List ℕ → List ℕ → Type 0
+ValuesPackedAt c ns ws = ValuesPacked (c .args .list .now) (c .args .trail .now) (c .args .marks .now) (c .args .used) ns ws
 
-loaded : (c : tie.After-pack-values) → LoadedAt (start2 c) (c .before .before .before .before .before .clear-marks .last .0) (c .pack-values .last .1 .0)
-loaded c = record { cleared = cleared (c .before .before .before .before .before); loads = c .pack-values .ensures }
+values-packed : (c : tie.After-pack-values)
+    → ValuesPackedAt (start2 c) (c .before .before .before .before .before .clear-marks .last .0) (c .pack-values .last .1 .0)
+values-packed c = record { cleared = cleared (c .before .before .before .before .before); packs = c .pack-values .ensures }
 
 abbrev start3 : tie.After-run → tie.Start
 start3 c = start2 (c .before .before .before .before .before)
@@ -40,7 +42,7 @@ ran : (c : tie.After-run)
     → let packed = c .before .before .before .before .before in
     let cleared = packed .before .before .before .before .before in
     RanAt (start3 c) (cleared .clear-marks .last .0) (packed .pack-values .last .1 .0) (c .run .result) (c .run .last .1 .0) (c .run .last .1 .1 .0)
-ran c = record { loaded = loaded (c .before .before .before .before .before); ran = c .run .ensures }
+ran c = record { values-packed = values-packed (c .before .before .before .before .before); ran = c .run .ensures }
 
 clear-marks-requires : tie.Need-clear-marks-requires
 clear-marks-requires c κs = taken-sized (c .before .before .pre) .inside
@@ -49,7 +51,7 @@ pack-values-requires : tie.Need-pack-values-requires
 pack-values-requires c κs = let h = cleared (c .before .before .before .before) in (cleared-running h, cleared-legal h)
 
 run-requires : tie.Need-run-requires
-run-requires c κs = let l = loaded (c .before .before .before .before) in (loaded-running l, loaded-listed l)
+run-requires c κs = let l = values-packed (c .before .before .before .before) in (values-packed-running l, values-packed-listed l)
 
 clear-trail-requires : tie.Need-clear-trail-requires
 clear-trail-requires c κs = omega (arith, ended-literals (ran (c .before .before .before .before)))

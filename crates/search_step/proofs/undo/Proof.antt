@@ -1,5 +1,5 @@
 -- `search_step::undo` meets its contract. Assumes nothing.
-use Rattle.search_step.proofs.Append.{append-assign, Backed, Forgot, undo-nothing, back-below, back-inside, back-small}
+use Rattle.search_step.proofs.Append.{append-assign, Backed, UnassignedFrom, undo-nothing, back-below, back-inside, back-small}
 use Rattle.search_step.proofs.Append.{back-running, back-allowed, back-steps}
 use Prim.Native.Nat.{ℕ}
 use native.Mathlib.Omega.{arith}
@@ -22,12 +22,12 @@ back : (c : tie.After-p) → Backed (start1 c .args .trail .now) (start1 c .args
 back c = record { was = start1 c .pre; last = found-at (c .p .given .1) (c .before .before .last-mark .ensures) }
 
 -- and the values from there on are taken away
-abbrev ForgotAt : tie.Start → List ℕ → ℕ → Type 0
-ForgotAt c ns i = Forgot (c .args .trail .now) (c .args .marks .now) ns (c .args .used) i
+abbrev UnassignedFromAt : tie.Start → List ℕ → ℕ → Type 0
+UnassignedFromAt c ns i = UnassignedFrom (c .args .trail .now) (c .args .marks .now) ns (c .args .used) i
 
-forgot : (c : tie.After-slice-known2)
-    → ForgotAt (start2 c) (c .before .before .unassign .last .1 .0) (c .before .before .before .before .before .before .p .given .0 .0)
-forgot c = record { back = back (c .before .before .before .before .before .before); forgets = c .before .before .unassign .ensures }
+unassigned-from : (c : tie.After-slice-known2)
+    → UnassignedFromAt (start2 c) (c .before .before .unassign .last .1 .0) (c .before .before .before .before .before .before .p .given .0 .0)
+unassigned-from c = record { back = back (c .before .before .before .before .before .before); unassigns = c .before .before .unassign .ensures }
 
 last-mark-requires : tie.Need-last-mark-requires
 last-mark-requires c κs = running-used (c .before .before .pre)
@@ -57,13 +57,13 @@ negate-at-requires c κs = let b = back (c .before .before .before .before .befo
 
 assign-requires : tie.Need-assign-requires
 assign-requires c κs =
-    let f = forgot (c .before .before .before .before .before) in
+    let f = unassigned-from (c .before .before .before .before .before) in
     let h = append-assign (back-running f) (back-allowed f) (c .before .before .before .negate-at .ensures) in
     ((h .0, h .1, omega arith), h .2)
 
 add-t19 : tie.Need-add-t19
 add-t19 c =
-    let b = forgot (c .before .before .before .before .before .before .before .before) .back in
+    let b = unassigned-from (c .before .before .before .before .before .before .before .before) .back in
     let h = back-below b in
     let u = running-used (b .was) in
     let f = b .was .few in
@@ -78,7 +78,7 @@ same-length-3 c = search needs
 returns-2 : tie.Need-returns-2
 returns-2 c =
     let negated = c .before .before .before .before .before .before in
-    back-steps (forgot (negated .before .before)) (negated .negate-at .ensures) (c .before .before .assign .ensures)
+    back-steps (unassigned-from (negated .before .before)) (negated .negate-at .ensures) (c .before .before .assign .ensures)
 
 pub undo-spec : {M : Type 1} → statement M
 undo-spec =

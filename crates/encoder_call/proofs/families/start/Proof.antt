@@ -12,7 +12,7 @@ use Rattle.encoder.specs.Clauses.{start as startClauses, startAt, listOf}
 use Rattle.encoder_shapes.specs.Shapes.{atLeastOne}
 use Rattle.encoder_shapes.proofs.Written.{in-parts, limits-recast}
 use Rattle.encoder_numbers.specs.declared.Sizes.{Sizes}
-use Rattle.encoder_numbers.proofs.Neighbours.{held-laws, few}
+use Rattle.encoder_numbers.proofs.Neighbours.{fits-laws, few}
 use Rattle.encoder_call.proofs.EachCell.{start-parts}
 use borrow.Author.Needs.{needs}
 use Rattle.encoder_shapes.proofs.Written.{Progress, begun, part-needs, part-on, parts-end}
@@ -26,7 +26,7 @@ abbrev parts : tie.Start → List (List ℤ)
 parts c = atLeastOne (c .args .sizes .opens + 1) (c .args .sizes .opens) ∷ listOf (b c) (each (opens (b c)) (startAt (b c))) ∷ []
 
 is-parts : (c : tie.Start) → listOf (b c) (startClauses (b c)) ≡ joined (parts c)
-is-parts c = start-parts (b c) (held-laws (c .pre .1 .recordFits)) (ap (λ (z : Sizes). z .opens) (c .pre .1 .sized))
+is-parts c = start-parts (b c) (fits-laws (c .pre .1 .recordFits)) (ap (λ (z : Sizes). z .opens) (c .pre .1 .sized))
 
 -- the start, from the places after the calls
 abbrev s1 : tie.After-at-least-one → tie.Start

@@ -17,7 +17,7 @@ use Rattle.search.proofs.Trails.{length-trail, same-trail, length-laid, read-im
 use Rattle.search_theory.specs.Legal.{Legal}
 use Rattle.search_theory.proofs.Full.{legal-length}
 use Rattle.search_scan.specs.PackedValues.{valueOf, packedValues, bareMarks, numberOf, packed}
-use Rattle.search_trail.specs.Packed.{packedTrail, packedMarks, Packed, holding}
+use Rattle.search_trail.specs.Packed.{packedTrail, packedMarks, Packed, withTrail}
 use Rattle.search_trail.proofs.Bytes.{low-most, proper-byte, length-packed, packed-bare, unpack}
 use Rattle.search_trail.proofs.Entries.{legal-at, running-used}
 
@@ -74,12 +74,12 @@ refilled d buf xs n h e =
 -- 3. A trail in the buffers
 
 -- the buffers hold a trail
-pub record Held (v : ℕ) (t : Trail) (s : Slices) : Type 0 where
+pub record HasTrail (v : ℕ) (t : Trail) (s : Slices) : Type 0 where
   pub packed : Packed v (s .trail) (s .marks) (length t)
   pub trail : packedTrail (s .trail) (s .marks) (length t) ≡ t
 
-pub packed-held : {v : ℕ} {ts : List ℤ} {ms : List ℕ} {used : ℕ} → Packed v ts ms used → Held v (packedTrail ts ms used) (slices ts ms)
-packed-held {v} {ts} {ms} {used} r =
+pub packed-has-trail : {v : ℕ} {ts : List ℤ} {ms : List ℕ} {used : ℕ} → Packed v ts ms used → HasTrail v (packedTrail ts ms used) (slices ts ms)
+packed-has-trail {v} {ts} {ms} {used} r =
     let e = length-trail (slices ts (bareMarks ms)) used in
     record { packed = subst (Packed v ts ms) (sym e) r; trail = ap (packedTrail ts ms) e }
 
@@ -111,19 +111,19 @@ module _ {v : ℕ} (few : v ≤ mostVariables) {s : Slices} (long : HasLength v 
           omega (arith, filled-at bare (new .marks) 0 k h)
       by (no h) = omega (arith, filled-past bare (new .marks) 0 k (omega arith), low-most (s .marks) k)
 
-  marks : bareMarks (holding u s .marks) ≡ filled bare (new .marks)
+  marks : bareMarks (withTrail u s .marks) ≡ filled bare (new .marks)
   marks = packed-bare (variableValue u) (filled bare (new .marks)) low
 
-  held-trail : packedTrail (holding u s .trail) (holding u s .marks) (length u) ≡ u
-  held-trail =
-      ap (λ (ms : List ℕ). trailOf (slices (holding u s .trail) ms) (length u)) marks
+  with-trail-read : packedTrail (withTrail u s .trail) (withTrail u s .marks) (length u) ≡ u
+  with-trail-read =
+      ap (λ (ms : List ℕ). trailOf (slices (withTrail u s .trail) ms) (length u)) marks
       ∙ same-trail (slices (filled (s .trail) (new .trail)) (filled bare (new .marks))) new (length u)
       (λ i h.
       (λ j. entry (filled-at (s .trail) (new .trail) (pos 0) i (let n = new-literals in omega arith) j)
       (filled-at bare (new .marks) 0 i (let n = new-marks in omega arith) j)))
       ∙ read-image (length u) u
 
-  pub holds : Held v u (holding u s)
+  pub holds : HasTrail v u (withTrail u s)
   holds =
       record {
         packed = record {
@@ -133,25 +133,25 @@ module _ {v : ℕ} (few : v ≤ mostVariables) {s : Slices} (long : HasLength v 
               length-packed (variableValue u) (filled bare (new .marks))
               ∙ length-filled bare (new .marks) (let n = new-marks in let l = long .marks in let r = room in omega (arith, length-map (s .marks) (λ m. m % 2)))
               ∙ length-map (s .marks) (λ m. m % 2) ∙ long .marks;
-          legal = subst (Legal v) (sym held-trail) legal;
-          values = rw (held-trail, marks) refl;
+          legal = subst (Legal v) (sym with-trail-read) legal;
+          values = rw (with-trail-read, marks) refl;
         };
-        trail = held-trail;
+        trail = with-trail-read;
       }
     where
       room : length u ≤ v
       room = legal-length v u legal
 
 -- of the marks the bare ones alone matter
-pub same-holding : (t : Trail) (ts : List ℤ) (ms ns : List ℕ) → bareMarks ms ≡ bareMarks ns → holding t (slices ts ms) ≡ holding t (slices ts ns)
-same-holding t ts ms ns e =
+pub same-with-trail : (t : Trail) (ts : List ℤ) (ms ns : List ℕ) → bareMarks ms ≡ bareMarks ns → withTrail t (slices ts ms) ≡ withTrail t (slices ts ns)
+same-with-trail t ts ms ns e =
     ap (λ (bare : List ℕ). slices (filled ts (image (length t) t .trail)) (packed (variableValue t) (filled bare (image (length t) t .marks)))) e
 
 -- buffers that hold n entries, and are the same as others after them, are what writing these leaves
-pub held-is : {v : ℕ} {us : List ℤ} {ns : List ℕ} {n : ℕ} → Packed v us ns n → (ts : List ℤ) (ms : List ℕ) → drop n ts ≡ drop n us
+pub with-trail-is : {v : ℕ} {us : List ℤ} {ns : List ℕ} {n : ℕ} → Packed v us ns n → (ts : List ℤ) (ms : List ℕ) → drop n ts ≡ drop n us
     → drop n (bareMarks ms) ≡ drop n (bareMarks ns)
-    → slices us ns ≡ holding (packedTrail us ns n) (slices ts ms)
-held-is {v} {us} {ns} {n} r ts ms d e =
+    → slices us ns ≡ withTrail (packedTrail us ns n) (slices ts ms)
+with-trail-is {v} {us} {ns} {n} r ts ms d e =
     (λ j. slices (sym literals j) ((r .values ∙ ap (packed (variableValue t)) (sym marks)) j))
   where
     t : Trail
