@@ -3,8 +3,10 @@ pub mod Theorems
 pub mod Places
 pub mod Automata
 pub mod Decimals
+pub mod Bytes
 pub mod Numbers
 pub mod Elements
+pub mod Headers
 pub mod Closings
 pub mod Runs
 pub mod Shapes

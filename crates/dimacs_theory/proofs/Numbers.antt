@@ -15,7 +15,7 @@ use Rattle.text.specs.Decimal.{digit, decimal}
 use Rattle.dimacs.specs.Reader.{isDigit, isFirst, isNext}
 use Rattle.dimacs.specs.Tokens.{At, stands, refused, digitsFrom, numberFrom, numberAt}
 use Rattle.dimacs.proofs.Tokens.{digits-step, digits-none, next-small}
-use Rattle.dimacs_theory.specs.Numbers.{NumberStands}
+use Rattle.dimacs_theory.specs.Tokens.{NumberStands}
 use Rattle.dimacs_theory.proofs.Decimals.{decimal-one, decimal-more, digit-by-digit}
 
 -- a digit's byte is a digit ..
@@ -148,8 +148,7 @@ module _ (text : List ℕ) (bound : ℕ) (zero : Bool) (at n after : ℕ) where
       let rest : m .rest ≡ drop after text = sym (drop-append-seam (m .ds) (m .rest)) ∙ ap (drop (length (m .ds))) (sym (m .is))
       ∙ drop-drop (length (m .ds)) at text ∙ ap (λ k. drop k text) (sym (m .place)) in
       record {
-        spelt = m .is ∙ (λ i. s .spelt i ++ rest i);
-        place = m .place ∙ ap (λ ds. at + length ds) (s .spelt);
+        has = record { is = m .is ∙ (λ i. s .spelt i ++ rest i); place = m .place ∙ ap (λ ds. at + length ds) (s .spelt) };
         few = s .few;
         allowed = s .allowed;
         over = λ h. subst Over (rest ∙ drop-cons text after 0 h) (m .over);
@@ -177,7 +176,7 @@ module _ (text : List ℕ) (bound : ℕ) (zero : Bool) (at n after : ℕ) where
 
   found-number : NumberStands text bound zero at n after → numberAt text bound zero at ≡ stands n after
   found-number s =
-      rw (s .spelt, number-digits n (s .few) (s .allowed) (drop after text), ← s .place) (by (decLt after (length text)))
+      rw (s .has .is, number-digits n (s .few) (s .allowed) (drop after text), ← s .has .place) (by (decLt after (length text)))
     where
       by : Dec (after < length text) → digitsFrom bound n (drop after text) after ≡ stands n after
       by (yes h) = digits-step text after h bound n ∙ rw (s .over h)

@@ -16,18 +16,19 @@ use Rattle.dimacs.specs.declared.Written.{Written}
 use Rattle.dimacs.specs.declared.Reading.{Reading}
 use Rattle.dimacs.specs.Text.{textOf, HasText, Narrow, Accepted}
 use Rattle.dimacs.specs.Automaton.{refusedFrom}
-use Rattle.dimacs.specs.Reader.{refusedAt, listOf, headerOf}
-use Rattle.dimacs.specs.Tokens.{stands, numberAt, elementAt}
+use Rattle.dimacs.specs.Reader.{Header, refusedAt, listOf, headerOf}
+use Rattle.dimacs.specs.Tokens.{stands, numberAt, elementAt, headerAt}
 use Rattle.dimacs.specs.Calls.{writerAnswer, readerAnswer}
 use Rattle.dimacs.specs.Answers.{writtenOutcome, readingOutcome}
 use Rattle.dimacs.proofs.Outcomes.{writings, readings}
 use Rattle.dimacs_theory.specs.Place.{Refused, Automaton}
-use Rattle.dimacs_theory.specs.Numbers.{NumberStands, toldBy, ElementStands}
+use Rattle.dimacs_theory.specs.Tokens.{NumberStands, toldBy, ElementStands, HeaderStands}
 use Rattle.dimacs_theory.specs.Reading.{ReadAs, Writes, Reads, written, elementsRead}
 use Rattle.dimacs_theory.proofs.Automata as automata
 use Rattle.dimacs_theory.proofs.Exactly as exact
 use Rattle.dimacs_theory.proofs.Numbers as numbers
 use Rattle.dimacs_theory.proofs.Elements as elements
+use Rattle.dimacs_theory.proofs.Headers as headers
 use Rattle.dimacs_theory.proofs.Calls.{writer-passed, writer-answers, writer-hands, reader-passed, reader-answers, reader-hands, count-few}
 
 -- The text of V and a list is read back: the reader takes it, and reads that V, that list and its number of clauses.
@@ -97,3 +98,7 @@ number-exactly = numbers.number-exactly
 pub element-exactly : (text : List ℕ) (v at after : ℕ) (e : Bool × ℕ)
     → elementAt text v at ≡ stands e after ↔ ((l : ℤ) × (e ≡ toldBy l) × ElementStands text v at l after)
 element-exactly = elements.element-exactly
+
+-- The same of the header, after comment lines.
+pub header-exactly : (text : List ℕ) (at : ℕ) (h : Header) (after : ℕ) → headerAt text at ≡ stands h after ↔ HeaderStands text at h after
+header-exactly = headers.header-exactly

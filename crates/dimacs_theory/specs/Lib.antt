@@ -1,4 +1,4 @@
 -- What the theorems say, where `dimacs` has no word for it.
 pub mod Place
 pub mod Reading
-pub mod Numbers
+pub mod Tokens
