@@ -1,2 +1,2 @@
--- A step of the search in code: its contract.
+-- A step of the search in code: what it asks and hands out.
 pub mod Steps

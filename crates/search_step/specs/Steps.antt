@@ -1,4 +1,4 @@
--- What a step leaves in the buffers, against the definitions.
+-- What a step asks, and what it hands out.
 use Prim.Native.Nat.{ℕ}
 use lib.IntN.{ℤ}
 use lib.ListN.{length}
@@ -47,7 +47,7 @@ leaves (Moved u) s = withTrail u s
 leaves AnsweredFound s = s
 leaves AnsweredNone s = s
 
--- what is handed out where `next` is what comes after the trail in the buffers
+-- what is handed out where `next` says what comes after the trail in the buffers
 abbrev pub handsNext : (Trail → Next) → List ℤ → List ℕ → ℕ → StepHanded
 handsNext next ts ms used =
     let x : Next = next (packedTrail ts ms used) in
