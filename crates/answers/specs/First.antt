@@ -1,5 +1,5 @@
--- "First": the least number below n at which a test holds. Every "first .." of document 01 is an instance. And "first" of a property, of numbers or of the
--- elements of a list, for what is said without a test.
+-- "First": the least number below n at which a test holds, as the code seeks it. And "first" of a property, of numbers or of the elements of a list, for what
+-- document 01 says without a test.
 use Prim.Native.Nat.{ℕ, zero, suc, _<_}
 use mathlib.Core.Path.{_≡_}
 use mathlib.Core.Bool.{Bool, true, false}
