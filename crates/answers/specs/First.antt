@@ -32,7 +32,12 @@ pub record Least (p : ℕ → Bool) (n m : ℕ) : Type 0 where
   pub holds : p m ≡ true
   pub first : (k : ℕ) → k < m → p k ≡ false
 
--- m is the least number below n with a property
+-- the code's answer to such a search
+abbrev pub placed : Place → Option ℕ
+placed (At x) = some x
+placed Nowhere = none
+
+-- m is the least number below n with a property; `Least p` says it of the property that the test p holds
 pub record LeastWith (P : ℕ → Type 0) (n m : ℕ) : Type 0 where
   pub below : m < n
   pub holds : P m
@@ -50,8 +55,3 @@ pub data FirstIn {A : Type 0} (P : A → Type 0) : List A → ℕ → A → Type
 -- no element has it
 abbrev pub NoneIn : {A : Type 0} → (A → Type 0) → List A → Type 0
 NoneIn P xs = All (λ x. P x → ⊥) xs
-
--- the code's answer to such a search
-abbrev pub placed : Place → Option ℕ
-placed (At x) = some x
-placed Nowhere = none

@@ -13,10 +13,9 @@ use mathlib.Core.Option.{Option}
 use mathlib.Core.List.{List, [], _∷_}
 use Rattle.answers.specs.declared.Place.{Place}
 use Rattle.answers.specs.declared.Place.the-variants.{At, Nowhere}
-use Rattle.answers.specs.First.{placed}
+use Rattle.answers.specs.First.{placed, orElse}
 use Rattle.answers.specs.Lists.{tally}
 use Rattle.answers.proofs.Bools.{clash}
-use Rattle.answers.specs.First.{orElse}
 use Rattle.cnf.specs.Literals.{closes, codeOf, beyond, unclosed}
 use Rattle.cnf.specs.Clauses.{splitStep, split, clauseCount}
 

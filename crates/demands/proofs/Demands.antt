@@ -52,6 +52,7 @@ demand-1 =
           by-rows (answer (length (listOf text)) (headerOf text .variables) (headerOf text .clauses)) refl _ (readerRows text (length out)) refl refl
           (untouched (readerAnswer text out) out (filled out (listOf text)));
       first-place = λ p n m. (first-some p n m, some-first p n);
+      value-place = encoder.value-place;
       clue-place = rules.clue-place;
       loop-place = rules.loop-place;
       list-place = places.list-place;

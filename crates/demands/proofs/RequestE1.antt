@@ -17,6 +17,7 @@ pub request-e1 : RequestE1
 request-e1 =
     record {
       stepped = λ c ok. steps.stepped ok;
+      no-others = λ c ok. steps.only-stepped ok;
       only-open = λ c ok h. theorems.only-open ok (undoes-nothing (begins c) h);
       drop-opens = λ c ok u h. theorems.drop-opens ok u (undoes-to h);
       same-others = λ c ok. theorems.same-open ok;

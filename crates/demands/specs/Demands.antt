@@ -36,13 +36,13 @@ use Rattle.answers.specs.Lists.{each, joined}
 use Rattle.encoder.specs.Variables.{variableCount}
 use Rattle.encoder.specs.Clauses.{touching, clueLines, links, start, distance, written, clauseList}
 use Rattle.encoder.specs.Encoding.{encoderRows, encoderAnswer, encoderLeaves}
-use Rattle.encoder.specs.Decoding.{decoderAnswer, decoderLeaves, Satisfying, DecodesTo}
+use Rattle.encoder.specs.Decoding.{wrongValue, FirstWrongValue, decoderAnswer, decoderLeaves, Satisfying, DecodesTo}
 use Rattle.search.specs.Trail.{Slices, valuesOf}
 use Rattle.search.specs.Run.{Found, None, Halted}
 use Rattle.search.specs.Call.{Search, Handed, wrongEntryAt, Searching, rowsOf, begins, IsTaken, bySearch, Says, steps, endsAt}
 use Rattle.search_theory.specs.Places.{ListFault, EntryFault}
 use Rattle.search_theory.specs.Openings.{OpenAt, FoundOne}
-use Rattle.search_theory.specs.ListedSteps.{Stepped}
+use Rattle.search_theory.specs.ListedSteps.{ByListedSteps}
 use Rattle.solver.specs.Begun.{BegunOn}
 use Rattle.demands.specs.DecoderTable.{decoderTable}
 
@@ -64,10 +64,11 @@ pub record Demand1 : Type 0 where
   pub writer : (v : ℕ) (ls : List ℤ) (out : List ℕ)
       → ByRows (17 ∷ 16 ∷ 6 ∷ []) (writerRows v ls (length out)) (writerAnswer v ls out) (writerLeaves v ls out ≡ out)
   pub text-reader : (text : List ℕ) (out : List ℤ) → ByRows (19 ∷ 6 ∷ []) (readerRows text (length out)) (readerAnswer text out) (readerLeaves text out ≡ out)
-  -- (The places: each "first .." of the table is the least index at which a test holds; those beside 12, 15 (where 10, 13 and 14, which come before it, are
-  -- not the cause), 16 and 18 are said here in the table's words; beside 6 stand the elements needed; and the place beside 19 is the "first byte where no
-  -- accepted text can go on, or the text's length if it ends too soon".)
+  -- (The places: each "first .." of the table is the least index at which a test holds; those beside 9 (the variable's number, from 1), 12, 15 (where no row
+  -- before it that it depends on has its cause), 16 and 18 are said here in the table's words; beside 6 stand the elements needed; and the place beside 19 is
+  -- the "first byte where no accepted text can go on, or the text's length if it ends too soon".)
   pub first-place : (p : ℕ → Bool) (n m : ℕ) → firstWhere p n ≡ some m ↔ Least p n m
+  pub value-place : (values : List ℕ) (n : ℕ) → wrongValue values ≡ some n ↔ FirstWrongValue values n
   pub clue-place : (s ds : List ℕ) (x : ℕ) → clueNotMet (boardOf s) ds ≡ some x ↔ FirstUnmet (boardOf s .clues) ds x
   pub loop-place : (s : List ℕ) → IsAccepted s → (ds : List ℕ) → length ds ≡ boardOf s .size
       → wrongByte (boardOf s) ds ≡ none → linkUnmatched (boardOf s) ds ≡ none → notTwoLinks (boardOf s) ds ≡ none
@@ -100,8 +101,8 @@ pub record Demand2 : Type 0 where
       → Writes (readerAnswer text out .second) (elementsRead text out) buf text
   -- "and the search makes the listed steps, no others."
   -- (What it hands out is what these steps come to, and they come to nothing else.)
-  pub listed-steps : (c : Search) → IsTaken Searching c → (budget : ℕ) → Stepped Searching c budget (bySearch c budget)
-  pub no-others : (c : Search) → IsTaken Searching c → (budget : ℕ) (h : Handed) → Stepped Searching c budget h → h ≡ bySearch c budget
+  pub listed-steps : (c : Search) → IsTaken Searching c → (budget : ℕ) → ByListedSteps Searching c budget (bySearch c budget)
+  pub no-others : (c : Search) → IsTaken Searching c → (budget : ℕ) (h : Handed) → ByListedSteps Searching c budget h → h ≡ bySearch c budget
 
 -- DEMAND 3
 pub record Demand3 : Type 0 where

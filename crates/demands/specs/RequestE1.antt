@@ -15,16 +15,17 @@ use Rattle.encoder.specs.Decoding.{decoded, bytesOf}
 use Rattle.search.specs.Trail.{Trail, Open}
 use Rattle.search.specs.Step.{Moved}
 use Rattle.search.specs.Run.{Found, None, Halted}
-use Rattle.search.specs.Call.{Search, Searching, Following, rowsOf, begins, IsTaken, bySearch, byNext, Says, steps, endsAt, resumed, given}
+use Rattle.search.specs.Call.{Search, Handed, Searching, Following, rowsOf, begins, IsTaken, bySearch, byNext, Says, steps, endsAt, resumed, given}
 use Rattle.search_theory.specs.Openings.{Sought, FoundOne}
 use Rattle.search_theory.specs.Listing.{Lists, ListsAll}
-use Rattle.search_theory.specs.ListedSteps.{MarkedOne, Undoes, Stepped}
+use Rattle.search_theory.specs.ListedSteps.{MarkedOne, Undoes, ByListedSteps}
 use Rattle.solver.specs.Begun.{BegunOn}
 
 pub record RequestE1 : Type 0 where
   -- "A new call takes a full trail, drops just that assignment as a failed clause would, and searches on under the same rules; dropping is a step."
-  pub stepped : (c : Search) → IsTaken Following c → (budget : ℕ) → Stepped Following c budget (byNext c budget)
-  -- "Where no mark is 1, that one is the only one open: the drop answers "none" and changes no used entry." (`Stepped` has what the drop answers.)
+  pub stepped : (c : Search) → IsTaken Following c → (budget : ℕ) → ByListedSteps Following c budget (byNext c budget)
+  pub no-others : (c : Search) → IsTaken Following c → (budget : ℕ) (h : Handed) → ByListedSteps Following c budget h → h ≡ byNext c budget
+  -- "Where no mark is 1, that one is the only one open: the drop answers "none" and changes no used entry." (`ByListedSteps` has what the drop answers.)
   pub only-open : (c : Search) → IsTaken Following c → NoneIn MarkedOne (begins c) → (a : List Bool) → Assignment (c .variables) a
       → Open a (begins c) ↔ a ≡ given c
   -- "Otherwise those open after it are those open before without that one."

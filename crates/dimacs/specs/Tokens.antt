@@ -10,12 +10,12 @@ use Rattle.dimacs.specs.Text.{preamble}
 use Rattle.dimacs.specs.Reader.{Header, headerWith, isDigit, isFirst, isNext}
 
 -- what stands there and the place after it, or the place of the refusal
-pub data At (A : Type 0) : Type 0 where
-  stands : A → ℕ → At A
-  refused : ℕ → At A
+pub data TokenAt (A : Type 0) : Type 0 where
+  stands : A → ℕ → TokenAt A
+  refused : ℕ → TokenAt A
 
 -- what comes after it
-abbrev pub andThen : {A B : Type 0} → At A → (A → ℕ → At B) → At B
+abbrev pub andThen : {A B : Type 0} → TokenAt A → (A → ℕ → TokenAt B) → TokenAt B
 andThen (stands a after) go = go a after
 andThen (refused p) go = refused p
 
@@ -24,69 +24,69 @@ abbrev pub hasByte : List ℕ → ℕ → ℕ → Bool
 hasByte text b at = ltb at (length text) && eqb (getD text at 0) b
 
 -- what was read, and this byte behind it
-abbrev pub followedBy : {A : Type 0} → List ℕ → ℕ → A → ℕ → At A
+abbrev pub followedBy : {A : Type 0} → List ℕ → ℕ → A → ℕ → TokenAt A
 followedBy text b a at = cond (hasByte text b at) (stands a (suc at)) (refused at)
 
 -- Numbers, whatever follows them; the text's end ends one too.
 -- The digits after the first, with the number so far: a digit after a leading 0 is refused, and one that takes the number past its bound.
-unfoldable pub digitsFrom : ℕ → ℕ → List ℕ → ℕ → At ℕ
+unfoldable pub digitsFrom : ℕ → ℕ → List ℕ → ℕ → TokenAt ℕ
 digitsFrom bound x [] at = stands x at
 digitsFrom bound x (b ∷ bs) at =
     cond (isDigit b)
     (cond (isNext x (b - 48) bound) (digitsFrom bound (x * 10 + (b - 48)) bs (suc at)) (refused at))
     (stands x at)
 
-abbrev pub numberFrom : ℕ → Bool → List ℕ → ℕ → At ℕ
+abbrev pub numberFrom : ℕ → Bool → List ℕ → ℕ → TokenAt ℕ
 numberFrom bound zero [] at = refused at
 numberFrom bound zero (b ∷ bs) at = cond (isFirst b bound zero) (digitsFrom bound (b - 48) bs (suc at)) (refused at)
 
 -- a number to a bound, 0 among them or not
-abbrev pub numberAt : List ℕ → ℕ → Bool → ℕ → At ℕ
+abbrev pub numberAt : List ℕ → ℕ → Bool → ℕ → TokenAt ℕ
 numberAt text bound zero at = numberFrom bound zero (drop at text) at
 
 -- The header, after comment lines.
 -- A byte of a comment line: inside it, any byte, and LF ends the line; as a line's first byte, `c`, or the comment lines are over.
-abbrev pub commentByte : Bool → ℕ → ℕ → (Bool → At Unit) → At Unit
+abbrev pub commentByte : Bool → ℕ → ℕ → (Bool → TokenAt Unit) → TokenAt Unit
 commentByte true b at go = cond (eqb b lineFeed) (go false) (cond (ltb b 256) (go true) (refused at))
 commentByte false b at go = cond (eqb b 99) (go true) (stands tt at)
 
-unfoldable pub commentsFrom : Bool → List ℕ → ℕ → At Unit
+unfoldable pub commentsFrom : Bool → List ℕ → ℕ → TokenAt Unit
 commentsFrom inside [] at = refused at
 commentsFrom inside (b ∷ bs) at = commentByte inside b at (λ t. commentsFrom t bs (suc at))
 
-abbrev pub commentsAt : List ℕ → ℕ → At Unit
+abbrev pub commentsAt : List ℕ → ℕ → TokenAt Unit
 commentsAt text at = commentsFrom false (drop at text) at
 
 -- these bytes
-unfoldable pub wordAt : List ℕ → List ℕ → ℕ → At Unit
+unfoldable pub wordAt : List ℕ → List ℕ → ℕ → TokenAt Unit
 wordAt text [] at = stands tt at
 wordAt text (w ∷ ws) at = andThen (followedBy {A = Unit} text w tt at) (λ _ next. wordAt text ws next)
 
 -- a number of the header, and the byte behind it
-abbrev pub fieldAt : List ℕ → ℕ → ℕ → ℕ → At ℕ
+abbrev pub fieldAt : List ℕ → ℕ → ℕ → ℕ → TokenAt ℕ
 fieldAt text bound end at = andThen (numberAt text bound true at) (λ x after. followedBy text end x after)
 
 -- V, at most 16,777,216, and a space; C, below 2^64, and LF
-abbrev pub countsAt : List ℕ → ℕ → At Header
-countsAt text at =
+abbrev pub headerCountsAt : List ℕ → ℕ → TokenAt Header
+headerCountsAt text at =
     andThen (fieldAt text mostVariables space at)
     (λ v next. andThen (fieldAt text (2 ^ 64 - 1) lineFeed next)
     (λ c after. stands (headerWith v c) after))
 
 -- comment lines, `p cnf `, V and C
-abbrev pub headerAt : List ℕ → ℕ → At Header
+abbrev pub headerAt : List ℕ → ℕ → TokenAt Header
 headerAt text at =
     andThen (commentsAt text at)
     (λ _ first. andThen (wordAt text preamble first)
-    (λ _ next. countsAt text next))
+    (λ _ next. headerCountsAt text next))
 
 -- The body. An element is told by whether a minus stands before it, and by its number.
 -- The number, after the sign: no −0
-abbrev pub unsignedAt : List ℕ → ℕ → Bool → ℕ → At (Bool × ℕ)
+abbrev pub unsignedAt : List ℕ → ℕ → Bool → ℕ → TokenAt (Bool × ℕ)
 unsignedAt text v negative at = andThen (numberAt text v (not negative) at) (λ x after. stands (negative, x) after)
 
 -- an element, whatever follows it: a minus only if there is a variable
-abbrev pub elementAt : List ℕ → ℕ → ℕ → At (Bool × ℕ)
+abbrev pub elementAt : List ℕ → ℕ → ℕ → TokenAt (Bool × ℕ)
 elementAt text v at =
     cond (hasByte text minus at)
     (cond (eqb v 0) (refused at) (unsignedAt text v true (suc at)))
@@ -97,5 +97,5 @@ abbrev pub behindNumber : ℕ → ℕ
 behindNumber x = cond (eqb x 0) lineFeed space
 
 -- an element of a line, and the byte behind it
-abbrev pub lineElementAt : List ℕ → ℕ → ℕ → At (Bool × ℕ)
+abbrev pub lineElementAt : List ℕ → ℕ → ℕ → TokenAt (Bool × ℕ)
 lineElementAt text v at = andThen (elementAt text v at) (λ e after. followedBy text (behindNumber (e .1)) e after)

@@ -6,7 +6,7 @@ use mathlib.Core.Path.{_≡_, sym, _∙_, ap}
 use mathlib.Core.Bool.{Bool, true, false}
 use mathlib.Core.List.{List}
 use Rattle.dimacs.specs.Reader.{isFirst}
-use Rattle.dimacs.specs.Tokens.{At, refused, digitsFrom, numberAt}
+use Rattle.dimacs.specs.Tokens.{TokenAt, refused, digitsFrom, numberAt}
 use Rattle.dimacs.proofs.Tokens.{number-step}
 use Rattle.dimacs_cursor.specs.Cursors.{ByteAt}
 
@@ -16,7 +16,7 @@ answered f e v = sym e ∙ ap f v
 
 -- the first digit
 module _ {text : List ℕ} {at b : ℕ} (h : at < length text) (e : ByteAt text at b) (bound : ℕ) (zero : Bool) where
-  pub number-right : isFirst b bound zero ≡ true → {r : At ℕ} → r ≡ digitsFrom bound (b - 48) (drop (at + 1) text) (at + 1)
+  pub number-right : isFirst b bound zero ≡ true → {r : TokenAt ℕ} → r ≡ digitsFrom bound (b - 48) (drop (at + 1) text) (at + 1)
       → r ≡ numberAt text bound zero at
   number-right t q = q ∙ rw (e .is, add-one) (sym (rw (rw (e .is) at t) at (number-step text at h bound zero)))
 

@@ -13,25 +13,25 @@ use Rattle.dimacs_cursor.specs.declared.Head.the-variants.{Is as HeadIs,
 use Rattle.dimacs_cursor.specs.declared.Element.{Element}
 use Rattle.dimacs_cursor.specs.declared.Element.the-variants.{Is as ElementIs, Refused as NoElement}
 use Rattle.dimacs.specs.Reader.{Header, headerWith}
-use Rattle.dimacs.specs.Tokens.{At, stands, refused}
+use Rattle.dimacs.specs.Tokens.{TokenAt, stands, refused}
 
 -- the byte at a place
 pub record ByteAt (text : List ℕ) (at b : ℕ) : Type 0 where
   pub is : b ≡ getD text at 0
   pub small : b < 256
 
-abbrev pub atPassed : Passed → At Unit
+abbrev pub atPassed : Passed → TokenAt Unit
 atPassed (To after) = stands tt (after .at)
 atPassed (NotPassed p) = refused p
 
-abbrev pub atToken : Token → At ℕ
+abbrev pub atToken : Token → TokenAt ℕ
 atToken (NumberIs x after) = stands x (after .at)
 atToken (NoNumber p) = refused p
 
-abbrev pub atHead : Head → At Header
+abbrev pub atHead : Head → TokenAt Header
 atHead (HeadIs v c after) = stands (headerWith v c) (after .at)
 atHead (NoHead p) = refused p
 
-abbrev pub atElement : Element → At (Bool × ℕ)
+abbrev pub atElement : Element → TokenAt (Bool × ℕ)
 atElement (ElementIs negative x after) = stands (negative, x) (after .at)
 atElement (NoElement p) = refused p

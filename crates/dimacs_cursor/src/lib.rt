@@ -6,7 +6,7 @@ ghost use lib.Dec.{eqb};
 ghost use lib.ListN.{length, drop};
 ghost use Rattle.dimacs.specs.Text.{preamble};
 ghost use Rattle.dimacs.specs.Reader.{isDigit, isFirst, isNext};
-ghost use Rattle.dimacs.specs.Tokens.{hasByte, digitsFrom, numberAt, commentsAt, wordAt, fieldAt, countsAt, headerAt};
+ghost use Rattle.dimacs.specs.Tokens.{hasByte, digitsFrom, numberAt, commentsAt, wordAt, fieldAt, headerCountsAt, headerAt};
 ghost use Rattle.dimacs.specs.Tokens.{unsignedAt, elementAt, behindNumber, lineElementAt};
 ghost use Rattle.dimacs_cursor.specs.Cursors.{ByteAt, atPassed, atToken, atHead, atElement};
 use dimacs::PREAMBLE;
@@ -203,7 +203,7 @@ impl Cursor {
 
     // V and C.
     fn counts(self, text: &[u8]) -> Head
-        ensures { λ r. ⌜ atHead r ≡ countsAt (now (text .entry)) (self .at) ⌝ }
+        ensures { λ r. ⌜ atHead r ≡ headerCountsAt (now (text .entry)) (self .at) ⌝ }
     {
         match self.field(text, 16777216, 32) {
             Token::Number(variables, next) => match next.field(text, 18446744073709551615, 10) {

@@ -15,7 +15,7 @@ use Rattle.text.specs.Decimal.{lineFeed, space, minus}
 use Rattle.dimacs.specs.Text.{preamble}
 use Rattle.dimacs.specs.Reader.{Header, headerWith, Number, State, ofVariables, ofClauses, element, line, comment, first, digits, clause, when, most}
 use Rattle.dimacs.specs.Reader.{zeroAllowed, isDigit, isFirst, isNext, afterElement, afterNumber, afterWord, stepByte, accepts, literalOf, readElement, ended}
-use Rattle.dimacs.specs.Tokens.{At, stands, refused, andThen, followedBy, digitsFrom, numberAt, commentsFrom, wordAt, fieldAt, countsAt, headerAt}
+use Rattle.dimacs.specs.Tokens.{TokenAt, stands, refused, andThen, followedBy, digitsFrom, numberAt, commentsFrom, wordAt, fieldAt, headerCountsAt, headerAt}
 use Rattle.dimacs.specs.Tokens.{unsignedAt, elementAt, behindNumber, lineElementAt}
 use Rattle.dimacs.proofs.Tokens.{digits-step, digits-none, number-step, number-none, comments-step, comments-none, next-small}
 use Rattle.dimacs_cursor.proofs.Tests.{first-small}
@@ -23,38 +23,38 @@ use Rattle.dimacs_reader.specs.Lists.{closedAfter}
 use Rattle.dimacs_reader.proofs.Runs.{Run, Dead, run-stay, run-then, run-dead, run-step, dead-step, run-alike, dead-end, every-place}
 
 -- where something stands, this holds of it and the place after it; else the automaton refuses
-pub data Agrees {A : Type 0} (text : List ℕ) (s : State) (a : ℕ) (P : A → ℕ → Type 0) : At A → Type 0 where
+pub data Agrees {A : Type 0} (text : List ℕ) (s : State) (a : ℕ) (P : A → ℕ → Type 0) : TokenAt A → Type 0 where
   there : {x : A} {b : ℕ} → P x b → Agrees text s a P (stands x b)
   nowhere : {p : ℕ} → Dead text s a [] p → Agrees text s a P (refused p)
 
 module _ {text : List ℕ} {s : State} {a : ℕ} where
-  pub agrees-there : {A : Type 0} {P : A → ℕ → Type 0} {r : At A} {x : A} {b : ℕ} → Agrees text s a P r → r ≡ stands x b → P x b
+  pub agrees-there : {A : Type 0} {P : A → ℕ → Type 0} {r : TokenAt A} {x : A} {b : ℕ} → Agrees text s a P r → r ≡ stands x b → P x b
   agrees-there {A = A} {P = P} d e = by (subst (Agrees text s a P) e d)
     where
       by : {x : A} {b : ℕ} → Agrees text s a P (stands x b) → P x b
       by (there d) = d
 
-  pub agrees-nowhere : {A : Type 0} {P : A → ℕ → Type 0} {r : At A} {p : ℕ} → Agrees text s a P r → r ≡ refused p → Dead text s a [] p
+  pub agrees-nowhere : {A : Type 0} {P : A → ℕ → Type 0} {r : TokenAt A} {p : ℕ} → Agrees text s a P r → r ≡ refused p → Dead text s a [] p
   agrees-nowhere {A = A} {P = P} d e = by (subst (Agrees text s a P) e d)
     where
       by : {p : ℕ} → Agrees text s a P (refused p) → Dead text s a [] p
       by (nowhere d) = d
 
-  agrees-then : {A B : Type 0} {P : A → ℕ → Type 0} {Q : B → ℕ → Type 0} {r : At A} (go : A → ℕ → At B) → Agrees text s a P r
+  agrees-then : {A B : Type 0} {P : A → ℕ → Type 0} {Q : B → ℕ → Type 0} {r : TokenAt A} (go : A → ℕ → TokenAt B) → Agrees text s a P r
       → ((x : A) (b : ℕ) → P x b → Agrees text s a Q (go x b)) → Agrees text s a Q (andThen r go)
   agrees-then go (there d) f = f _ _ d
   agrees-then go (nowhere d) f = nowhere d
 
-  agrees-map : {A : Type 0} {P Q : A → ℕ → Type 0} {r : At A} → Agrees text s a P r → ((x : A) (b : ℕ) → P x b → Q x b) → Agrees text s a Q r
+  agrees-map : {A : Type 0} {P Q : A → ℕ → Type 0} {r : TokenAt A} → Agrees text s a P r → ((x : A) (b : ℕ) → P x b → Q x b) → Agrees text s a Q r
   agrees-map (there d) f = there (f _ _ d)
   agrees-map (nowhere d) f = nowhere d
 
   -- after a run
-  agrees-after : {A : Type 0} {P : A → ℕ → Type 0} {t : State} {b : ℕ} {r : At A} → Run text s a [] t b → Agrees text t b P r → Agrees text s a P r
+  agrees-after : {A : Type 0} {P : A → ℕ → Type 0} {t : State} {b : ℕ} {r : TokenAt A} → Run text s a [] t b → Agrees text t b P r → Agrees text s a P r
   agrees-after g (there d) = there d
   agrees-after g (nowhere d) = nowhere (run-dead g d)
 
-  agrees-on : {A : Type 0} {t u : State} {b : ℕ} {r : At A} → Run text s a [] t b → Agrees text t b (λ _ c. Run text t b [] u c) r
+  agrees-on : {A : Type 0} {t u : State} {b : ℕ} {r : TokenAt A} → Run text s a [] t b → Agrees text t b (λ _ c. Run text t b [] u c) r
       → Agrees text s a (λ _ c. Run text s a [] u c) r
   agrees-on g d = agrees-map (agrees-after g d) (λ _ _ q. run-then g q)
 
@@ -192,7 +192,7 @@ module _ (text : List ℕ) where
       agrees-then (λ x b. followedBy text end x b) (rw z at (number-agrees text n a))
       (λ x b r. after-agrees r end (f x) x (λ g. (rw (quiet x) at g, r .small)))
 
-  counts-agrees : (a : ℕ) → Agrees text (first ofVariables) a (HeadRead text (first ofVariables) a) (countsAt text a)
+  counts-agrees : (a : ℕ) → Agrees text (first ofVariables) a (HeadRead text (first ofVariables) a) (headerCountsAt text a)
   counts-agrees a =
       agrees-then (λ v next. andThen (fieldAt text (2 ^ 64 - 1) lineFeed next) (λ c after. stands (headerWith v c) after))
       (field-agrees ofVariables space (λ v. first (ofClauses v)) refl (λ v c. refl) (λ v. refl) a)
@@ -202,8 +202,8 @@ module _ (text : List ℕ) where
 
   pub header-agrees : (a : ℕ) → Agrees text line a (HeadRead text line a) (headerAt text a)
   header-agrees a =
-      agrees-then (λ _ first. andThen (wordAt text preamble first) (λ _ next. countsAt text next)) (comments-agrees text a false)
-      (λ _ b p. agrees-then (λ _ next. countsAt text next) (agrees-on p (word-agrees preamble b))
+      agrees-then (λ _ first. andThen (wordAt text preamble first) (λ _ next. headerCountsAt text next)) (comments-agrees text a false)
+      (λ _ b p. agrees-then (λ _ next. headerCountsAt text next) (agrees-on p (word-agrees preamble b))
       (λ _ c q. agrees-map (agrees-after q (counts-agrees c)) (λ _ _ r. record { run = run-then q (r .run); small = r .small })))
 
 -- an element, and the byte behind it

@@ -17,7 +17,7 @@ use Rattle.answers.specs.Lent.{Wrote}
 use Rattle.answers.proofs.Lent.{wrote-nothing, wrote-after}
 use Rattle.dimacs.specs.Automaton.{endFrom, refusedFrom}
 use Rattle.dimacs.specs.Reader.{Header, headerWith, clause, literalOf, stepByte, accepts, listFrom}
-use Rattle.dimacs.specs.Tokens.{At}
+use Rattle.dimacs.specs.Tokens.{TokenAt}
 use Rattle.dimacs_reader.specs.declared.Listed.{Listed}
 use Rattle.dimacs_reader.specs.declared.Listed.the-variants.{Elements, Refused as NoList}
 use Rattle.dimacs_reader.specs.Lists.{listAt, listed, closedAfter}
@@ -113,7 +113,7 @@ module _ (text : List ℕ) (h : Header) where
   ends-after : {a : ℕ} → a < length text → (k : ℕ) (begun : Bool) → ((b j : ℕ) (t : Bool) → a < b → Ends j t b) → Ends k begun a
   ends-after {a} l k begun go e = by (ℕ-discrete k (h .clauses))
     where
-      on : {r : At (Bool × ℕ)} → Agrees text (clause h k begun) a (ElementRead text h k (clause h k begun) a) r
+      on : {r : TokenAt (Bool × ℕ)} → Agrees text (clause h k begun) a (ElementRead text h k (clause h k begun) a) r
           → endFrom stepByte (clause h k begun) (drop a text) ≡ some (clause h (h .clauses) false)
       on (there d) = d .run .ends ∙ go _ _ _ (d .low) (sym (d .run .refused) ∙ e)
       on (nowhere d) = not-refused d e

@@ -9,14 +9,14 @@ use mathlib.Core.Path.{_≡_, refl, sym, _∙_, ap, subst}
 use mathlib.Core.Bool.{true}
 use mathlib.Core.List.{List, [], _∷_, _++_, append-assoc}
 use Rattle.answers.proofs.Bools.{and-both}
-use Rattle.dimacs.specs.Tokens.{At, stands, refused, andThen, hasByte}
+use Rattle.dimacs.specs.Tokens.{TokenAt, stands, refused, andThen, hasByte}
 use Rattle.dimacs.proofs.Tokens.{has-inside}
 use Rattle.dimacs_theory.specs.Tokens.{Has}
 
-pub no-token : {A B : Type 0} {p c : ℕ} {x : A} → _≡_ {A = At A} (refused p) (stands x c) → B
+pub no-token : {A B : Type 0} {p c : ℕ} {x : A} → _≡_ {A = TokenAt A} (refused p) (stands x c) → B
 no-token e = let z : _≡_ {A = ℕ} 0 1 = cc in absurd (omega arith)
 
-pub then-found : {A B : Type 0} (o : At A) (go : A → ℕ → At B) {y : B} {c : ℕ} → andThen o go ≡ stands y c
+pub then-found : {A B : Type 0} (o : TokenAt A) (go : A → ℕ → TokenAt B) {y : B} {c : ℕ} → andThen o go ≡ stands y c
     → (x : A) × (b : ℕ) × (o ≡ stands x b) × (go x b ≡ stands y c)
 then-found (stands x b) go r = (x, b, refl, r)
 then-found (refused p) go r = no-token r

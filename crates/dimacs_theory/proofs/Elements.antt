@@ -12,7 +12,7 @@ use Rattle.answers.proofs.Bools.{clash}
 use Rattle.text.specs.Decimal.{minus}
 use Rattle.dimacs.specs.Tokens.{stands, refused, hasByte, numberAt, unsignedAt, elementAt}
 use Rattle.dimacs.proofs.Tokens.{number-step}
-use Rattle.dimacs_theory.specs.Tokens.{NumberStands, toldBy, ElementStands}
+use Rattle.dimacs_theory.specs.Tokens.{NumberStands, signAndNumber, ElementStands}
 use Rattle.dimacs_theory.proofs.Bytes.{no-token, then-found, has-then, has-byte, has-first, first-has}
 use Rattle.dimacs_theory.proofs.Numbers.{number-exactly}
 
@@ -28,7 +28,7 @@ module _ (text : List ℕ) (v : ℕ) where
 
   module _ (at after : ℕ) (e : Bool × ℕ) where
     abbrev Found : Type 0
-    Found = (l : ℤ) × (e ≡ toldBy l) × ElementStands text v at l after
+    Found = (l : ℤ) × (e ≡ signAndNumber l) × ElementStands text v at l after
 
     negative-found : hasByte text minus at ≡ true → (x : ℕ) → e ≡ (true, x) → NumberStands text v false (suc at) x after → Found
     negative-found t zero p s = absurd (s .allowed refl refl)
@@ -54,7 +54,7 @@ module _ (text : List ℕ) (v : ℕ) where
         let f = has-first (has-byte {text = text} {a = at} {b = minus} p) in
         no-token (sym (rw (f .byte) at (number-step text at (f .inside) v true)) ∙ q)
 
-    found-element : (l : ℤ) → ElementStands text v at l after → elementAt text v at ≡ stands (toldBy l) after
+    found-element : (l : ℤ) → ElementStands text v at l after → elementAt text v at ≡ stands (signAndNumber l) after
     found-element (pos n) s =
         let q : numberAt text v true at ≡ stands n after = number-exactly text v true at n after .1
         (record { has = s .has; few = s .few; allowed = λ z. clash refl z; over = s .over }) in
@@ -66,5 +66,5 @@ module _ (text : List ℕ) (v : ℕ) where
         (record { has = f .rest; few = s .few; allowed = λ _ e. omega arith; over = s .over }) in
         rw (first-has f, ne-eqb v 0 z, q)
 
-    pub element-exactly : (e : Bool × ℕ) → elementAt text v at ≡ stands e after ↔ ((l : ℤ) × (e ≡ toldBy l) × ElementStands text v at l after)
+    pub element-exactly : (e : Bool × ℕ) → elementAt text v at ≡ stands e after ↔ ((l : ℤ) × (e ≡ signAndNumber l) × ElementStands text v at l after)
     element-exactly e = (element-found at after e, λ r. found-element (r .0) (r .2) ∙ ap (λ d. stands d after) (sym (r .1)))

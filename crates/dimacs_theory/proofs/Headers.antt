@@ -17,7 +17,7 @@ use Rattle.text.specs.Decimal.{lineFeed, space, decimal}
 use Rattle.dimacs.specs.Text.{preamble, CommentByte, commentLine, commentLines}
 use Rattle.dimacs.specs.Reader.{Header, headerWith, isDigit}
 use Rattle.dimacs.specs.Tokens.{stands, refused, andThen, hasByte, followedBy, numberAt, commentByte}
-use Rattle.dimacs.specs.Tokens.{commentsFrom, commentsAt, wordAt, fieldAt, countsAt, headerAt}
+use Rattle.dimacs.specs.Tokens.{commentsFrom, commentsAt, wordAt, fieldAt, headerCountsAt, headerAt}
 use Rattle.dimacs.proofs.Tokens.{comments-step}
 use Rattle.dimacs_theory.specs.Tokens.{Has, HeaderStands}
 use Rattle.dimacs_theory.proofs.Bytes.{no-token, then-found, has-nothing, has-then, has-as, has-split, has-byte, has-first, first-has}
@@ -151,7 +151,7 @@ module _ (text : List ℕ) where
       let counts = has-as (append-assoc (decimal v) (space ∷ []) (decimal k ++ (lineFeed ∷ []))) (has-then (p .0) (q .0)) in
       record { comments = g .comments; bytes = g .bytes; has = has-then (g .has) (has-then w counts); few = p .1; counted = omega arith }
 
-  counts-found : {a b d c : ℕ} {h : Header} → Outside text a b → Has text b preamble d → countsAt text d ≡ stands h c → HeaderStands text a h c
+  counts-found : {a b d c : ℕ} {h : Header} → Outside text a b → Has text b preamble d → headerCountsAt text d ≡ stands h c → HeaderStands text a h c
   counts-found {a} {b} {d} {c} {h} g w r =
       let one = then-found (fieldAt text mostVariables space d)
       (λ v e. andThen (fieldAt text (2 ^ 64 - 1) lineFeed e) (λ k f. stands (headerWith v k) f)) r in
@@ -164,8 +164,8 @@ module _ (text : List ℕ) where
 
   header-found : {a c : ℕ} {h : Header} → headerAt text a ≡ stands h c → HeaderStands text a h c
   header-found {a} r =
-      let one = then-found (commentsAt text a) (λ _ b. andThen (wordAt text preamble b) (λ _ d. countsAt text d)) r in
-      let two = then-found (wordAt text preamble (one .1)) (λ _ d. countsAt text d) (one .3) in
+      let one = then-found (commentsAt text a) (λ _ b. andThen (wordAt text preamble b) (λ _ d. headerCountsAt text d)) r in
+      let two = then-found (wordAt text preamble (one .1)) (λ _ d. headerCountsAt text d) (one .3) in
       counts-found (comments-found (drop a text) a refl false (one .2)) (word-found preamble (one .1) (two .2)) (two .3)
 
   found-header : {a c : ℕ} {h : Header} → HeaderStands text a h c → headerAt text a ≡ stands h c

@@ -13,7 +13,7 @@ use mathlib.Core.List.{List, [], _∷_, _++_, append-assoc, append-nil}
 use Rattle.answers.proofs.Bools.{clash, and-both}
 use Rattle.text.specs.Decimal.{digit, decimal}
 use Rattle.dimacs.specs.Reader.{isDigit, isFirst, isNext}
-use Rattle.dimacs.specs.Tokens.{At, stands, refused, digitsFrom, numberFrom, numberAt}
+use Rattle.dimacs.specs.Tokens.{TokenAt, stands, refused, digitsFrom, numberFrom, numberAt}
 use Rattle.dimacs.proofs.Tokens.{digits-step, digits-none, next-small}
 use Rattle.dimacs_theory.specs.Tokens.{NumberStands}
 use Rattle.dimacs_theory.proofs.Decimals.{decimal-one, decimal-more, digit-by-digit}
@@ -95,7 +95,7 @@ record More (bound : ℕ) (zero : Bool) (front bs : List ℕ) (at n after : ℕ)
   over : Over rest
 
 module _ (bound : ℕ) (zero : Bool) {n after : ℕ} where
-  more-none : {x at : ℕ} (front rest : List ℕ) → Spells front bound zero x → Over rest → _≡_ {A = At ℕ} (stands x at) (stands n after)
+  more-none : {x at : ℕ} (front rest : List ℕ) → Spells front bound zero x → Over rest → _≡_ {A = TokenAt ℕ} (stands x at) (stands n after)
       → More bound zero front rest at n after
   more-none {x} {at} front rest s o e =
       let p : at ≡ after = cc in
@@ -113,7 +113,7 @@ module _ (bound : ℕ) (zero : Bool) {n after : ℕ} where
         over = m .over;
       }
 
-  no-number : {p : ℕ} {B : Type 0} → _≡_ {A = At ℕ} (refused p) (stands n after) → B
+  no-number : {p : ℕ} {B : Type 0} → _≡_ {A = TokenAt ℕ} (refused p) (stands n after) → B
   no-number e = let z : _≡_ {A = ℕ} 0 1 = cc in absurd (omega arith)
 
   digits-more : (bs front : List ℕ) (x at : ℕ) → Spells front bound zero x → digitsFrom bound x bs at ≡ stands n after → More bound zero front bs at n after

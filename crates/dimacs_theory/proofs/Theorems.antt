@@ -22,7 +22,7 @@ use Rattle.dimacs.specs.Calls.{writerAnswer, readerAnswer}
 use Rattle.dimacs.specs.Answers.{writtenOutcome, readingOutcome}
 use Rattle.dimacs.proofs.Outcomes.{writings, readings}
 use Rattle.dimacs_theory.specs.Place.{Refused, Automaton}
-use Rattle.dimacs_theory.specs.Tokens.{NumberStands, toldBy, ElementStands, HeaderStands}
+use Rattle.dimacs_theory.specs.Tokens.{NumberStands, signAndNumber, ElementStands, HeaderStands}
 use Rattle.dimacs_theory.specs.Reading.{ReadAs, Writes, Reads, written, elementsRead}
 use Rattle.dimacs_theory.proofs.Automata as automata
 use Rattle.dimacs_theory.proofs.Exactly as exact
@@ -96,7 +96,7 @@ number-exactly = numbers.number-exactly
 
 -- The same of an element, which is 0 or a literal of V.
 pub element-exactly : (text : List ℕ) (v at after : ℕ) (e : Bool × ℕ)
-    → elementAt text v at ≡ stands e after ↔ ((l : ℤ) × (e ≡ toldBy l) × ElementStands text v at l after)
+    → elementAt text v at ≡ stands e after ↔ ((l : ℤ) × (e ≡ signAndNumber l) × ElementStands text v at l after)
 element-exactly = elements.element-exactly
 
 -- The same of the header, after comment lines.

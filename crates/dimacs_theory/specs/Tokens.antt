@@ -24,9 +24,9 @@ pub record NumberStands (text : List ℕ) (bound : ℕ) (zero : Bool) (at n afte
   pub over : after < length text → isDigit (getD text after 0) ≡ false
 
 -- what tells an element: whether a minus stands before it, and its number
-abbrev pub toldBy : ℤ → Bool × ℕ
-toldBy (pos n) = (false, n)
-toldBy (negsuc n) = (true, suc n)
+abbrev pub signAndNumber : ℤ → Bool × ℕ
+signAndNumber (pos n) = (false, n)
+signAndNumber (negsuc n) = (true, suc n)
 
 -- an element, which is 0 or a literal of V, and no digit after it
 pub record ElementStands (text : List ℕ) (v at : ℕ) (l : ℤ) (after : ℕ) : Type 0 where

@@ -10,17 +10,15 @@ use mathlib.Core.Path.{_≡_, refl, _∙_, ap}
 use mathlib.Core.Bool.{Bool, true, false, not}
 use mathlib.Core.Option.{Option, none, some}
 use mathlib.Core.List.{List, [], _∷_, _++_, map, append-nil, List·Memᴰ·head, List·Memᴰ·tail}
-use Rattle.answers.specs.First.{firstWhere, found}
-use Rattle.answers.specs.Lists.{All, _∈_}
+use Rattle.answers.specs.First.{firstWhere, found, orElse}
+use Rattle.answers.specs.Lists.{All, _∈_, upTo, each}
 use Rattle.answers.proofs.First.{none-first}
 use Rattle.rules.specs.declared.Direction.{Direction}
 use Rattle.rules.specs.Record.{size}
 use Rattle.rules.specs.Board.{Clue, Board}
 use Rattle.rules.proofs.Boards.{Laws}
-use Rattle.answers.specs.First.{orElse}
 use Rattle.cnf.specs.Literals.{closes, mostVariables, beyondAt, unclosed, wrongList}
 use Rattle.cnf.specs.Clauses.{clauseCount}
-use Rattle.answers.specs.Lists.{upTo, each}
 use Rattle.encoder.specs.Variables.{Variable, directions, opens, openCount, ifOpen, ifThere, neighbours, out, outgoing, linkVariables, clueCounts, counts}
 use Rattle.encoder.specs.Variables.{variables, variableCount, same, placeStep, place, number}
 use Rattle.encoder.specs.Clauses.{Literal, plus, minus, Clause, clauses, signed, written, clauseList}

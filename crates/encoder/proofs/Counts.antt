@@ -8,10 +8,9 @@ use lib.ListN.{length, length-append, length-map}
 use mathlib.Core.Path.{_≡_, refl, sym, _∙_, ap, subst}
 use mathlib.Core.Bool.{Bool, true, false}
 use mathlib.Core.List.{List, [], _∷_, _++_, map, List·Memᴰ·head, List·Memᴰ·tail}
-use Rattle.answers.specs.Lists.{_∈_}
+use Rattle.answers.specs.Lists.{_∈_, from, upTo, each, joined}
 use Rattle.rules.specs.declared.Direction.the-variants.{East as east}
 use Rattle.rules.specs.Board.{Board}
-use Rattle.answers.specs.Lists.{from, upTo, each, joined}
 use Rattle.encoder.specs.Variables.{Variable, Z, S, T, directions, opens, openCount, Neighbour, neighbours, out, outgoing, distancesAt, countsAt, lower}
 use Rattle.encoder.specs.Clauses.{plus, minus, Clause, notBoth, pairs, orAny, eastSouth, touch, touchingAt, oneMore, countStep, cellClauses, lineClauses}
 use Rattle.encoder.specs.Clauses.{noneBlack, clueParts, back, incoming, bothWhite, oneWay, linksAt, blackBefore, eastward, startAt, someStart}

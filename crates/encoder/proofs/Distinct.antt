@@ -5,11 +5,10 @@ use lib.ListN.{length}
 use mathlib.Core.Path.{_≡_, refl, sym, _∙_, ap}
 use mathlib.Core.Logic.{_⊎_, inl, inr}
 use mathlib.Core.List.{List, [], _++_, map, List·Memᴰ·append-cases, List·Memᴰ·not-nil, Memᴰ·of-map}
-use Rattle.answers.specs.Lists.{_∈_, Apart}
+use Rattle.answers.specs.Lists.{_∈_, Apart, upTo, each}
 use Rattle.rules.specs.declared.Direction.{Direction}
 use Rattle.rules.specs.Board.{Clue, Board}
 use Rattle.rules.proofs.Boards.{Laws}
-use Rattle.answers.specs.Lists.{upTo, each}
 use Rattle.encoder.specs.Variables.{Variable, Z, S, E, Q, T, directions, opens, openCount, Neighbour, neighbours, out, outgoing, blacks, starts}
 use Rattle.encoder.specs.Variables.{linkVariables, distances, countsAt, clueCounts, counts, variables}
 use Rattle.answers.proofs.Elements.{of-each, apart-append, apart-map, apart-each, apart-from}

@@ -7,10 +7,9 @@ use mathlib.Core.Bool.{true}
 use mathlib.Core.Option.{some}
 use mathlib.Core.Logic.{_⊎_, inl, inr}
 use mathlib.Core.List.{List, _++_, List·Memᴰ·head, List·Memᴰ·tail, List·Memᴰ·append-cases, List·Memᴰ·not-nil, Memᴰ·map, Memᴰ·of-map}
-use Rattle.answers.specs.Lists.{_∈_}
+use Rattle.answers.specs.Lists.{_∈_, upTo}
 use Rattle.rules.specs.Board.{Clue, Board}
 use Rattle.rules.proofs.Boards.{Laws}
-use Rattle.answers.specs.Lists.{upTo}
 use Rattle.encoder.specs.Variables.{Variable, Z, S, E, Q, T, directions, opens, openCount, Neighbour, neighbours, out, outgoing, blacks, starts}
 use Rattle.encoder.specs.Variables.{linkVariables, distancesAt, distances, countsAt, clueCounts, counts, letters, variables}
 use Rattle.answers.proofs.Elements.{in-each, of-each, in-joined, in-upTo, of-upTo}

@@ -7,10 +7,9 @@ use lib.IntN.{pos}
 use lib.ListN.{length, length-append, length-map}
 use mathlib.Core.Bool.{Bool, true, false}
 use mathlib.Core.List.{List, [], _∷_, _++_, map}
-use Rattle.answers.specs.Lists.{All, _∈_}
+use Rattle.answers.specs.Lists.{All, _∈_, from, upTo, each, joined}
 use Rattle.rules.specs.declared.Direction.the-variants.{East as east}
 use Rattle.rules.specs.Board.{Clue, Board}
-use Rattle.answers.specs.Lists.{from, upTo, each, joined}
 use Rattle.encoder.specs.Variables.{Variable, Z, S, Q, T, directions, opens, openCount, neighbours, out, outgoing, distancesAt, countsAt, lower}
 use Rattle.encoder.specs.Clauses.{plus, minus, Clause, notBoth, pairs, orAny, eastSouth, touch, touchingAt, oneMore, countStep, cellParts, cellClauses}
 use Rattle.encoder.specs.Clauses.{lineClauses, noneBlack, clueParts, clueClauses, back, incoming, bothWhite, oneWay, linkParts, linksAt}

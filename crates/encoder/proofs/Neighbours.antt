@@ -5,12 +5,11 @@ use mathlib.Core.Path.{_≡_, refl, sym, _∙_, ap, subst}
 use mathlib.Core.Bool.{Bool, true, false}
 use mathlib.Core.Option.{Option, none, some}
 use mathlib.Core.List.{List, [], _∷_, map, List·Memᴰ·head, List·Memᴰ·tail, List·Memᴰ·eq-of-singleton, List·Memᴰ·not-nil, Memᴰ·of-map}
-use Rattle.answers.specs.Lists.{_∈_, ApartBy, Apart}
+use Rattle.answers.specs.Lists.{_∈_, ApartBy, Apart, upTo}
 use Rattle.rules.specs.declared.Direction.{Direction}
 use Rattle.rules.specs.declared.Direction.the-variants.{North as north, East as east, South as south, West as west}
 use Rattle.rules.specs.Board.{Board}
 use Rattle.rules.proofs.Boards.{Laws}
-use Rattle.answers.specs.Lists.{upTo}
 use Rattle.encoder.specs.Variables.{Variable, directions, opens, Neighbour, ifOpen, ifThere, neighbours, turn}
 use Rattle.answers.proofs.Elements.{all-at, in-each, of-each, in-upTo, in-keep, of-keep, apart-each, apart-from, apart-keep, map-each}
 

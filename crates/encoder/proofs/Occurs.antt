@@ -7,13 +7,12 @@ use borrow.Author.Tests.{eqb-false}
 use mathlib.Core.Path.{_≡_, refl}
 use mathlib.Core.Bool.{Bool, true, false}
 use mathlib.Core.List.{List, [], _∷_, map, List·Memᴰ·head, List·Memᴰ·tail}
-use Rattle.answers.specs.Lists.{All, _∈_}
+use Rattle.answers.specs.Lists.{All, _∈_, from, upTo}
 use Rattle.rules.specs.declared.Direction.{Direction}
 use Rattle.rules.specs.declared.Direction.the-variants.{East as east}
 use Rattle.rules.specs.Directions.{opposite}
 use Rattle.rules.specs.Board.{Clue, Board}
 use Rattle.rules.proofs.Boards.{Laws}
-use Rattle.answers.specs.Lists.{from, upTo}
 use Rattle.encoder.specs.Variables.{Variable, Z, S, Q, T, directions, opens, openCount, Neighbour, neighbours, out, outgoing, distancesAt, countsAt}
 use Rattle.encoder.specs.Variables.{variables, lower}
 use Rattle.encoder.specs.Clauses.{Literal, plus, minus, Clause, notBoth, pairs, eastSouth, touch, touchingAt, oneMore, countStep, cellParts, cellClauses}

@@ -6,12 +6,11 @@ use mathlib.Core.Path.{_≡_, refl, sym, _∙_, ap, subst}
 use mathlib.Core.Bool.{Bool, true}
 use mathlib.Core.Option.{some}
 use mathlib.Core.List.{List, [], _∷_, _++_, map, map-append, append-assoc, append-nil, List·Memᴰ·head, Memᴰ·append-right}
-use Rattle.answers.specs.Lists.{Apart}
+use Rattle.answers.specs.Lists.{Apart, from, upTo, each, joined, keepStep, keep}
 use Rattle.rules.specs.declared.Direction.{Direction}
 use Rattle.rules.specs.declared.Direction.the-variants.{North as north, East as east, South as south, West as west}
 use Rattle.rules.specs.Board.{Clue, Board}
 use Rattle.rules.proofs.Boards.{Laws}
-use Rattle.answers.specs.Lists.{from, upTo, each, joined, keepStep, keep}
 use Rattle.encoder.specs.Variables.{Variable, Z, S, E, Q, T, directions, opens, openCount, ifThere, neighbours, out, outgoing, blacks, starts}
 use Rattle.encoder.specs.Variables.{linkVariables, distancesAt, distances, countsAt, clueCounts, counts, letters, variables, variableCount, same}
 use Rattle.encoder.specs.Variables.{placeStep, place, lower, rank, earlier, linksBelow}

@@ -1,5 +1,5 @@
--- Cases of the encoder: document 01's starred grids and one with a clue on a clue's line, and what is expected of each. The lists are from an independent
--- implementation.
+-- Cases of the encoder: document 01's starred grids and one with a clue on a clue's line, and what is expected of each. The lists are written out, not
+-- computed.
 use Prim.Native.Nat.{ℕ}
 use lib.IntN.{ℤ, pos, negsuc}
 use lib.ListN.{length, replicate}

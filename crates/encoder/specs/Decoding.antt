@@ -1,5 +1,5 @@
 -- "Decoding" of document 01: the drawing that values give, and the decoder's call.
-use Prim.Native.Nat.{ℕ, suc, _+_, _*_}
+use Prim.Native.Nat.{ℕ, suc, _+_, _*_, _<_}
 use lib.Dec.{eqb, ltb}
 use lib.ListN.{length, getD}
 use mathlib.Core.Path.{_≡_}
@@ -7,7 +7,7 @@ use mathlib.Core.Bool.{Bool, true, false, not, _||_}
 use mathlib.Core.Option.{Option, none, some}
 use mathlib.Core.List.{List, _∷_, _++_, map}
 use Rattle.answers.specs.declared.Outcome.{Outcome}
-use Rattle.answers.specs.First.{firstWhere}
+use Rattle.answers.specs.First.{firstWhere, LeastWith}
 use Rattle.answers.specs.Outcome.{Row, row, cause, firstRefusal}
 use Rattle.answers.specs.Lent.{unlessRefused}
 use Rattle.rules.specs.declared.Direction.{Direction}
@@ -53,6 +53,12 @@ numbered (some i) = some (suc i)
 -- 9: value not 0 or 1
 abbrev pub wrongValue : List ℕ → Option ℕ
 wrongValue values = numbered (firstWhere (λ i. ltb 1 (getD values i 0)) (length values))
+
+-- the same in the table's words: n is the number of the first variable whose value is not 0 or 1
+pub record FirstWrongValue (values : List ℕ) (n : ℕ) : Type 0 where
+  pub index : ℕ
+  pub number : n ≡ suc index
+  pub first : LeastWith (λ i. 1 < getD values i 0) (length values) index
 
 -- decoder 1-5, 8, 7, 9, 10-15: the drawing goes to the judge (whose 7 is not there, the drawing has N bytes)
 abbrev pub decoderRows : List ℕ → List ℕ → List ℕ → List Row

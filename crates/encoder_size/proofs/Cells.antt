@@ -7,7 +7,7 @@ use lib.ListN.{length, getD}
 use mathlib.Core.Path.{_≡_, refl, sym, _∙_, ap, subst}
 use mathlib.Core.Bool.{true, false}
 use mathlib.Core.List.{List, [], _∷_, _++_}
-use Rattle.answers.specs.Lists.{howMany}
+use Rattle.answers.specs.Lists.{howMany, each, joined}
 use Rattle.answers.proofs.Lists.{many-most}
 use Rattle.rules.specs.declared.Direction.{Direction}
 use Rattle.rules.specs.declared.Direction.the-variants.{East as east, South as south}
@@ -15,7 +15,6 @@ use Rattle.rules.specs.declared.Cell.the-variants.{Open, Clue as Clued}
 use Rattle.rules.specs.declared.Grid.{Grid}
 use Rattle.rules.specs.Record.{size, puzzle, mostCells, RecordFits}
 use Rattle.rules.specs.Board.{Board, openCell, line, clueOf, gridBoard}
-use Rattle.answers.specs.Lists.{each, joined}
 use Rattle.encoder.specs.Variables.{directions, openCount, neighbours, lower, rank, atCell}
 use Rattle.encoder.specs.Clauses.{Clause, eastSouth, fromOne, touchingAt, clueParts, clueClauses, linksAt, startAt, distanceAt, pairCount, Sized}
 use Rattle.encoder.proofs.Bounds.{neighbours-most}

@@ -9,11 +9,10 @@ use mathlib.Core.Path.{_≡_, refl, sym, _∙_, ap}
 use mathlib.Core.Bool.{Bool, true, false, _&&_}
 use mathlib.Core.Logic.{inl}
 use mathlib.Core.List.{List, [], _∷_, map, Memᴰ·map, Memᴰ·of-map}
-use Rattle.answers.specs.Lists.{tally, howMany, _∈_}
+use Rattle.answers.specs.Lists.{tally, howMany, _∈_, from, upTo, joined}
 use Rattle.answers.proofs.Bools.{off}
 use Rattle.answers.proofs.Lists.{many-all}
 use Rattle.rules.specs.Drawing.{blacksNearest}
-use Rattle.answers.specs.Lists.{from, upTo, joined}
 use Rattle.encoder.specs.Variables.{Variable, Z, T, countsAt}
 use Rattle.encoder.specs.Clauses.{plus, minus, pairs, oneMore, countStep, cellParts, cellClauses, lineClauses, noneBlack, clueParts}
 use Rattle.answers.proofs.Elements.{all-append, all-left, all-right, all-each, each-at, all-map, map-at, all-joined, joined-all, in-from, of-from, in-upTo}

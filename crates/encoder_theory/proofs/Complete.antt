@@ -8,7 +8,7 @@ use mathlib.Core.Bool.{Bool, true, false}
 use mathlib.Core.Option.{some, Option·some-injective}
 use mathlib.Core.Logic.{inl}
 use mathlib.Core.List.{List, [], _∷_, map, List·Memᴰ·head, Memᴰ·map, Memᴰ·of-map}
-use Rattle.answers.specs.Lists.{howMany, _∈_}
+use Rattle.answers.specs.Lists.{howMany, _∈_, upTo}
 use Rattle.answers.proofs.Bools.{clash}
 use Rattle.rules.specs.declared.Direction.{Direction}
 use Rattle.rules.specs.declared.Direction.the-variants.{East as east}
@@ -17,11 +17,9 @@ use Rattle.rules.specs.Board.{Clue, Board}
 use Rattle.rules.specs.Drawing.{Drawing, white, blacksNearest, Solution}
 use Rattle.rules.proofs.Boards.{Laws}
 use Rattle.rules_theory.proofs.Directions.{opposite-injective}
-use Rattle.answers.specs.Lists.{upTo}
 use Rattle.encoder.specs.Variables.{Variable, Z, S, E, Q, directions, opens, openCount, Neighbour, neighbours, out, outgoing, distancesAt, lower}
-use Rattle.encoder.specs.Clauses.{plus, minus, eastSouth, touch, touchingAt, clueClauses, back, incoming, bothWhite, oneWay, linkParts, linksAt}
+use Rattle.encoder.specs.Clauses.{plus, minus, eastSouth, touch, touchingAt, clueClauses, back, incoming, bothWhite, oneWay, linkParts, linksAt, clauses}
 use Rattle.encoder.specs.Clauses.{blackBefore, startParts, startAt, noDistance, notAhead, nearer, fromOne, nearerEach, distanceParts, distanceAt, families}
-use Rattle.encoder.specs.Clauses.{clauses}
 use Rattle.answers.proofs.Elements.{all-each, all-map, all-at, all-joined, in-upTo, of-from, of-upTo, of-keep}
 use Rattle.encoder.proofs.Neighbours.{of-opens, in-opens, in-directions, Beside, of-neighbours, in-neighbours, links-apart}
 use Rattle.encoder.proofs.Distinct.{e-way, outgoing-apart}

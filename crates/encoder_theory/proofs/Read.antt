@@ -7,7 +7,7 @@ use mathlib.Core.Bool.{Bool, true, false, not, _&&_}
 use mathlib.Core.Option.{some, Option·some-injective}
 use mathlib.Core.List.{List, [], _∷_, map, List·Memᴰ·head, List·Memᴰ·tail, List·Memᴰ·eq-of-singleton, Memᴰ·map, Memᴰ·of-map}
 use Rattle.answers.specs.First.{Least}
-use Rattle.answers.specs.Lists.{All, _∈_}
+use Rattle.answers.specs.Lists.{All, _∈_, upTo}
 use Rattle.answers.proofs.Bools.{clash, off}
 use Rattle.rules.specs.declared.Direction.{Direction}
 use Rattle.rules.specs.declared.Direction.the-variants.{North as north, East as east, South as south, West as west}
@@ -16,11 +16,9 @@ use Rattle.rules.specs.Board.{Clue, Board}
 use Rattle.rules.specs.Drawing.{white}
 use Rattle.rules.proofs.Boards.{Laws}
 use Rattle.rules_theory.proofs.Directions.{opposite-opposite, opposite-injective}
-use Rattle.answers.specs.Lists.{upTo}
 use Rattle.encoder.specs.Variables.{Variable, Z, S, E, Q, directions, opens, openCount, neighbours, out, outgoing, distancesAt, lower}
-use Rattle.encoder.specs.Clauses.{plus, minus, eastSouth, touch, touchingAt, clueClauses, back, incoming, bothWhite, oneWay, linkParts, linksAt}
+use Rattle.encoder.specs.Clauses.{plus, minus, eastSouth, touch, touchingAt, clueClauses, back, incoming, bothWhite, oneWay, linkParts, linksAt, clauses}
 use Rattle.encoder.specs.Clauses.{blackBefore, startParts, startAt, noDistance, notAhead, nearer, fromOne, nearerEach, distanceParts, distanceAt, families}
-use Rattle.encoder.specs.Clauses.{clauses}
 use Rattle.answers.proofs.Elements.{each-at, map-at, joined-all, in-from, in-upTo, of-upTo, in-keep}
 use Rattle.encoder.proofs.Neighbours.{in-opens, in-directions, of-neighbours, in-neighbours}
 use Rattle.encoder.proofs.Distinct.{e-way}

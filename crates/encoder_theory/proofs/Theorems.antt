@@ -1,16 +1,18 @@
 -- What is true of a grid's variables, clauses and assignments, each result in one statement. The proofs stand in the files beside this one and in
 -- `encoder`. Nothing is assumed but what a statement says.
-use Prim.Native.Nat.{ℕ, _≤_, _<_}
+use Prim.Native.Nat.{ℕ, suc, _≤_, _<_}
 use native.Mathlib.Omega.{arith}
-use lib.Dec.{eqb}
+use lib.Dec.{eqb, ltb}
 use lib.ListN.{length, getD}
-use borrow.Author.Tests.{le-ltb, eqb-true, eq-eqb}
-use mathlib.Core.Path.{_≡_, sym, _∙_, ap, subst}
+use borrow.Author.Tests.{le-ltb, lt-ltb, ltb-true, eqb-true, eq-eqb}
+use mathlib.Core.Path.{_≡_, refl, sym, _∙_, ap, subst}
 use mathlib.Core.Bool.{Bool, true, false}
 use mathlib.Core.Logic.{_↔_}
-use mathlib.Core.Option.{none}
+use mathlib.Core.Option.{Option, none, some, Option·some-injective, Option·some-ne-none}
 use mathlib.Core.List.{List}
+use Rattle.answers.specs.First.{firstWhere, LeastWith}
 use Rattle.answers.specs.Lists.{All, _∈_}
+use Rattle.answers.proofs.First.{first-with}
 use Rattle.rules.specs.declared.Direction.{Direction}
 use Rattle.rules.specs.declared.Cell.the-variants.{Open, Clue as Clued}
 use Rattle.rules.specs.Record.{Puzzle, puzzle, sides, size, IsAccepted}
@@ -22,7 +24,7 @@ use Rattle.cnf.specs.Literals.{mostVariables, tooManyVariables, wrongList}
 use Rattle.cnf.specs.Clauses.{clauseCount}
 use Rattle.encoder.specs.Variables.{T, variableCount}
 use Rattle.encoder.specs.Clauses.{clauses, clauseList}
-use Rattle.encoder.specs.Decoding.{drawn, Satisfying, DecodesTo}
+use Rattle.encoder.specs.Decoding.{drawn, numbered, wrongValue, FirstWrongValue, Satisfying, DecodesTo}
 use Rattle.encoder.specs.Bounds.{BoundedBoard}
 use Rattle.encoder.proofs.Clues.{clue-in}
 use Rattle.encoder.proofs.Bounds as bounds
@@ -94,3 +96,20 @@ side-by-side s acc a h ds dec x d n inside is j t l k = (λ p. eqb-true _ t (sym
     e =
         exactly.draws-counts (boardOf s) (accepted-laws s acc) a (h .gives) (h .satisfies) _ clue j t l k
         ∙ ap (λ ds. eqb (blacksNearest (blackAt ds) (line (puzzle (sides s) s) d x) j) t) (handed s acc a (h .gives) dec)
+
+-- What stands beside 9: the number of the first variable whose value is not 0 or 1.
+pub value-place : (values : List ℕ) (n : ℕ) → wrongValue values ≡ some n ↔ FirstWrongValue values n
+value-place values n = (to (firstWhere test (length values)) refl, of)
+  where
+    test : ℕ → Bool
+    test i = ltb 1 (getD values i 0)
+
+    place : (i : ℕ) → firstWhere test (length values) ≡ some i ↔ LeastWith (λ k. 1 < getD values k 0) (length values) i
+    place = first-with test _ (length values) (λ k h. (ltb-true 1 (getD values k 0), lt-ltb 1 (getD values k 0)))
+
+    to : (o : Option ℕ) → firstWhere test (length values) ≡ o → numbered o ≡ some n → FirstWrongValue values n
+    to none e h = absurd (Option·some-ne-none n (sym h))
+    to (some i) e h = record { index = i; number = sym (Option·some-injective (suc i) n h); first = place i .0 e }
+
+    of : FirstWrongValue values n → wrongValue values ≡ some n
+    of w = ap numbered (place (w .index) .1 (w .first)) ∙ ap some (sym (w .number))

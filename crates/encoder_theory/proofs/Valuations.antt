@@ -9,12 +9,11 @@ use mathlib.Core.Path.{_≡_, refl, sym, _∙_, ap}
 use mathlib.Core.Bool.{Bool, true, false, not}
 use mathlib.Core.Logic.{inl, inr, _↔_}
 use mathlib.Core.List.{List, [], _∷_, _++_, map, List·Memᴰ·head, List·Memᴰ·tail}
-use Rattle.answers.specs.Lists.{All, Some, _∈_, Apart}
+use Rattle.answers.specs.Lists.{All, Some, _∈_, Apart, each}
 use Rattle.answers.proofs.Bools.{clash}
 use Rattle.rules.specs.Board.{Board}
 use Rattle.rules.proofs.Boards.{Laws}
 use Rattle.cnf.specs.Clauses.{split, Assignment, value, Satisfies}
-use Rattle.answers.specs.Lists.{each}
 use Rattle.encoder.specs.Variables.{Variable, same, placeStep, place, variables, variableCount}
 use Rattle.encoder.specs.Clauses.{Literal, plus, minus, Clause, signed, written, clauses, clauseList}
 use Rattle.encoder.proofs.Known.{Known, of-variables}

@@ -1,2 +1,2 @@
 -- What C is told.
-pub mod Told
+pub mod OutcomeWords

@@ -10,7 +10,7 @@ use mathlib.Core.List.{List}
 use Rattle.answers.specs.declared.Outcome.{Outcome}
 use Rattle.answers.specs.First.{Least}
 use Rattle.answers.specs.Outcome.{firstRefusal}
-use Rattle.answers.proofs.Rows.{refusals-append}
+use Rattle.answers.proofs.Rows.{refusals-append, answered-clear, clear-answered}
 use Rattle.rules.specs.declared.Direction.{Direction}
 use Rattle.rules.specs.declared.Direction.the-variants.{North as north, East as east, South as south, West as west}
 use Rattle.rules.specs.declared.Parsed.{Parsed}
@@ -22,7 +22,6 @@ use Rattle.rules.specs.Judge.{wrongByte, clueNotMet, linkUnmatched, notTwoLinks
 use Rattle.rules.proofs.Boards.{Wired, Laws, clues-in-order}
 use Rattle.rules_theory.specs.Loop.{WholeLoop, Looped}
 use Rattle.rules_theory.specs.Places.{FirstUnmet, FirstUnreached}
-use Rattle.answers.proofs.Rows.{answered-clear, clear-answered}
 use Rattle.rules.proofs.Records as records
 use Rattle.rules.proofs.Outcomes.{readings, verdicts}
 use Rattle.answers.proofs.OneToOne.{one-to-one}

@@ -6,8 +6,7 @@ use lib.ListN.{getD}
 use mathlib.Core.Bool.{Bool, true, false, _&&_, _||_, cond}
 use mathlib.Core.Option.{Option, none, some}
 use mathlib.Core.List.{List, [], _∷_}
-use Rattle.answers.specs.First.{found, firstWhere}
-use Rattle.answers.specs.First.{orElse}
+use Rattle.answers.specs.First.{found, firstWhere, orElse}
 use Rattle.cnf.specs.Literals.{closes, codeOf}
 use Rattle.search.specs.Trail.{Entry, entry, Trail, Value, True, False, Unassigned, isFalse, isUnassigned, variableValue, Values, literalValue}
 

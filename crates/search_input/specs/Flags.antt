@@ -1,5 +1,5 @@
 -- The variables met so far, of some that follow each other: a byte for each, 1 if it was met.
-use Prim.Native.Nat.{ℕ, _-_}
+use Prim.Native.Nat.{ℕ, zero, suc, _-_}
 use lib.Dec.{eqb, leb, ltb}
 use lib.IntN.{ℤ}
 use lib.ListN.{getD, set}
@@ -17,6 +17,15 @@ isMet fs low x = leb low x && eqb (getD fs (x - low) 0) 1
 
 abbrev pub met : List ℕ → ℕ → ℕ → List ℕ
 met fs low x = cond (leb low x) (set fs (x - low) 1) fs
+
+-- after the first n entries
+unfoldable pub metUpTo : List ℕ → ℕ → List ℤ → ℕ → List ℕ
+metUpTo fs low ts zero = fs
+metUpTo fs low ts (suc n) = met (metUpTo fs low ts n) low (variableAt ts n)
+
+-- after the entries up to the r-th, with it, and after all n if r is n
+abbrev pub metBy : List ℕ → ℕ → List ℤ → ℕ → ℕ → List ℕ
+metBy fs low ts n r = metUpTo fs low ts (cond (ltb r n) (suc r) n)
 
 -- an entry on a variable from low on and below high, and on that of an earlier entry
 abbrev pub againAt : List ℤ → ℕ → ℕ → ℕ → Bool

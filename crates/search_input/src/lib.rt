@@ -7,7 +7,7 @@ ghost use Rattle.cnf.specs.Literals.{mostVariables};
 ghost use Rattle.search.specs.Trail.{slices};
 ghost use Rattle.search.specs.Call.{wrongLengths, wrongEntryAt};
 ghost use Rattle.search_input.specs.Entries.{Until, faultyAt, usedAt, Inside};
-ghost use Rattle.search_input.specs.Flags.{NoFlag, isMet, met, againAt};
+ghost use Rattle.search_input.specs.Flags.{NoFlag, isMet, met, metBy, againAt};
 use answers::Place;
 use cnf::code_at;
 use cnf::too_many_variables;
@@ -80,6 +80,7 @@ fn first_met(trail: &[i32], n: usize, low: usize, flags: &mut [u8]) -> usize
     requires { ⌜ n ≤ length (now trail) ⌝ }
     requires { ⌜ NoFlag (now flags) ⌝ }
     ensures { λ r. ⌜ Until (againAt (now (trail .entry)) low (low + length (now (flags .entry)))) n r ⌝ }
+    ensures { λ r. ⌜ now (flags .exit) ≡ metBy (now (flags .entry)) low (now (trail .entry)) n r ⌝ }
 {
     let mut i: usize = 0;
     while i < n {

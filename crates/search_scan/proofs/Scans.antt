@@ -11,8 +11,7 @@ use mathlib.Core.Bool.{Bool, true, false, _&&_, _||_, cond}
 use mathlib.Core.Option.{Option, none, some}
 use mathlib.Core.List.{List, [], _∷_}
 use Rattle.answers.specs.declared.Place.the-variants.{At, Nowhere}
-use Rattle.answers.specs.First.{found}
-use Rattle.answers.specs.First.{orElse}
+use Rattle.answers.specs.First.{found, orElse}
 use Rattle.cnf.specs.Literals.{closes, codeOf}
 use Rattle.search.specs.Trail.{True, False, Unassigned, Values}
 use Rattle.search.specs.Step.{everyLiteral, firstClause, fails, failedAt, failsBut, byValue, forcedAt, failedClause, forcedPlace}

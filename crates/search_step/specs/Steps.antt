@@ -14,7 +14,7 @@ use Rattle.search_trail.specs.Packed.{packedTrail, withTrail}
 use Rattle.search_step.specs.declared.Stepped.{Stepped}
 use Rattle.search_step.specs.declared.Stepped.the-variants.{MovedTo, Found, None}
 
--- an accepted list: no literal beyond V, and its last clause is closed
+-- a list that row 16 does not refuse: no literal beyond V, and its last clause is closed
 pub record ListFits (v : ℕ) (ls : List ℤ) : Type 0 where
   pub within : Within v ls
   pub closed : unclosed ls ≡ false

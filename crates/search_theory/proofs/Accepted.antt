@@ -8,13 +8,12 @@ use borrow.Author.Tests.{eqb-true, ltb-false, eq-eqb, le-ltb, not-false}
 use mathlib.Core.Path.{_≡_, refl, sym, ap, subst}
 use mathlib.Core.Bool.{false, not}
 use mathlib.Core.Option.{Option, none, some, Option·some-ne-none}
-use Rattle.answers.specs.First.{firstWhere}
+use Rattle.answers.specs.First.{firstWhere, orElse}
 use Rattle.answers.specs.Lists.{All}
 use Rattle.answers.specs.Outcome.{cause}
 use Rattle.answers.proofs.Bools.{or-neither}
 use Rattle.answers.proofs.First.{first-none, none-first, not-found}
 use Rattle.answers.proofs.Rows.{Clear, no-cause}
-use Rattle.answers.specs.First.{orElse}
 use Rattle.cnf.specs.Literals.{mostVariables, tooManyVariables, beyondAt, unclosed}
 use Rattle.cnf.specs.Clauses.{split}
 use Rattle.search.specs.Trail.{Entry, Trail, Slices, HasLength, imageBy, image, trailOf}

@@ -14,7 +14,7 @@ use Rattle.search.specs.Run.{Done, oneMore, after, run, following}
 use Rattle.search.specs.Call.{Search, Handed, Call, Searching, Following, begins, comesTo, IsTaken, runs, hands, handsDone}
 use Rattle.search_theory.specs.Choices.{NoneFailed, NoneForcing}
 use Rattle.search_theory.specs.ListedSteps.{Undoes, ListedStep, undoes, forces, chooses, finds, stays, moves}
-use Rattle.search_theory.specs.ListedSteps.{SearchComesTo, found, none-left, halted, NextComesTo, keeps, drops-last, drops, ComesTo, Stepped}
+use Rattle.search_theory.specs.ListedSteps.{SearchComesTo, found, none-left, halted, NextComesTo, keeps, drops-last, drops, ComesTo, ByListedSteps}
 use Rattle.search_theory.proofs.Accepted.{taken-closed}
 use Rattle.search_theory.proofs.Choices.{Laws, choice-laws, failed-none, forced-none, free-none, failed-found, forced-found, free-found}
 use Rattle.search_theory.proofs.Undo.{undoing, only-undoing}
@@ -115,10 +115,10 @@ module _ (v : ℕ) (ls : List ℤ) (closed : unclosed ls ≡ false) where
   comes-only Searching b t c = search-only b c
   comes-only Following b t c = next-only b c
 
-pub stepped : {x : Call} {s : Search} → IsTaken x s → (budget : ℕ) → Stepped x s budget (hands x s budget)
+pub stepped : {x : Call} {s : Search} → IsTaken x s → (budget : ℕ) → ByListedSteps x s budget (hands x s budget)
 stepped {x} {s} ok budget =
     record { done = runs x s budget; comes = comes-to (s .variables) (s .list) (taken-closed ok) x budget (begins s); hands = hands-done ok budget }
 
-pub only-stepped : {x : Call} {s : Search} → IsTaken x s → (budget : ℕ) (h : Handed) → Stepped x s budget h → h ≡ hands x s budget
+pub only-stepped : {x : Call} {s : Search} → IsTaken x s → (budget : ℕ) (h : Handed) → ByListedSteps x s budget h → h ≡ hands x s budget
 only-stepped {x} {s} ok budget h c =
     c .hands ∙ ap (handsDone (s .variables)) (comes-only (s .variables) (s .list) (taken-closed ok) x budget (begins s) (c .comes)) ∙ sym (hands-done ok budget)

@@ -16,7 +16,7 @@ use Rattle.search_theory.specs.Legal.{Proper, Legal}
 use Rattle.search_theory.proofs.Legal.{AllAssigned}
 use Rattle.search_theory.proofs.Choices.{choice-laws}
 use Rattle.search_theory.proofs.Measure.{number, number-more}
-use Rattle.search_theory.proofs.Steps.{Stepped, moved, exhausted, full, stepped}
+use Rattle.search_theory.proofs.Steps.{ByListedSteps, moved, exhausted, full, stepped}
 
 -- what an answer means: x of a search begun at t that ends at u, after n steps of a budget b
 abbrev pub Means : ℕ → List ℤ → Trail → ℕ → Ending → ℕ → Trail → Type 0
@@ -40,7 +40,7 @@ module _ {v : ℕ} {ls : List ℤ} (closed : unclosed ls ≡ false) (proper : Al
       record { legal = l; same = λ a s. (λ o. o, λ o. o); within = h; few = omega arith; falls = omega arith; means = m }
 
   -- a step, and what a search with the rest of the budget comes to
-  one-step : {t : Trail} {b : ℕ} → Legal v t → (x : Next) → Stepped v ls t x → ((u : Trail) → Legal v u → Ended v ls u b (run v ls b u))
+  one-step : {t : Trail} {b : ℕ} → Legal v t → (x : Next) → ByListedSteps v ls t x → ((u : Trail) → Legal v u → Ended v ls u b (run v ls b u))
       → Ended v ls t (suc b) (after x t (λ u. run v ls b u))
   one-step {t} {b} l x (moved {u = u} m f o) go =
       let e = go u m in

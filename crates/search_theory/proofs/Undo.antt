@@ -18,7 +18,7 @@ use Rattle.cnf.specs.Clauses.{value}
 use Rattle.search.specs.Trail.{Entry, Trail, variableValue, Turned, Open}
 use Rattle.search.specs.Step.{negated, undo, Next, Moved, AnsweredNone, undone}
 use Rattle.search_theory.specs.Legal.{LegalEntry, Legal}
-use Rattle.search_theory.specs.ListedSteps.{MarkedOne, Undoes, negates, gives-up}
+use Rattle.search_theory.specs.ListedSteps.{MarkedOne, Undoes, negates, none-marked}
 use Rattle.search_theory.proofs.Full.{legal-length}
 use Rattle.search_theory.proofs.Measure.{choiceSum, number, number-undo, choices-more}
 
@@ -26,12 +26,12 @@ use Rattle.search_theory.proofs.Measure.{choiceSum, number, number-undo
 
 pub undoing : (t : Trail) → Undoes t (undone (undo t))
 unfolding undo
-undoing [] = gives-up tt
+undoing [] = none-marked tt
 undoing (e ∷ t) = by (eqb (e .mark) 1) refl (undoing t)
   where
     back : {x : Next} → (e .mark ≡ 1 → ⊥) → Undoes t x → Undoes (e ∷ t) x
     back n (negates f) = negates (later n f)
-    back n (gives-up h) = gives-up (n, h)
+    back n (none-marked h) = none-marked (n, h)
 
     by : (b : Bool) → eqb (e .mark) 1 ≡ b → Undoes t (undone (undo t)) → Undoes (e ∷ t) (undone (cond b (some (negated e ∷ t)) (undo t)))
     by true q go = negates (here (eqb-true (e .mark) 1 q))
@@ -39,9 +39,9 @@ undoing (e ∷ t) = by (eqb (e .mark) 1) refl (undoing t)
 
 pub only-undoing : {t : Trail} {x y : Next} → Undoes t x → Undoes t y → x ≡ y
 only-undoing {t} (negates f) (negates g) = let r = only-first f g in (λ i. Moved (negated (r .1 i) ∷ drop (suc (r .0 i)) t))
-only-undoing (negates f) (gives-up h) = absurd (not-none f h)
-only-undoing (gives-up h) (negates f) = absurd (not-none f h)
-only-undoing (gives-up h) (gives-up k) = refl
+only-undoing (negates f) (none-marked h) = absurd (not-none f h)
+only-undoing (none-marked h) (negates f) = absurd (not-none f h)
+only-undoing (none-marked h) (none-marked k) = refl
 
 -- by the definition
 pub undoes-to : {t u : Trail} → Undoes t (Moved u) → undo t ≡ some u
@@ -52,7 +52,7 @@ undoes-to {t} {u} h = by (undo t) refl (only-undoing h (undoing t))
     by none e q = let z : _≡_ {A = ℕ} 0 1 = cc in absurd (omega arith)
 
 pub undoes-nothing : (t : Trail) → NoneIn MarkedOne t → undo t ≡ none
-undoes-nothing t h = by (undo t) refl (only-undoing (gives-up h) (undoing t))
+undoes-nothing t h = by (undo t) refl (only-undoing (none-marked h) (undoing t))
   where
     by : (o : Option Trail) → undo t ≡ o → AnsweredNone ≡ undone o → undo t ≡ none
     by (some x) e q = let z : _≡_ {A = ℕ} 0 1 = cc in absurd (omega arith)

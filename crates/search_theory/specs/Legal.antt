@@ -1,4 +1,4 @@
--- Legal trails: those that a search takes.
+-- Legal trails: those that a search takes, since no used entry has a fault of row 18 (`legal-exactly`).
 use Prim.Native.Nat.{ℕ, _≤_}
 use lib.IntN.{ℤ, natAbs}
 use mathlib.Core.Path.{_≡_}

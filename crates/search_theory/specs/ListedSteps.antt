@@ -19,7 +19,7 @@ pub data Undoes (t : Trail) : Next → Type 0 where
   -- undo back to the last entry marked 1, negate it, mark it 0;
   negates : {k : ℕ} {e : Entry} → FirstIn MarkedOne t k e → Undoes t (Moved (negated e ∷ drop (suc k) t))
   -- if no mark is 1, answer "none"
-  gives-up : NoneIn MarkedOne t → Undoes t AnsweredNone
+  none-marked : NoneIn MarkedOne t → Undoes t AnsweredNone
 
 module _ (v : ℕ) (ls : List ℤ) where
   -- "One step does the first that applies": at a trail t it leads to another trail or to an answer
@@ -60,7 +60,7 @@ ComesTo Searching v ls t budget d = SearchComesTo v ls t budget d
 ComesTo Following v ls t budget d = NextComesTo v ls t budget d
 
 -- a call hands out what it comes to by the listed steps
-pub record Stepped (x : Call) (s : Search) (budget : ℕ) (h : Handed) : Type 0 where
+pub record ByListedSteps (x : Call) (s : Search) (budget : ℕ) (h : Handed) : Type 0 where
   pub done : Done
   pub comes : ComesTo x (s .variables) (s .list) (begins s) budget done
   pub hands : h ≡ handsDone (s .variables) done

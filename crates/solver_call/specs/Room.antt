@@ -20,7 +20,7 @@ abbrev pub roomTells : Room → Outcome → Outcome
 roomTells Enough t = t
 roomTells (Short n) t = refusal 6 n
 
--- 6, in the order list, trail, marks, values, drawing; beside it the elements needed
+-- the solver's rows of 6, by the lengths of the lent buffers
 abbrev pub shortRows : Lengths → Needs → List Row
 shortRows lent needed =
     row 6 (tooShort (lent .list) (needed .elements)) ∷

@@ -3,9 +3,8 @@ use mathlib.Core.Path.{refl}
 use mathlib.Core.List.{[], _∷_}
 use lib.IntN.{pos}
 use Rattle.encoder_shapes.specs.Shapes.{literals}
-use Rattle.encoder_shapes.proofs.Written.{in-parts}
+use Rattle.encoder_shapes.proofs.Written.{in-parts, put-needs, Progress, begun, part-needs, part-on, parts-end}
 use borrow.Author.Needs.{needs}
-use Rattle.encoder_shapes.proofs.Written.{put-needs, Progress, begun, part-needs, part-on, parts-end}
 use Rattle.encoder_shapes.proofs.at_least_one.Statement.{statement}
 use Rattle.encoder_shapes.proofs.at_least_one.Tie as tie
 

@@ -3,9 +3,8 @@ use mathlib.Core.Path.{refl}
 use mathlib.Core.List.{[], _∷_}
 use lib.IntN.{pos}
 use Rattle.encoder_shapes.specs.Shapes.{no}
-use Rattle.encoder_shapes.proofs.Written.{in-parts}
+use Rattle.encoder_shapes.proofs.Written.{in-parts, not-needs, put-needs, Progress, begun, part-needs, part-on, parts-end}
 use borrow.Author.Needs.{needs}
-use Rattle.encoder_shapes.proofs.Written.{not-needs, put-needs, Progress, begun, part-needs, part-on, parts-end}
 use Rattle.encoder_shapes.proofs.or_not.Statement.{statement}
 use Rattle.encoder_shapes.proofs.or_not.Tie as tie
 

@@ -1,6 +1,6 @@
 -- `ffi::yajilin_decode` meets its contract. Assumes nothing.
 use mathlib.Core.Path.{_∙_}
-use Rattle.ffi.proofs.Told.{told}
+use Rattle.ffi.proofs.OutcomeWords.{outcome-words}
 use borrow.Author.Needs.{needs}
 use Rattle.ffi.proofs.yajilin_decode.Statement.{statement}
 use Rattle.ffi.proofs.yajilin_decode.Tie as tie
@@ -21,7 +21,7 @@ returns : tie.Need-returns
 returns c =
     let at-outcome = c .before .before in
     let at-decode = at-outcome .before .before .before in
-    let t = told (at-outcome .outcome .ensures ∙ at-decode .decode .ensures .0) (c .write .ensures) in
+    let t = outcome-words (at-outcome .outcome .ensures ∙ at-decode .decode .ensures .0) (c .write .ensures) in
     (t .0, (t .1, at-decode .decode .ensures .1))
 
 pub yajilin-decode-spec : {M : Type 1} → statement M

@@ -1,6 +1,6 @@
 -- `ffi::yajilin_read` meets its contract. Assumes nothing.
 use mathlib.Core.Path.{_∙_}
-use Rattle.ffi.proofs.Told.{told}
+use Rattle.ffi.proofs.OutcomeWords.{outcome-words}
 use borrow.Author.Needs.{needs}
 use Rattle.ffi.proofs.yajilin_read.Statement.{statement}
 use Rattle.ffi.proofs.yajilin_read.Tie as tie
@@ -21,7 +21,7 @@ returns : tie.Need-returns
 returns c =
     let at-outcome = c .before .before in
     let at-read = at-outcome .before .before in
-    let t = told (at-outcome .outcome .ensures ∙ at-read .read .ensures .0) (c .write .ensures) in
+    let t = outcome-words (at-outcome .outcome .ensures ∙ at-read .read .ensures .0) (c .write .ensures) in
     (t .0, (t .1, at-read .read .ensures .1))
 
 pub yajilin-read-spec : {M : Type 1} → statement M

@@ -1,7 +1,7 @@
 -- `ffi::yajilin_search` meets its contract. Assumes nothing.
 use mathlib.Core.Path.{_∙_, ap}
 use Rattle.search.specs.Call.{Handed}
-use Rattle.ffi.proofs.Told.{told}
+use Rattle.ffi.proofs.OutcomeWords.{outcome-words}
 use borrow.Author.Needs.{needs}
 use Rattle.ffi.proofs.yajilin_search.Statement.{statement}
 use Rattle.ffi.proofs.yajilin_search.Tie as tie
@@ -25,7 +25,7 @@ returns : tie.Need-returns
 returns c =
     let at-outcome = c .before .before in
     let e = at-outcome .before .before .before .before .search .ensures in
-    let t = told (at-outcome .outcome .ensures ∙ ap (λ (h : Handed). h .outcome) e) (c .write .ensures) in
+    let t = outcome-words (at-outcome .outcome .ensures ∙ ap (λ (h : Handed). h .outcome) e) (c .write .ensures) in
     (t .0, (ap (λ (h : Handed). h .slices) e, t .1))
 
 pub yajilin-search-spec : {M : Type 1} → statement M

@@ -1,6 +1,6 @@
 -- `ffi::yajilin_write` meets its contract. Assumes nothing.
 use mathlib.Core.Path.{_∙_}
-use Rattle.ffi.proofs.Told.{told}
+use Rattle.ffi.proofs.OutcomeWords.{outcome-words}
 use borrow.Author.Needs.{needs}
 use Rattle.ffi.proofs.yajilin_write.Statement.{statement}
 use Rattle.ffi.proofs.yajilin_write.Tie as tie
@@ -21,7 +21,7 @@ returns : tie.Need-returns
 returns c =
     let at-outcome = c .before .before in
     let at-write = at-outcome .before .before .before in
-    let t = told (at-outcome .outcome .ensures ∙ at-write .write .ensures .0) (c .write2 .ensures) in
+    let t = outcome-words (at-outcome .outcome .ensures ∙ at-write .write .ensures .0) (c .write2 .ensures) in
     (t .0, (t .1, at-write .write .ensures .1))
 
 pub yajilin-write-spec : {M : Type 1} → statement M

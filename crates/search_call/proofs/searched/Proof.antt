@@ -5,9 +5,8 @@ use native.Mathlib.Omega.{arith}
 use lib.IntN.{ℤ}
 use Rattle.search_theory.proofs.Accepted.{taken-sized}
 use Rattle.search_call.specs.declared.End.{End}
-use Rattle.search_call.proofs.Calls.{Cleared, ValuesPacked, Ran, cleared-running, cleared-legal, values-packed-running, values-packed-listed}
+use Rattle.search_call.proofs.Calls.{Cleared, ValuesPacked, Ran, cleared-running, cleared-legal, values-packed-running, values-packed-listed, ended}
 use Rattle.search_call.proofs.Calls.{ended-literals, ended-bytes}
-use Rattle.search_call.proofs.Calls.{ended}
 use borrow.Author.Needs.{needs}
 use Rattle.search_call.proofs.searched.Statement.{statement}
 use Rattle.search_call.proofs.searched.Tie as tie

@@ -3,13 +3,12 @@ use borrow.Author.Needs.{needs}
 use native.Mathlib.Omega.{arith}
 use Prim.Native.Nat.{_-_}
 use mathlib.Core.Path.{sym, _∙_}
-use lib.ListN.{length}
 use Rattle.search_input.proofs.Flags.{Meeting, meeting-start, meeting-none, meeting-found, meeting-on}
 use Rattle.search_input.proofs.first_met.Statement.{statement}
 use Rattle.search_input.proofs.first_met.Tie as tie
 
 abbrev Inv-loop : tie.InvT-loop
-Inv-loop trail n low flags₀ i₀ flags i = Meeting trail n low (length flags₀) flags i
+Inv-loop trail n low flags₀ i₀ flags i = Meeting trail n low flags₀ flags i
 
 abbrev μ-loop : tie.MeasureT-loop
 μ-loop trail n low flags₀ i₀ flags i = n - i
@@ -28,8 +27,10 @@ same-length c = search needs
 
 returns : tie.Need-returns Inv-loop μ-loop
 returns c =
-    meeting-found (c .before .before .before .before .before .before .before .loop .inv) (c .before .before .before .before .code-at .ensures)
-    (c .before .before .before .before .before .before .loop-test .taken) (sym (c .before .before .before .meet .ensures .0) ∙ c .if1 .taken)
+    let met = c .before .before .before in
+    let here = met .before .before .before in
+    meeting-found (here .before .loop .inv) (met .before .code-at .ensures) (here .loop-test .taken) (sym (met .meet .ensures .0) ∙ c .if1 .taken)
+    (met .meet .ensures .1)
 
 add-i : tie.Need-add-i Inv-loop μ-loop
 add-i c = omega arith
@@ -39,9 +40,10 @@ loop-less c = omega arith
 
 loop-again : tie.Need-loop-again Inv-loop μ-loop
 loop-again c =
-    meeting-on (c .before .before .before .before .before .before .before .loop .inv) (c .before .before .before .before .code-at .ensures)
-    (c .before .before .before .before .before .before .loop-test .taken) (sym (c .before .before .before .meet .ensures .0) ∙ c .if1 .left)
-    (c .before .before .before .meet .ensures .1)
+    let met = c .before .before .before in
+    let here = met .before .before .before in
+    meeting-on (here .before .loop .inv) (met .before .code-at .ensures) (here .loop-test .taken) (sym (met .meet .ensures .0) ∙ c .if1 .left)
+    (met .meet .ensures .1)
 
 same-length-2 : tie.Need-same-length-2 Inv-loop μ-loop
 same-length-2 c = search needs

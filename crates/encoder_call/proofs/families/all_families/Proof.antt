@@ -5,9 +5,8 @@ use Rattle.answers.proofs.Lent.{wrote-recast}
 use Rattle.rules.specs.Board.{Board, gridBoard}
 use Rattle.encoder.specs.Clauses.{families, listOf}
 use Rattle.encoder.proofs.ClauseLists.{list-families}
-use Rattle.encoder_shapes.proofs.Written.{in-parts, limits-recast}
+use Rattle.encoder_shapes.proofs.Written.{in-parts, limits-recast, Progress, begun, part-needs, part-on, parts-end}
 use borrow.Author.Needs.{needs}
-use Rattle.encoder_shapes.proofs.Written.{Progress, begun, part-needs, part-on, parts-end}
 use Rattle.encoder_call.proofs.families.all_families.Statement.{statement}
 use Rattle.encoder_call.proofs.families.all_families.Tie as tie
 

@@ -10,12 +10,11 @@ use Rattle.answers.specs.Lists.{each, joined}
 use Rattle.encoder.specs.Variables.{opens}
 use Rattle.encoder.specs.Clauses.{start as startClauses, startAt, listOf}
 use Rattle.encoder_shapes.specs.Shapes.{atLeastOne}
-use Rattle.encoder_shapes.proofs.Written.{in-parts, limits-recast}
+use Rattle.encoder_shapes.proofs.Written.{in-parts, limits-recast, Progress, begun, part-needs, part-on, parts-end}
 use Rattle.encoder_numbers.specs.declared.Sizes.{Sizes}
 use Rattle.encoder_numbers.proofs.Neighbours.{fits-laws, few}
 use Rattle.encoder_call.proofs.EachCell.{start-parts}
 use borrow.Author.Needs.{needs}
-use Rattle.encoder_shapes.proofs.Written.{Progress, begun, part-needs, part-on, parts-end}
 use Rattle.encoder_call.proofs.families.start.Statement.{statement}
 use Rattle.encoder_call.proofs.families.start.Tie as tie
 

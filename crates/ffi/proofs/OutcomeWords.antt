@@ -5,5 +5,5 @@ use mathlib.Core.List.{List}
 use Rattle.answers.specs.declared.Outcome.{Outcome}
 use Rattle.answers.specs.Outcome.{words}
 
-pub told : {t u : Outcome} {r : ℕ} {answer : List ℕ} → t ≡ u → (r ≡ t .number) × (answer ≡ words t) → (r ≡ u .number) × (answer ≡ words u)
-told e w = rw (← e) w
+pub outcome-words : {t u : Outcome} {r : ℕ} {answer : List ℕ} → t ≡ u → (r ≡ t .number) × (answer ≡ words t) → (r ≡ u .number) × (answer ≡ words u)
+outcome-words e w = rw (← e) w
