@@ -73,7 +73,7 @@ pub fn links_before(g: Grid, record: &[u8], x: usize, d: Direction) -> usize
 }
 
 // All open neighbours: as many E variables has an open cell.
-pub fn links_at(g: Grid, record: &[u8], x: usize) -> usize
+pub fn neighbour_count(g: Grid, record: &[u8], x: usize) -> usize
     requires { ⌜ RecordFits g (now «record») ⌝ }
     requires { ⌜ x < size g ⌝ }
     ensures { λ r. ⌜ r ≡ length (neighbours (gridBoard g (now («record» .entry))) x directions) ⌝ }
@@ -91,7 +91,7 @@ fn with_cell(g: Grid, record: &[u8], below: Sizes, x: usize) -> Sizes
 {
     let c = g.cell(record, x);
     let Cell::Clue(d, n) = c else {
-        let links = links_at(g, record, x);
+        let links = neighbour_count(g, record, x);
         return Sizes {
             opens: below.opens + 1,
             links: below.links + links,

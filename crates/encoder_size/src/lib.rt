@@ -15,7 +15,7 @@ ghost use Rattle.encoder_size.specs.Counts.{countsOf, amountOf, openAmou
 use encoder_numbers::Sizes;
 use encoder_numbers::TABLE;
 use encoder_numbers::tables::fill;
-use encoder_numbers::tables::links_at;
+use encoder_numbers::tables::neighbour_count;
 use encoder_numbers::tables::open_there;
 use encoder_numbers::tables::sizes_below;
 use encoder_numbers::tables::variable_count;
@@ -132,7 +132,7 @@ fn at_open(g: Grid, record: &[u8], f: usize, lower: usize, x: usize) -> Amount
     requires { ⌜ (f ≡ openCount (gridBoard g (now «record»))) × (lower ≡ rank (gridBoard g (now «record»)) x) ⌝ }
     ensures { λ r. ⌜ Amounts (gridBoard g (now («record» .entry))) (cellFamilies g (now («record» .entry)) x) r ⌝ }
 {
-    let neighbours = links_at(g, record, x);
+    let neighbours = neighbour_count(g, record, x);
     let east = open_there(g, record, x, Direction::East);
     let south = open_there(g, record, x, Direction::South);
     open_amount(f, lower, neighbours, east + south, east)

@@ -11,7 +11,7 @@ use Rattle.search.specs.Step.{failedClause, forcedPlace, lowestUnassigned, Next
 use Rattle.search_theory.proofs.Lists.{proper-clauses}
 use Rattle.search_theory.specs.Legal.{Legal}
 use Rattle.search_theory.proofs.Choices.{choice-laws}
-use Rattle.search_theory.proofs.Steps.{Stepped, moved, exhausted, full, stepped}
+use Rattle.search_theory.proofs.Steps.{StepKeeps, moved, exhausted, full, step-keeps}
 use Rattle.search_scan.specs.PackedValues.{packedValues}
 use Rattle.search_trail.specs.Packed.{packedTrail, Packed}
 use Rattle.search_trail.proofs.WithTrail.{packed-values}
@@ -19,14 +19,14 @@ use Rattle.search_step.specs.declared.Stepped.the-variants.{Found}
 use Rattle.search_step.specs.Steps.{ListFits, Allows, appends, StepHanded, stepHanded, answerOf, leaves, handsNext}
 
 -- a trail that a step moves to is legal
-moved-legal : {v : ℕ} {ls : List ℤ} {t u : Trail} {x : Next} → Stepped v ls t x → x ≡ Moved u → Legal v u
+moved-legal : {v : ℕ} {ls : List ℤ} {t u : Trail} {x : Next} → StepKeeps v ls t x → x ≡ Moved u → Legal v u
 moved-legal {v = v} {u = u} (moved {u = w} l f o) e = let q : w ≡ u = cc in subst (Legal v) q l
 moved-legal (exhausted h) e = let z : _≡_ {A = ℕ} 0 1 = cc in absurd (omega arith)
 moved-legal (full h s) e = let z : _≡_ {A = ℕ} 0 1 = cc in absurd (omega arith)
 
 pub step-legal : {v : ℕ} {ls : List ℤ} {u : Trail} (t : Trail) → ListFits v ls → Legal v t → step v ls t ≡ Moved u → Legal v u
 step-legal {v} {ls} t fits legal q =
-    moved-legal (stepped t (choice-laws v ls (variableValue t) (fits .closed)) (proper-clauses v ls (fits .within .each)) legal) q
+    moved-legal (step-keeps t (choice-laws v ls (variableValue t) (fits .closed)) (proper-clauses v ls (fits .within .each)) legal) q
 
 -- where a step stands
 pub record Standing (ls ts : List ℤ) (ms : List ℕ) (used : ℕ) : Type 0 where

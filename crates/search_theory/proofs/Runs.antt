@@ -16,7 +16,7 @@ use Rattle.search_theory.specs.Legal.{Proper, Legal}
 use Rattle.search_theory.proofs.Legal.{AllAssigned}
 use Rattle.search_theory.proofs.Choices.{choice-laws}
 use Rattle.search_theory.proofs.Measure.{number, number-more}
-use Rattle.search_theory.proofs.Steps.{ByListedSteps, moved, exhausted, full, stepped}
+use Rattle.search_theory.proofs.Steps.{StepKeeps, moved, exhausted, full, step-keeps}
 
 -- what an answer means: x of a search begun at t that ends at u, after n steps of a budget b
 abbrev pub Means : ℕ → List ℤ → Trail → ℕ → Ending → ℕ → Trail → Type 0
@@ -40,7 +40,7 @@ module _ {v : ℕ} {ls : List ℤ} (closed : unclosed ls ≡ false) (proper : Al
       record { legal = l; same = λ a s. (λ o. o, λ o. o); within = h; few = omega arith; falls = omega arith; means = m }
 
   -- a step, and what a search with the rest of the budget comes to
-  one-step : {t : Trail} {b : ℕ} → Legal v t → (x : Next) → ByListedSteps v ls t x → ((u : Trail) → Legal v u → Ended v ls u b (run v ls b u))
+  one-step : {t : Trail} {b : ℕ} → Legal v t → (x : Next) → StepKeeps v ls t x → ((u : Trail) → Legal v u → Ended v ls u b (run v ls b u))
       → Ended v ls t (suc b) (after x t (λ u. run v ls b u))
   one-step {t} {b} l x (moved {u = u} m f o) go =
       let e = go u m in
@@ -66,4 +66,4 @@ module _ {v : ℕ} {ls : List ℤ} (closed : unclosed ls ≡ false) (proper : Al
   pub ended : (t : Trail) (b : ℕ) → Legal v t → Ended v ls t b (run v ls b t)
   unfolding run
   ended t zero l = let p = number-more v t in stays l Halted 0 (omega arith) (omega arith) (refl, omega arith)
-  ended t (suc b) l = one-step l (step v ls t) (stepped t (choice-laws v ls (variableValue t) closed) proper l) (λ u. ended u b)
+  ended t (suc b) l = one-step l (step v ls t) (step-keeps t (choice-laws v ls (variableValue t) closed) proper l) (λ u. ended u b)

@@ -28,10 +28,10 @@ use Rattle.search_theory.proofs.Measure.{number, number-more, number-ap
 use Rattle.search_theory.proofs.Undo.{undo-some, undo-none}
 
 -- a step's outcome
-pub data ByListedSteps (v : ℕ) (ls : List ℤ) (t : Trail) : Next → Type 0 where
-  moved : {u : Trail} → Legal v u → number v u < number v t → ((a : List Bool) → Satisfies a ls → Open a t ↔ Open a u) → ByListedSteps v ls t (Moved u)
-  exhausted : ((a : List Bool) → Satisfies a ls → Open a t → ⊥) → ByListedSteps v ls t AnsweredNone
-  full : AllAssigned v (variableValue t) → Satisfies (valuesOf v t) ls → ByListedSteps v ls t AnsweredFound
+pub data StepKeeps (v : ℕ) (ls : List ℤ) (t : Trail) : Next → Type 0 where
+  moved : {u : Trail} → Legal v u → number v u < number v t → ((a : List Bool) → Satisfies a ls → Open a t ↔ Open a u) → StepKeeps v ls t (Moved u)
+  exhausted : ((a : List Bool) → Satisfies a ls → Open a t → ⊥) → StepKeeps v ls t AnsweredNone
+  full : AllAssigned v (variableValue t) → Satisfies (valuesOf v t) ls → StepKeeps v ls t AnsweredFound
 
 -- an entry more: nothing is lost if it is marked 1, or if no assignment that agrees so far differs at it
 opened : (a : List Bool) (e : Entry) (t : Trail) → (Agrees a t → value a (e .literal) ≡ false → e .mark ≡ 1) → Open a t ↔ Open a (e ∷ t)
@@ -58,7 +58,7 @@ variable-free t (negsuc n) h = by (variableValue t (suc n)) h
 module _ {v : ℕ} {ls : List ℤ} (t : Trail) (law : Laws v ls (variableValue t)) (proper : All (All (Proper v)) (split ls)) (legal : Legal v t) where
   -- the trail goes on by an entry
   append : (e : Entry) → LegalEntry v t e → ((a : List Bool) → Satisfies a ls → Agrees a t → value a (e .literal) ≡ false → e .mark ≡ 1)
-      → ByListedSteps v ls t (Moved (e ∷ t))
+      → StepKeeps v ls t (Moved (e ∷ t))
   append e r h = moved {u = e ∷ t} (r, legal) (number-append v e t (legal-length v (e ∷ t) (r, legal))) (λ a s. opened a e t (h a s))
 
   -- a literal that a clause forces is true wherever the rest agrees
@@ -78,7 +78,7 @@ module _ {v : ℕ} {ls : List ℤ} (t : Trail) (law : Laws v ls (variableValue t
   pub satisfied : AllAssigned v (variableValue t) → failedClause (variableValue t) ls ≡ none → Satisfies (valuesOf v t) ls
   satisfied all f = all-zip (some-zip (literal-true v t all)) (split ls) (none-failed-each (variableValue t) ls (law .none-failed f)) proper
 
-  on-forced : (l : ℤ) → Some (Forces (variableValue t) l) (split ls) → ByListedSteps v ls t (Moved (entry l 0 ∷ t))
+  on-forced : (l : ℤ) → Some (Forces (variableValue t) l) (split ls) → StepKeeps v ls t (Moved (entry l 0 ∷ t))
   on-forced l f = append (entry l 0) (meet is-legal (split ls) f proper) (λ a s g w. clash (forced-true l f a s g) w)
     where
       is-legal : (c : List ℤ) → Forces (variableValue t) l c → All (Proper v) c → LegalEntry v t (entry l 0)
@@ -89,7 +89,7 @@ module _ {v : ℕ} {ls : List ℤ} (t : Trail) (law : Laws v ls (variableValue t
             mark-small = omega arith;
           }
 
-  on-unassigned : (o : Option ℕ) → lowestUnassigned v (variableValue t) ≡ o → failedClause (variableValue t) ls ≡ none → ByListedSteps v ls t (onUnassigned o t)
+  on-unassigned : (o : Option ℕ) → lowestUnassigned v (variableValue t) ≡ o → failedClause (variableValue t) ls ≡ none → StepKeeps v ls t (onUnassigned o t)
   on-unassigned none h f = let all = all-assigned (variableValue t) v (law .none-free h) in full all (satisfied all f)
   on-unassigned (some n) h f = append (entry (negsuc n) 1) is-legal (λ a s g w. refl)
     where
@@ -101,7 +101,7 @@ module _ {v : ℕ} {ls : List ℤ} (t : Trail) (law : Laws v ls (variableValue t
             mark-small = omega arith;
           }
 
-  on-failed : {i : ℕ} → failedClause (variableValue t) ls ≡ some i → (o : Option Trail) → undo t ≡ o → ByListedSteps v ls t (undone o)
+  on-failed : {i : ℕ} → failedClause (variableValue t) ls ≡ some i → (o : Option Trail) → undo t ≡ o → StepKeeps v ls t (undone o)
   on-failed f none h = exhausted (λ a s. ⊎-elim (refuted f a s) (undo-none a t h))
   on-failed f (some u) h =
       let r = undo-some v t u legal h in
@@ -109,16 +109,16 @@ module _ {v : ℕ} {ls : List ℤ} (t : Trail) (law : Laws v ls (variableValue t
       let w = r .falls in
       moved {u = u} (r .legal) (omega arith) (λ a s. (⊎-elim (λ g. absurd (refuted f a s g)) (r .opens a), λ o. inr (r .was-open a o)))
 
-  pub stepped : ByListedSteps v ls t (step v ls t)
+  pub step-keeps : StepKeeps v ls t (step v ls t)
   unfolding step
-  stepped = by (failedClause (variableValue t) ls) refl
+  step-keeps = by (failedClause (variableValue t) ls) refl
     where
       on : (o : Option ℕ) → forcedPlace (variableValue t) ls ≡ o → failedClause (variableValue t) ls ≡ none
-          → ByListedSteps v ls t (onForced o ls t (onUnassigned (lowestUnassigned v (variableValue t)) t))
+          → StepKeeps v ls t (onForced o ls t (onUnassigned (lowestUnassigned v (variableValue t)) t))
       on (some i) h f = on-forced (getD ls i (pos 0)) (forcing-some (variableValue t) (law .forced h .1))
       on none h f = on-unassigned (lowestUnassigned v (variableValue t)) refl f
 
       by : (o : Option ℕ) → failedClause (variableValue t) ls ≡ o
-          → ByListedSteps v ls t (onFailed o t (onForced (forcedPlace (variableValue t) ls) ls t (onUnassigned (lowestUnassigned v (variableValue t)) t)))
+          → StepKeeps v ls t (onFailed o t (onForced (forcedPlace (variableValue t) ls) ls t (onUnassigned (lowestUnassigned v (variableValue t)) t)))
       by (some i) f = on-failed f (undo t) refl
       by none f = on (forcedPlace (variableValue t) ls) refl f

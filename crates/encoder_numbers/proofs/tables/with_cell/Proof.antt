@@ -16,20 +16,20 @@ few : (c : tie.Start) → Few (c .args .below)
 few c = sizes-few (c .pre .0) (c .args .x) (omega arith) (c .pre .1 .1)
 
 -- the start, from an open cell and from a clue
-abbrev s1 : tie.After-links-at → tie.Start
+abbrev s1 : tie.After-neighbour-count → tie.Start
 s1 c = c .before .before .before .before .before
 
 abbrev s2 : tie.After-line-end → tie.Start
 s2 c = c .before .before .before .before .before .before
 
 -- with an open cell, and with a clue
-with-open : (c : tie.After-links-at) → let s = s1 c in
+with-open : (c : tie.After-neighbour-count) → let s = s1 c in
     _≡_ {A = Sizes}
-    (record { opens = s .args .below .opens + 1; links = s .args .below .links + c .links-at .result; counts = s .args .below .counts })
+    (record { opens = s .args .below .opens + 1; links = s .args .below .links + c .neighbour-count .result; counts = s .args .below .counts })
     (sizesBelow (s .args .g) (s .args .«record» .now) (s .args .x + 1))
 with-open c =
     let s = s1 c in
-    sizes-open (s .pre .0) (s .pre .1 .0) (s .pre .1 .1) (c .before .before .before .cell .ensures) (c .before .enum-told .given .1) (c .links-at .ensures)
+    sizes-open (s .pre .0) (s .pre .1 .0) (s .pre .1 .1) (c .before .before .before .cell .ensures) (c .before .enum-told .given .1) (c .neighbour-count .ensures)
 
 with-clue : (c : tie.After-line-end) → let s = s2 c in
     _≡_ {A = Sizes}
@@ -56,8 +56,8 @@ enum-known-c c = search needs
 enum-told : tie.Need-enum-told
 enum-told c = search needs
 
-links-at-requires : tie.Need-links-at-requires
-links-at-requires c κs = search needs
+neighbour-count-requires : tie.Need-neighbour-count-requires
+neighbour-count-requires c κs = search needs
 
 add-t11 : tie.Need-add-t11
 add-t11 c = let f = few (s1 (c .before)) in omega arith
@@ -66,7 +66,7 @@ add-t12 : tie.Need-add-t12
 add-t12 c =
     let s = s1 (c .before .before) in
     let f = few s in
-    omega (arith, c .before .before .links-at .ensures, neighbours-most (gridBoard (s .args .g) (s .args .«record» .now)) (s .args .x) directions)
+    omega (arith, c .before .before .neighbour-count .ensures, neighbours-most (gridBoard (s .args .g) (s .args .«record» .now)) (s .args .x) directions)
 
 returns : tie.Need-returns
 returns c = with-open (c .before .before)
@@ -101,7 +101,7 @@ with-cell-spec =
     cell-requires
     enum-known-c
     enum-told
-    links-at-requires
+    neighbour-count-requires
     add-t11
     add-t12
     returns

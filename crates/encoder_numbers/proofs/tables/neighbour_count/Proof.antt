@@ -1,4 +1,4 @@
--- `encoder_numbers::tables::links_at` meets its contract. Assumes nothing.
+-- `encoder_numbers::tables::neighbour_count` meets its contract. Assumes nothing.
 use native.Mathlib.Omega.{arith}
 use mathlib.Core.List.{[], _∷_}
 use Rattle.rules.specs.declared.Direction.the-variants.{West as west}
@@ -7,8 +7,8 @@ use Rattle.encoder.specs.Variables.{earlier}
 use Rattle.encoder.proofs.Bounds.{neighbours-most}
 use Rattle.encoder_numbers.proofs.Numbers.{links-sum}
 use borrow.Author.Needs.{needs}
-use Rattle.encoder_numbers.proofs.tables.links_at.Statement.{statement}
-use Rattle.encoder_numbers.proofs.tables.links_at.Tie as tie
+use Rattle.encoder_numbers.proofs.tables.neighbour_count.Statement.{statement}
+use Rattle.encoder_numbers.proofs.tables.neighbour_count.Tie as tie
 
 abbrev b : tie.Start → Board
 b c = gridBoard (c .args .g) (c .args .«record» .now)
@@ -30,5 +30,5 @@ returns c =
     let s = c .before .before .before in
     links-sum (b s) (s .args .x) (earlier west) (west ∷ []) (c .before .links-before .ensures) (c .open-there .ensures)
 
-pub links-at-spec : {M : Type 1} → statement M
-links-at-spec = tie.close (tie.spec links-before-requires open-there-requires add-result returns)
+pub neighbour-count-spec : {M : Type 1} → statement M
+neighbour-count-spec = tie.close (tie.spec links-before-requires open-there-requires add-result returns)
