@@ -7,9 +7,9 @@ ghost use Rattle.rules.specs.Directions.{bit};
 ghost use Rattle.rules.specs.Record.{size};
 ghost use Rattle.rules.specs.Board.{gridBoard};
 ghost use Rattle.rules.specs.Drawing.{linkSum};
-ghost use Rattle.encoder.specs.Decoding.{drawnLink, valueOf, decoded};
+ghost use Rattle.encoder.specs.Decoding.{drawnLink, valueOf, decoded, drawnAt};
 ghost use Rattle.encoder_numbers.specs.Tables.{OpenCell};
-ghost use Rattle.decoder.specs.Values.{byteAt, Valued};
+ghost use Rattle.decoder.specs.Values.{Valued};
 use answers::Place;
 use encoder_numbers::Sizes;
 use encoder_numbers::cells::link_number;
@@ -66,7 +66,7 @@ fn link_sum(g: Grid, record: &[u8], values: &[u8], sizes: Sizes, table: &[usize]
 fn byte_at(g: Grid, record: &[u8], values: &[u8], sizes: Sizes, table: &[usize], x: usize) -> u8
     requires { ⌜ Valued g (now «record») (now values) sizes (now table) ⌝ }
     requires { ⌜ x < size g ⌝ }
-    ensures { λ r. ⌜ r ≡ byteAt (gridBoard g (now («record» .entry))) (now (values .entry)) x ⌝ }
+    ensures { λ r. let b = gridBoard g (now («record» .entry)) in ⌜ r ≡ drawnAt b (valueOf b (now (values .entry))) x ⌝ }
 {
     let open = is_open(g, record, x);
     if !open {

@@ -8,9 +8,9 @@ ghost use Rattle.answers.specs.Lent.{unlessRefused};
 ghost use Rattle.rules.specs.Record.{size, RecordFits};
 ghost use Rattle.rules.specs.Board.{gridBoard};
 ghost use Rattle.rules.specs.Judge.{judgeRows, saysYes, ruleVerdictOutcome};
-ghost use Rattle.encoder.specs.Decoding.{decoded, decoderAnswer, decoderLeaves};
+ghost use Rattle.encoder.specs.Decoding.{decoded, decoderGridRows, decoderAnswer, decoderLeaves};
 ghost use Rattle.decoder.specs.Values.{Valued};
-ghost use Rattle.decoder.specs.Answer.{valueRows, gridRows, decodedOutcome};
+ghost use Rattle.decoder.specs.Answer.{valueRows, decodedOutcome};
 use answers::Place;
 use drawing::draw;
 use encoder_numbers::Sizes;
@@ -116,9 +116,11 @@ fn judged(
 // 8, 7, 9 and 10 to 15, in order, over a grid that was read.
 pub fn decode_grid(g: Grid, record: &[u8], values: &[u8], drawing: &mut [u8]) -> Decoded
     requires { ⌜ RecordFits g (now «record») ⌝ }
-    ensures { λ r. ⌜ decodedOutcome r ≡ firstRefusal (gridRows g (now («record» .entry)) (now (values .entry)) (now (drawing .entry))) saysYes ⌝ }
-    ensures { λ r. let t = firstRefusal (gridRows g (now («record» .entry)) (now (values .entry)) (now (drawing .entry))) saysYes in
-        ⌜ now (drawing .exit) ≡ unlessRefused t (now (drawing .entry)) (decoded (gridBoard g (now («record» .entry))) (now (values .entry))) ⌝ }
+    ensures { λ r. let b = gridBoard g (now («record» .entry)) in
+        ⌜ decodedOutcome r ≡ firstRefusal (decoderGridRows b (now (values .entry)) (now (drawing .entry))) saysYes ⌝ }
+    ensures { λ r. let b = gridBoard g (now («record» .entry)) in
+        let t = firstRefusal (decoderGridRows b (now (values .entry)) (now (drawing .entry))) saysYes in
+        ⌜ now (drawing .exit) ≡ unlessRefused t (now (drawing .entry)) (decoded b (now (values .entry))) ⌝ }
 {
     let mut table = [0usize; TABLE];
     let sizes = fill(g, record, &mut table);

@@ -15,7 +15,7 @@ use Rattle.rules.specs.Board.{boardOf}
 use Rattle.rules.specs.Judge.{judgeRows, saysYes}
 use Rattle.rules_theory.proofs.Theorems as rules
 use Rattle.dimacs.specs.Text.{textOf}
-use Rattle.dimacs.specs.Reader.{listOf, headerOf}
+use Rattle.dimacs.specs.Reader.{listRead, headerRead}
 use Rattle.dimacs.specs.Calls.{writerRows, readerRows, writerAnswer, readerAnswer}
 use Rattle.dimacs_theory.proofs.Theorems as dimacs
 use Rattle.dimacs_theory.proofs.Calls.{reader-passed}
@@ -49,8 +49,8 @@ demand-1 =
           by-rows (answer (length (textOf v ls)) 0 0) refl _ (writerRows v ls (length out)) refl refl
           (untouched (writerAnswer v ls out) out (filled out (textOf v ls)));
       text-reader = λ text out.
-          by-rows (answer (length (listOf text)) (headerOf text .variables) (headerOf text .clauses)) refl _ (readerRows text (length out)) refl refl
-          (untouched (readerAnswer text out) out (filled out (listOf text)));
+          by-rows (answer (length (listRead text)) (headerRead text .variables) (headerRead text .clauses)) refl _ (readerRows text (length out)) refl refl
+          (untouched (readerAnswer text out) out (filled out (listRead text)));
       first-place = λ p n m. (first-some p n m, some-first p n);
       value-place = encoder.value-place;
       clue-place = rules.clue-place;

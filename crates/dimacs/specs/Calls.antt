@@ -8,7 +8,7 @@ use Rattle.answers.specs.Outcome.{answer, Row, row, cause, firstRefusal}
 use Rattle.answers.specs.Lent.{tooShort, filled, unlessRefused}
 use Rattle.cnf.specs.Literals.{tooManyVariables, wrongList}
 use Rattle.dimacs.specs.Text.{textOf}
-use Rattle.dimacs.specs.Reader.{refusedAt, listOf, headerOf}
+use Rattle.dimacs.specs.Reader.{refusedAt, listRead, headerRead}
 
 -- writer 17 (for V alone), 16, 6
 abbrev pub writerRows : ℕ → List ℤ → ℕ → List Row
@@ -29,13 +29,13 @@ writerLeaves v ls buf = unlessRefused (writerAnswer v ls buf) buf (filled buf (t
 abbrev pub readerRows : List ℕ → ℕ → List Row
 readerRows text room =
     row 19 (refusedAt text) ∷
-    row 6 (tooShort room (length (listOf text))) ∷
+    row 6 (tooShort room (length (listRead text))) ∷
     []
 
 -- a text, a lent buffer: the count of elements, V and the number of clauses
 abbrev pub readerAnswer : List ℕ → List ℤ → Outcome
 readerAnswer text buf =
-    firstRefusal (readerRows text (length buf)) (answer (length (listOf text)) (headerOf text .variables) (headerOf text .clauses))
+    firstRefusal (readerRows text (length buf)) (answer (length (listRead text)) (headerRead text .variables) (headerRead text .clauses))
 
 abbrev pub readerLeaves : List ℕ → List ℤ → List ℤ
-readerLeaves text buf = unlessRefused (readerAnswer text buf) buf (filled buf (listOf text))
+readerLeaves text buf = unlessRefused (readerAnswer text buf) buf (filled buf (listRead text))

@@ -150,9 +150,9 @@ abbrev pub refusedAt : List ℕ → Option ℕ
 refusedAt text = refusedFrom stepByte accepts line text 0
 
 -- the list that is read
-abbrev pub listOf : List ℕ → List ℤ
-listOf text = listFrom line text
+abbrev pub listRead : List ℕ → List ℤ
+listRead text = listFrom line text
 
 -- V and the number of clauses that are read
-abbrev pub headerOf : List ℕ → Header
-headerOf text = next (endFrom stepByte line text) noHeader headerIn
+abbrev pub headerRead : List ℕ → Header
+headerRead text = next (endFrom stepByte line text) noHeader headerIn

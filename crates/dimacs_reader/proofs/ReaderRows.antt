@@ -16,7 +16,7 @@ use Rattle.answers.proofs.Rows.{Left, left-all, left-next, left-turn, left-done
 use Rattle.answers.proofs.Settled.{short-by, long-enough, settles}
 use Rattle.cnf.specs.Literals.{mostVariables}
 use Rattle.dimacs.specs.Automaton.{next}
-use Rattle.dimacs.specs.Reader.{headerWith, State, line, noHeader, headerIn, refusedAt, listOf, headerOf}
+use Rattle.dimacs.specs.Reader.{headerWith, State, line, noHeader, headerIn, refusedAt, listRead, headerRead}
 use Rattle.dimacs.specs.Tokens.{stands, refused, headerAt}
 use Rattle.dimacs.specs.Calls.{readerRows, readerAnswer, readerLeaves}
 use Rattle.dimacs_reader.specs.declared.Listed.{Listed}
@@ -29,11 +29,11 @@ abbrev Reads : List ℕ → List ℤ → Outcome → List ℤ → Type 0
 Reads text buf u new = (u ≡ readerAnswer text buf) × (new ≡ readerLeaves text buf)
 
 abbrev outcome : List ℕ → Outcome
-outcome text = answer (length (listOf text)) (headerOf text .variables) (headerOf text .clauses)
+outcome text = answer (length (listRead text)) (headerRead text .variables) (headerRead text .clauses)
 
 module _ (text : List ℕ) (buf : List ℤ) where
-  reads : {u : Outcome} {new : List ℤ} → u ≡ readerAnswer text buf → new ≡ unlessRefused u buf (filled buf (listOf text)) → Reads text buf u new
-  reads = settles buf (filled buf (listOf text))
+  reads : {u : Outcome} {new : List ℤ} → u ≡ readerAnswer text buf → new ≡ unlessRefused u buf (filled buf (listRead text)) → Reads text buf u new
+  reads = settles buf (filled buf (listRead text))
 
   -- no row is passed yet
   past-none : Left (readerRows text (length buf)) (outcome text) (readerRows text (length buf))
@@ -81,10 +81,10 @@ module _ (text : List ℕ) (buf : List ℤ) {v c a : ℕ} (e : headerAt text 0 �
       past-text : Left (readerRows text (length buf)) (outcome text) (drop 1 (readerRows text (length buf)))
       past-text = left-next (past-none text buf) (sym (place ∙ ap placeOf q))
 
-      many : n ≡ length (listOf text)
+      many : n ≡ length (listRead text)
       many = ap countOf (sym q ∙ l) ∙ rw taken (ap length (sym (head .run .list)))
 
-      header-is : headerWith v c ≡ headerOf text
+      header-is : headerWith v c ≡ headerRead text
       header-is =
           sym (ap (λ (s : Option State). next s noHeader headerIn)
           (head .run .ends ∙ body-ends text (headerWith v c) a 0 false taken))
@@ -94,7 +94,8 @@ module _ (text : List ℕ) (buf : List ℤ) {v c a : ℕ} (e : headerAt text 0 �
 
       pub body-read : n ≤ length buf → {new : List ℤ} → new ≡ sets buf 0 (listAt text (headerWith v c) a) → Reads text buf (answer n v c) new
       body-read o {new} w =
-          let all : Wrote buf 0 (listOf text) new (0 + length (listOf text)) = record { place = refl; holds = w ∙ ap (sets buf 0) (sym (head .run .list)) } in
-          let room : length (listOf text) ≤ length buf = omega (arith, many) in
+          let all : Wrote buf 0 (listRead text) new (0 + length (listRead text)) =
+          record { place = refl; holds = w ∙ ap (sets buf 0) (sym (head .run .list)) } in
+          let room : length (listRead text) ≤ length buf = omega (arith, many) in
           let s = reads text buf (left-done (left-next past-text (sym (long-enough (length buf) room)))) (wrote-filled all room) in
           ((λ i. answer (many i) (header-is i .variables) (header-is i .clauses)) ∙ s .0, s .1)

@@ -18,7 +18,7 @@ use Rattle.answers.proofs.Settled.{enough}
 use Rattle.cnf.specs.Literals.{closes, mostVariables, tooManyVariables, wrongList}
 use Rattle.cnf.specs.Clauses.{clauseCount}
 use Rattle.dimacs.specs.Text.{textOf, HasText}
-use Rattle.dimacs.specs.Reader.{refusedAt, listOf}
+use Rattle.dimacs.specs.Reader.{refusedAt, listRead}
 use Rattle.dimacs.specs.Calls.{writerAnswer, readerAnswer}
 use Rattle.dimacs_theory.specs.Reading.{ReadAs, Writes, Reads, written, elementsRead}
 
@@ -46,10 +46,10 @@ module _ (v : ℕ) (ls : List ℤ) (buf : List ℕ) where
     writer-hands = let a = writer-answers in (λ i. take (a .outcome i .first) (a .left i)) ∙ take-append-seam (textOf v ls) _
 
 module _ (text : List ℕ) (buf : List ℤ) where
-  pub reader-passed : readerAnswer text buf .number ≡ 0 → (refusedAt text ≡ none) × (length (listOf text) ≤ length buf)
+  pub reader-passed : readerAnswer text buf .number ≡ 0 → (refusedAt text ≡ none) × (length (listRead text) ≤ length buf)
   reader-passed e =
       let a = past 19 (refusedAt text) _ (omega arith) e in
-      let b = past 6 (tooShort (length buf) (length (listOf text))) _ (omega arith) (a .1) in
+      let b = past 6 (tooShort (length buf) (length (listRead text))) _ (omega arith) (a .1) in
       (a .0, enough (length buf) (b .0))
 
   module _ {v : ℕ} {ls : List ℤ} (r : ReadAs text v ls) (h : length ls ≤ length buf) where

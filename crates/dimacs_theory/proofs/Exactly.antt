@@ -11,7 +11,7 @@ use mathlib.Core.List.{List, [], _∷_, _++_}
 use Rattle.cnf.specs.Clauses.{clauseCount}
 use Rattle.dimacs.specs.Text.{commentLines, Narrow, Accepted}
 use Rattle.dimacs.specs.Automaton.{next}
-use Rattle.dimacs.specs.Reader.{Header, State, line, stepByte, accepts, noHeader, headerIn, refusedAt, headerOf}
+use Rattle.dimacs.specs.Reader.{Header, State, line, stepByte, accepts, noHeader, headerIn, refusedAt, headerRead}
 use Rattle.dimacs_theory.specs.Place.{Refused, Automaton}
 use Rattle.dimacs_theory.specs.Reading.{ReadAs}
 use Rattle.dimacs_theory.proofs.Automata.{accepted-ends, ends-accepted, place}
@@ -40,7 +40,7 @@ pub accepted-read : {text : List ℕ} (a : Accepted text) → ReadAs text (a .na
 accepted-read {text} a =
     let r = accepted-run a in
     let n = clauseCount (a .narrow .list) in
-    let h : headerOf text ≡ record { variables = a .narrow .variables; clauses = n } = ap (λ o. next o noHeader headerIn) (ends r) in
+    let h : headerRead text ≡ record { variables = a .narrow .variables; clauses = n } = ap (λ o. next o noHeader headerIn) (ends r) in
     record {
       taken = ends-accepted stepByte accepts line text 0 (_, ends r, eq-eqb n n refl);
       list = reads r;

@@ -16,7 +16,7 @@ use Rattle.dimacs.specs.declared.Written.{Written}
 use Rattle.dimacs.specs.declared.Reading.{Reading}
 use Rattle.dimacs.specs.Text.{textOf, HasText, Narrow, Accepted}
 use Rattle.dimacs.specs.Automaton.{refusedFrom}
-use Rattle.dimacs.specs.Reader.{Header, refusedAt, listOf, headerOf}
+use Rattle.dimacs.specs.Reader.{Header, refusedAt, listRead, headerRead}
 use Rattle.dimacs.specs.Tokens.{stands, numberAt, elementAt, headerAt}
 use Rattle.dimacs.specs.Calls.{writerAnswer, readerAnswer}
 use Rattle.dimacs.specs.Answers.{writtenOutcome, readingOutcome}
@@ -36,7 +36,7 @@ pub reads-back : (v : ℕ) (ls : List ℤ) → HasText v ls → ReadAs (textOf v
 reads-back v ls w = exact.accepted-read (exact.narrow-accepted (record { variables = v; list = ls; hasText = w; is = refl }))
 
 -- A text in the narrow form is, byte for byte, the text of what is read from it ..
-pub rewritten : (text : List ℕ) → Narrow text → text ≡ textOf (headerOf text .variables) (listOf text)
+pub rewritten : (text : List ℕ) → Narrow text → text ≡ textOf (headerRead text .variables) (listRead text)
 rewritten text n = let r = exact.accepted-read (exact.narrow-accepted n) in rw (r .variables, r .list) (n .is)
 
 -- .. and the texts in the narrow form are those that the reader takes and that have no comment line: the first byte is no `c`.
@@ -52,7 +52,8 @@ takes-accepted = exact.exactly
 pub reads-accepted : (text : List ℕ) (a : Accepted text) → ReadAs text (a .narrow .variables) (a .narrow .list)
 reads-accepted text a = exact.accepted-read a
 
-pub reads-has-text : (text : List ℕ) → Accepted text → HasText (headerOf text .variables) (listOf text) × (headerOf text .clauses ≡ clauseCount (listOf text))
+pub reads-has-text : (text : List ℕ) → Accepted text
+    → HasText (headerRead text .variables) (listRead text) × (headerRead text .clauses ≡ clauseCount (listRead text))
 reads-has-text text a = let r = exact.accepted-read a in rw (r .variables, r .list) (a .narrow .hasText, r .clauses)
 
 -- The place of refusal 19: the bytes before it are the beginning of some accepted text; if it is inside the text, the bytes up to and

@@ -8,15 +8,15 @@ use mathlib.Core.List.{List}
 use Rattle.answers.specs.Outcome.{answer}
 use Rattle.answers.specs.Lent.{filled}
 use Rattle.cnf.specs.Clauses.{clauseCount}
-use Rattle.dimacs.specs.Reader.{refusedAt, listOf, headerOf}
+use Rattle.dimacs.specs.Reader.{refusedAt, listRead, headerRead}
 use Rattle.dimacs.specs.Calls.{writerAnswer, writerLeaves, readerAnswer, readerLeaves}
 
 -- the reader takes the text and reads V, the list and its number of clauses
 pub record ReadAs (text : List ℕ) (v : ℕ) (ls : List ℤ) : Type 0 where
   pub taken : refusedAt text ≡ none
-  pub list : listOf text ≡ ls
-  pub variables : headerOf text .variables ≡ v
-  pub clauses : headerOf text .clauses ≡ clauseCount ls
+  pub list : listRead text ≡ ls
+  pub variables : headerRead text .variables ≡ v
+  pub clauses : headerRead text .clauses ≡ clauseCount ls
 
 -- the writer answers: the text is written, and its length told
 pub record Writes (v : ℕ) (ls : List ℤ) (buf text : List ℕ) : Type 0 where

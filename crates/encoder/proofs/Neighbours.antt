@@ -10,7 +10,7 @@ use Rattle.rules.specs.declared.Direction.{Direction}
 use Rattle.rules.specs.declared.Direction.the-variants.{North as north, East as east, South as south, West as west}
 use Rattle.rules.specs.Board.{Board}
 use Rattle.rules.proofs.Boards.{Laws}
-use Rattle.encoder.specs.Variables.{Variable, directions, opens, Neighbour, ifOpen, ifThere, neighbours, turn}
+use Rattle.encoder.specs.Variables.{Variable, directions, opens, Neighbour, ifOpen, ifThere, neighbours, directionNumber}
 use Rattle.answers.proofs.Elements.{all-at, in-each, of-each, in-upTo, in-keep, of-keep, apart-each, apart-from, apart-keep, map-each}
 
 pub of-opens : (b : Board) {x : ℕ} → x ∈ opens b → b .isOpen x ≡ true
@@ -28,13 +28,13 @@ in-directions east = List·Memᴰ·tail (List·Memᴰ·head refl)
 in-directions south = List·Memᴰ·tail (List·Memᴰ·tail (List·Memᴰ·head refl))
 in-directions west = List·Memᴰ·tail (List·Memᴰ·tail (List·Memᴰ·tail (List·Memᴰ·head refl)))
 
-apart-directions : ApartBy turn directions
+apart-directions : ApartBy directionNumber directions
 apart-directions = (
-  λ y m. all-at (λ y. 0 ≡ turn y → ⊥) {xs = east ∷ south ∷ west ∷ []} (omega arith) m,
+  λ y m. all-at (λ y. 0 ≡ directionNumber y → ⊥) {xs = east ∷ south ∷ west ∷ []} (omega arith) m,
   (
-    λ y m. all-at (λ y. 1 ≡ turn y → ⊥) {xs = south ∷ west ∷ []} (omega arith) m,
+    λ y m. all-at (λ y. 1 ≡ directionNumber y → ⊥) {xs = south ∷ west ∷ []} (omega arith) m,
     (
-      λ y m. all-at (λ y. 2 ≡ turn y → ⊥) {xs = west ∷ []} (omega arith) m,
+      λ y m. all-at (λ y. 2 ≡ directionNumber y → ⊥) {xs = west ∷ []} (omega arith) m,
       (λ y m. absurd (List·Memᴰ·not-nil m), tt),
     ),
   ),
@@ -70,7 +70,7 @@ in-neighbours b x ds y m k = in-each (λ d. ifThere b d (b .next d x)) m (rw (k 
 pub links-apart : (b : Board) (x : ℕ) (f : Neighbour → Variable) → ((y z : Neighbour) → f y ≡ f z → y .way ≡ z .way) → Apart (map f (neighbours b x directions))
 links-apart b x f tell =
     rw (map-each f (λ d. ifThere b d (b .next d x)) directions)
-    (apart-each turn (λ d. map f (ifThere b d (b .next d x))) directions apart-directions (λ d m. one d (b .next d x)) key)
+    (apart-each directionNumber (λ d. map f (ifThere b d (b .next d x))) directions apart-directions (λ d m. one d (b .next d x)) key)
   where
     one : (d : Direction) (o : Option ℕ) → Apart (map f (ifThere b d o))
     one d none = tt
@@ -80,10 +80,11 @@ links-apart b x f tell =
         by true = (λ v m. absurd (List·Memᴰ·not-nil m), tt)
         by false = tt
 
-    key : (d e : Direction) (v : Variable) → v ∈ map f (ifThere b d (b .next d x)) → v ∈ map f (ifThere b e (b .next e x)) → turn d ≡ turn e
+    key : (d e : Direction) (v : Variable) → v ∈ map f (ifThere b d (b .next d x)) → v ∈ map f (ifThere b e (b .next e x))
+        → directionNumber d ≡ directionNumber e
     key d e v m n =
         let r = Memᴰ·of-map f (ifThere b d (b .next d x)) m in
         let s = Memᴰ·of-map f (ifThere b e (b .next e x)) n in
         let i = of-one b x d (r .0) (b .next d x) refl (r .1) in
         let k = of-one b x e (s .0) (b .next e x) refl (s .1) in
-        ap turn (sym (i .0) ∙ tell (r .0) (s .0) (r .2 ∙ sym (s .2)) ∙ k .0)
+        ap directionNumber (sym (i .0) ∙ tell (r .0) (s .0) (r .2 ∙ sym (s .2)) ∙ k .0)

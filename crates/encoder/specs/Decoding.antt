@@ -34,9 +34,13 @@ abbrev pub drawnByte : Bool → Bool → (Direction → Bool) → ℕ
 drawnByte true black link = bit black * 0x10 + linkSum link
 drawnByte false black link = 0x20
 
--- Z gives black. The drawing, one byte a cell
+-- Z gives black: the byte of a cell
+abbrev pub drawnAt : Board → (Variable → Bool) → ℕ → ℕ
+drawnAt b w x = drawnByte (b .isOpen x) (w (Z x)) (drawnLink b w x)
+
+-- the drawing, one byte a cell
 abbrev pub drawn : Board → (Variable → Bool) → List ℕ
-drawn b w = map (λ x. drawnByte (b .isOpen x) (w (Z x)) (drawnLink b w x)) (upTo (b .size))
+drawn b w = map (drawnAt b w) (upTo (b .size))
 
 abbrev pub decoded : Board → List ℕ → List ℕ
 decoded b values = drawn b (valueOf b values)
@@ -60,14 +64,17 @@ pub record FirstWrongValue (values : List ℕ) (n : ℕ) : Type 0 where
   pub number : n ≡ suc index
   pub first : LeastWith (λ i. 1 < getD values i 0) (length values) index
 
--- decoder 1-5, 8, 7, 9, 10-15: the drawing goes to the judge (whose 7 is not there, the drawing has N bytes)
-abbrev pub decoderRows : List ℕ → List ℕ → List ℕ → List Row
-decoderRows s values lent =
-    recordRows s ++ (
-    row 8 (wrongValues (boardOf s) values) ∷
-    row 7 (wrongDrawing (boardOf s) lent) ∷
+-- 8, 7, 9, 10-15, of a grid that was read: the drawing goes to the judge (whose 7 is not there, the drawing has N bytes)
+abbrev pub decoderGridRows : Board → List ℕ → List ℕ → List Row
+decoderGridRows b values lent =
+    row 8 (wrongValues b values) ∷
+    row 7 (wrongDrawing b lent) ∷
     row 9 (wrongValue values) ∷
-    judgeRows (boardOf s) (decoded (boardOf s) values))
+    judgeRows b (decoded b values)
+
+-- decoder 1-5, 8, 7, 9, 10-15
+abbrev pub decoderRows : List ℕ → List ℕ → List ℕ → List Row
+decoderRows s values lent = recordRows s ++ decoderGridRows (boardOf s) values lent
 
 abbrev pub decoderAnswer : List ℕ → List ℕ → List ℕ → Outcome
 decoderAnswer s values lent = firstRefusal (decoderRows s values lent) saysYes

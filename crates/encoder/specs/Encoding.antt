@@ -7,13 +7,17 @@ use Rattle.answers.specs.declared.Outcome.{Outcome}
 use Rattle.answers.specs.Outcome.{answer, Row, row, firstRefusal}
 use Rattle.answers.specs.Lent.{tooShort, filled, unlessRefused}
 use Rattle.rules.specs.Record.{recordRows}
-use Rattle.rules.specs.Board.{boardOf}
+use Rattle.rules.specs.Board.{Board, boardOf}
 use Rattle.encoder.specs.Variables.{variableCount}
 use Rattle.encoder.specs.Clauses.{clauses, clauseList}
 
+-- 6, of a grid that was read
+abbrev pub encoderGridRows : Board → List ℤ → List Row
+encoderGridRows b out = row 6 (tooShort (length out) (length (clauseList b))) ∷ []
+
 -- encoder 1-5, 6
 abbrev pub encoderRows : List ℕ → List ℤ → List Row
-encoderRows s out = recordRows s ++ (row 6 (tooShort (length out) (length (clauseList (boardOf s)))) ∷ [])
+encoderRows s out = recordRows s ++ encoderGridRows (boardOf s) out
 
 -- the count of elements written, V and the number of clauses
 abbrev pub encoderAnswer : List ℕ → List ℤ → Outcome

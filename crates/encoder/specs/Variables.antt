@@ -121,34 +121,34 @@ abbrev pub variableCount : Board → ℕ
 variableCount b = length (variables b)
 
 -- directions compared: as numbers
-abbrev pub turn : Direction → ℕ
-turn north = 0
-turn east = 1
-turn south = 2
-turn west = 3
+abbrev pub directionNumber : Direction → ℕ
+directionNumber north = 0
+directionNumber east = 1
+directionNumber south = 2
+directionNumber west = 3
 
-abbrev pub ofTurn : ℕ → Direction
-ofTurn zero = north
-ofTurn (suc zero) = east
-ofTurn (suc (suc zero)) = south
-ofTurn (suc (suc (suc n))) = west
+abbrev pub ofDirectionNumber : ℕ → Direction
+ofDirectionNumber zero = north
+ofDirectionNumber (suc zero) = east
+ofDirectionNumber (suc (suc zero)) = south
+ofDirectionNumber (suc (suc (suc n))) = west
 
-pub turn-back : (d : Direction) → ofTurn (turn d) ≡ d
-turn-back north = refl
-turn-back east = refl
-turn-back south = refl
-turn-back west = refl
+pub direction-number-back : (d : Direction) → ofDirectionNumber (directionNumber d) ≡ d
+direction-number-back north = refl
+direction-number-back east = refl
+direction-number-back south = refl
+direction-number-back west = refl
 
-abbrev pub sameWay : (d e : Direction) → Dec (d ≡ e)
-sameWay d e = by (ℕ-discrete (turn d) (turn e))
+abbrev pub sameDirection : (d e : Direction) → Dec (d ≡ e)
+sameDirection d e = by (ℕ-discrete (directionNumber d) (directionNumber e))
   where
-    by : Dec (turn d ≡ turn e) → Dec (d ≡ e)
-    by (yes p) = yes (sym (turn-back d) ∙ ap ofTurn p ∙ turn-back e)
-    by (no n) = no (λ p. n (ap turn p))
+    by : Dec (directionNumber d ≡ directionNumber e) → Dec (d ≡ e)
+    by (yes p) = yes (sym (direction-number-back d) ∙ ap ofDirectionNumber p ∙ direction-number-back e)
+    by (no n) = no (λ p. n (ap directionNumber p))
 
 unfoldable pub same : (v u : Variable) → Dec (v ≡ u)
 unfolding ℕ-discrete
-same = variable-discrete ℕ-discrete sameWay
+same = variable-discrete ℕ-discrete sameDirection
 
 abbrev pub placeStep : {A : Type 0} → Dec A → ℕ → ℕ
 placeStep (yes e) n = 0

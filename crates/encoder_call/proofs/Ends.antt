@@ -22,7 +22,7 @@ use Rattle.cnf.specs.Literals.{mostVariables}
 use Rattle.rules.proofs.Records.{refusal-number, passes-up, read-sides, read-fits, is-accepted, goes-on}
 use Rattle.encoder.specs.Variables.{variableCount}
 use Rattle.encoder.specs.Clauses.{clauseList}
-use Rattle.encoder.specs.Encoding.{encoderAnswer, encoderLeaves}
+use Rattle.encoder.specs.Encoding.{encoderGridRows, encoderAnswer, encoderLeaves}
 use Rattle.encoder.specs.Bounds.{NotBeyond, BoundedBoard}
 use Rattle.answers.proofs.Elements.{all-in, all-at}
 use Rattle.encoder.proofs.Bounds.{few-variables, list-not-beyond}
@@ -35,7 +35,7 @@ use Rattle.encoder_size.specs.Counts.{countsOf}
 use Rattle.encoder_call.specs.declared.EncodeRefusal.{EncodeRefusal}
 use Rattle.encoder_call.specs.declared.Encoded.{Encoded}
 use Rattle.encoder_call.specs.declared.Encoded.the-variants.{Refused}
-use Rattle.encoder_call.specs.Answer.{countsOutcome, encodedOutcome, roomRows, Encodable}
+use Rattle.encoder_call.specs.Answer.{countsOutcome, encodedOutcome, Encodable}
 use Rattle.encoder_call.proofs.Outcomes.{encode-numbers}
 
 -- a refusal has a number
@@ -63,16 +63,16 @@ module _ {g : Grid} {s : List ℕ} (w : Encodable g s) where
   -- what the call tells after the reader's rows, and leaves
   abbrev pub GridEnds : List ℤ → Outcome → List ℤ → Type 0
   GridEnds out u new =
-      (u ≡ firstRefusal (roomRows (gridBoard g s) out) (countsOutcome (countsOf (gridBoard g s))))
-      × (new ≡ unlessRefused (firstRefusal (roomRows (gridBoard g s) out) (countsOutcome (countsOf (gridBoard g s)))) out (filled out list))
+      (u ≡ firstRefusal (encoderGridRows (gridBoard g s) out) (countsOutcome (countsOf (gridBoard g s))))
+      × (new ≡ unlessRefused (firstRefusal (encoderGridRows (gridBoard g s) out) (countsOutcome (countsOf (gridBoard g s)))) out (filled out list))
 
   module _ (out : List ℤ) {c : Counts} (e : c ≡ countsOf (gridBoard g s)) where
     elements : c .elements ≡ length list
     elements = ap (λ (c : Counts). c .elements) e
 
-    ends : {u : Outcome} {new : List ℤ} → RowsGive (roomRows (gridBoard g s) out) (countsOutcome (countsOf (gridBoard g s))) u
+    ends : {u : Outcome} {new : List ℤ} → RowsGive (encoderGridRows (gridBoard g s) out) (countsOutcome (countsOf (gridBoard g s))) u
         → new ≡ unlessRefused u out (filled out list) → GridEnds out u new
-    ends = settled (roomRows (gridBoard g s) out) (countsOutcome (countsOf (gridBoard g s))) out (filled out list)
+    ends = settled (encoderGridRows (gridBoard g s) out) (countsOutcome (countsOf (gridBoard g s))) out (filled out list)
 
     pub ends-short : length out < c .elements → GridEnds out (refusal 6 (c .elements)) out
     ends-short l = rw elements (ends (refuses (short-by (length out) (omega (arith, elements)) few)) refl)
@@ -95,13 +95,13 @@ module _ (s : List ℕ) (out : List ℤ) where
 
   pub ends-refused : {p : Parsed} {r : RecordRefusal} → p ≡ NotRead r → parsedOutcome p ≡ recordAnswer s → Ends (recordRefusalOutcome r) out
   ends-refused {r = r} q e =
-      let t : recordRefusalOutcome r ≡ encoderAnswer s out = passes-up s (roomRows (boardOf s) out) (countsOutcome (countsOf (boardOf s))) q e in
+      let t : recordRefusalOutcome r ≡ encoderAnswer s out = passes-up s (encoderGridRows (boardOf s) out) (countsOutcome (countsOf (boardOf s))) q e in
       (t, sym (untouched (encoderAnswer s out) out (filled out (clauseList (boardOf s))) (λ z. refusal-number r (ap (λ (u : Outcome). u .number) t ∙ z))))
 
   module _ {p : Parsed} {g : Grid} (q : p ≡ Accepted g) (e : parsedOutcome p ≡ recordAnswer s) where
     pub ends-read : {u : Outcome} {new : List ℤ} → GridEnds (read-encodable s q e) out u new → Ends u new
     ends-read (a, b) =
-        let t = goes-on s q e (λ g. roomRows (gridBoard g s) out) (countsOutcome (countsOf (boardOf s))) in
-        let told : Grid → Outcome = (λ g'. firstRefusal (roomRows (gridBoard g s) out) (countsOutcome (countsOf (gridBoard g' s)))) in
+        let t = goes-on s q e (λ g. encoderGridRows (gridBoard g s) out) (countsOutcome (countsOf (boardOf s))) in
+        let told : Grid → Outcome = (λ g'. firstRefusal (encoderGridRows (gridBoard g s) out) (countsOutcome (countsOf (gridBoard g' s)))) in
         let z : told g ≡ encoderAnswer s out = ap told (read-sides s q e) ∙ t in
         (a ∙ z, b ∙ (λ i. unlessRefused (z i) out (filled out (clauseList (gridBoard (read-sides s q e i) s)))))

@@ -1,15 +1,11 @@
--- What the encoder's answer tells, and its row of "Turned down" after the record reader's.
+-- What the encoder's answer tells, and what the functions ask that write a grid's clauses.
 use Prim.Native.Nat.{ℕ}
-use lib.IntN.{ℤ}
-use lib.ListN.{length}
-use mathlib.Core.List.{List, [], _∷_}
+use mathlib.Core.List.{List}
 use Rattle.answers.specs.declared.Outcome.{Outcome}
-use Rattle.answers.specs.Outcome.{refusal, answer, Row, row}
-use Rattle.answers.specs.Lent.{tooShort}
+use Rattle.answers.specs.Outcome.{refusal, answer}
 use Rattle.rules.specs.declared.Grid.{Grid}
 use Rattle.rules.specs.Record.{recordRefusalOutcome, RecordFits}
-use Rattle.rules.specs.Board.{Board, gridBoard}
-use Rattle.encoder.specs.Clauses.{clauseList}
+use Rattle.rules.specs.Board.{gridBoard}
 use Rattle.encoder.specs.Bounds.{BoundedBoard}
 use Rattle.encoder_size.specs.declared.Counts.{Counts}
 use Rattle.encoder_call.specs.declared.EncodeRefusal.{EncodeRefusal}
@@ -28,10 +24,6 @@ countsOutcome c = answer (c .elements) (c .variables) (c .clauses)
 abbrev pub encodedOutcome : Encoded → Outcome
 encodedOutcome (Written c) = countsOutcome c
 encodedOutcome (Refused u) = encodeRefusalOutcome u
-
--- 6, over the grid that was read
-abbrev pub roomRows : Board → List ℤ → List Row
-roomRows b out = row 6 (tooShort (length out) (length (clauseList b))) ∷ []
 
 -- what the functions ask that write a grid's clauses: its record, and that nothing is too large (the reader sees to both)
 pub record Encodable (g : Grid) (s : List ℕ) : Type 0 where

@@ -4,9 +4,9 @@ ghost use Rattle.answers.specs.Outcome.{firstRefusal};
 ghost use Rattle.answers.specs.Lent.{filled, unlessRefused};
 ghost use Rattle.rules.specs.Board.{gridBoard};
 ghost use Rattle.encoder.specs.Clauses.{clauseList};
-ghost use Rattle.encoder.specs.Encoding.{encoderAnswer, encoderLeaves};
+ghost use Rattle.encoder.specs.Encoding.{encoderGridRows, encoderAnswer, encoderLeaves};
 ghost use Rattle.encoder_size.specs.Counts.{countsOf};
-ghost use Rattle.encoder_call.specs.Answer.{encodeRefusalOutcome, countsOutcome, encodedOutcome, roomRows, Encodable};
+ghost use Rattle.encoder_call.specs.Answer.{encodeRefusalOutcome, countsOutcome, encodedOutcome, Encodable};
 use answers::Outcome;
 use answers::answered;
 use answers::refused;
@@ -73,9 +73,9 @@ pub fn encode_grid(g: Grid, record: &[u8], counts: Counts, list: &mut [i32]) -> 
     requires { ⌜ Encodable g (now «record») ⌝ }
     requires { ⌜ counts ≡ countsOf (gridBoard g (now «record»)) ⌝ }
     ensures { λ r. let b = gridBoard g (now («record» .entry)) in
-        ⌜ encodedOutcome r ≡ firstRefusal (roomRows b (now (list .entry))) (countsOutcome (countsOf b)) ⌝ }
+        ⌜ encodedOutcome r ≡ firstRefusal (encoderGridRows b (now (list .entry))) (countsOutcome (countsOf b)) ⌝ }
     ensures { λ r. let b = gridBoard g (now («record» .entry)) in let before = now (list .entry) in
-        ⌜ now (list .exit) ≡ unlessRefused (firstRefusal (roomRows b before) (countsOutcome (countsOf b))) before (filled before (clauseList b)) ⌝ }
+        ⌜ now (list .exit) ≡ unlessRefused (firstRefusal (encoderGridRows b before) (countsOutcome (countsOf b))) before (filled before (clauseList b)) ⌝ }
 {
     let needed = counts.elements;
     if list.len() < needed {

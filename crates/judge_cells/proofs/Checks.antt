@@ -19,7 +19,7 @@ use Rattle.rules.specs.Directions.{opposite, bit}
 use Rattle.rules.specs.Record.{Puzzle, size, OnBoard, RecordFits, DrawingFits, puzzle}
 use Rattle.rules.specs.Board.{Board, neighbour, openCell, openAt, line, clueOf, cluesFrom, board, gridBoard}
 use Rattle.rules.specs.Drawing.{weight, linkAt, blackAt}
-use Rattle.rules.specs.Judge.{badByte, there, touchesAt, unmatchedLink, foundClue, unmetClue}
+use Rattle.rules.specs.Judge.{badByte, there, touchesAt, unmatchedLink, unlessMet, unmetClue}
 use Rattle.judge_cells.specs.declared.Test.{Test}
 use Rattle.judge_cells.specs.declared.Test.the-variants.{DrawingByte, Touching, ClueNotMet, LinkUnmatched, NotTwoLinks, White}
 use Rattle.judge_cells.specs.Tests.{unmetCell, unmetAt, testAt, firstOf}
@@ -95,7 +95,7 @@ module _ (p : Puzzle) (ds : List ℕ) where
       later : (k : ℕ) → k < length cs → getD (p .cells) (suc a + k) Open ≡ getD cs k Open
       later k h = let e : a + suc k ≡ suc a + k = omega arith in rw e at (at (suc k) (omega arith))
 
-      turned : (t : Bool) (rest : Option ℕ) → found (not t) a rest ≡ foundClue t a rest
+      turned : (t : Bool) (rest : Option ℕ) → found (not t) a rest ≡ unlessMet t a rest
       turned true rest = refl
       turned false rest = refl
 
@@ -103,7 +103,7 @@ module _ (p : Puzzle) (ds : List ℕ) where
           → found (unmetCell p (blackAt ds) a c) a (firstFrom (unmetAt p ds) (suc a) (length cs)) ≡ unmetClue (blackAt ds)
           (clueOf p a c ++ cluesFrom p (suc a) cs)
       by Open ih = ih
-      by (Clued d n) ih = turned (eqb (howMany (blackAt ds) (line p d a)) n) _ ∙ ap (foundClue (eqb (howMany (blackAt ds) (line p d a)) n) a) ih
+      by (Clued d n) ih = turned (eqb (howMany (blackAt ds) (line p d a)) n) _ ∙ ap (unlessMet (eqb (howMany (blackAt ds) (line p d a)) n) a) ih
 
   unmet-first : Filled p → firstWhere (unmetAt p ds) (size (p .grid)) ≡ unmetClue (blackAt ds) (cluesFrom p 0 (p .cells))
   unmet-first f = ap (firstWhere (unmetAt p ds)) (sym f) ∙ unmet-from (p .cells) 0 (λ k h. let e : 0 + k ≡ k = omega arith in rw e)

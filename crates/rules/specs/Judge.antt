@@ -63,14 +63,14 @@ module _ (b : Board) (ds : List ℕ) where
   abbrev pub offLoopAt : ℕ → ℕ → Bool
   offLoopAt s x = whiteAt x && not (among x (loopCells (b .size) (b .next) (linkAt ds) s))
 
-abbrev pub foundClue : Bool → ℕ → Option ℕ → Option ℕ
-foundClue true x rest = rest
-foundClue false x rest = some x
+abbrev pub unlessMet : Bool → ℕ → Option ℕ → Option ℕ
+unlessMet true x rest = rest
+unlessMet false x rest = some x
 
 -- the cell of the first clue whose line has not its number of black cells
 abbrev pub unmetClue : (ℕ → Bool) → List Clue → Option ℕ
 unmetClue black [] = none
-unmetClue black (c ∷ cs) = foundClue (eqb (howMany black (c .line)) (c .number)) (c .cell) (unmetClue black cs)
+unmetClue black (c ∷ cs) = unlessMet (eqb (howMany black (c .line)) (c .number)) (c .cell) (unmetClue black cs)
 
 abbrev pub fromFirst : Option ℕ → (ℕ → Option ℕ) → Option ℕ
 fromFirst none off = some 0

@@ -20,7 +20,7 @@ use Rattle.answers.specs.Lists.{howMany, All}
 use Rattle.rules.specs.Directions.{opposite, degree}
 use Rattle.rules.specs.Board.{Clue, Board}
 use Rattle.rules.specs.Drawing.{Links, Reach, byteLink, linkAt, blackAt, Allowed, SolutionBytes}
-use Rattle.rules.specs.Judge.{there, touchesAt, unmatchedLink, unmatchedLinkAt, whiteAt, offLoopAt, foundClue, unmetClue, fromFirst, wrongDrawing, wrongByte}
+use Rattle.rules.specs.Judge.{there, touchesAt, unmatchedLink, unmatchedLinkAt, whiteAt, offLoopAt, unlessMet, unmetClue, fromFirst, wrongDrawing, wrongByte}
 use Rattle.rules.specs.Judge.{touching, clueNotMet, linkUnmatched, notTwoLinks, notOneLoop, judgeRows}
 use Rattle.rules.proofs.Boards.{Laws}
 use Rattle.rules_theory.specs.Places.{Met}
@@ -38,14 +38,14 @@ module _ (ds : List ℕ) where
   clues-met [] e = tt
   clues-met (c ∷ cs) e = by (eqb (howMany (blackAt ds) (c .line)) (c .number)) refl e (clues-met cs)
     where
-      by : (t : Bool) → eqb (howMany (blackAt ds) (c .line)) (c .number) ≡ t → foundClue t (c .cell) (unmetClue (blackAt ds) cs) ≡ none
+      by : (t : Bool) → eqb (howMany (blackAt ds) (c .line)) (c .number) ≡ t → unlessMet t (c .cell) (unmetClue (blackAt ds) cs) ≡ none
           → (unmetClue (blackAt ds) cs ≡ none → All (Met ds) cs) → All (Met ds) (c ∷ cs)
       by true q e go = (eqb-true _ _ q, go e)
       by false q e go = absurd (Option·some-ne-none (c .cell) e)
 
   met-clues : (cs : List Clue) → All (Met ds) cs → unmetClue (blackAt ds) cs ≡ none
   met-clues [] h = refl
-  met-clues (c ∷ cs) h = ap (λ t. foundClue t (c .cell) (unmetClue (blackAt ds) cs)) (eq-eqb _ _ (h .0)) ∙ met-clues cs (h .1)
+  met-clues (c ∷ cs) h = ap (λ t. unlessMet t (c .cell) (unmetClue (blackAt ds) cs)) (eq-eqb _ _ (h .0)) ∙ met-clues cs (h .1)
 
 module _ {b : Board} (law : Laws b) (ds : List ℕ) where
   -- 7: drawing not N bytes

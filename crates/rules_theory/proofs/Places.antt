@@ -15,7 +15,7 @@ use Rattle.answers.proofs.Bools.{clash, off, true-not, and-both, both-and}
 use Rattle.rules.specs.Board.{Clue, Board}
 use Rattle.rules.specs.Drawing.{Links, linkAt, blackAt}
 use Rattle.rules.specs.Walk.{loopCells, among}
-use Rattle.rules.specs.Judge.{whiteAt, offLoopAt, foundClue, unmetClue, fromFirst, clueNotMet, notOneLoop}
+use Rattle.rules.specs.Judge.{whiteAt, offLoopAt, unlessMet, unmetClue, fromFirst, clueNotMet, notOneLoop}
 use Rattle.rules.proofs.Boards.{InOrder, Laws}
 use Rattle.rules_theory.specs.Places.{Met, FirstUnmet, Unreached, FirstUnreached, no-white, off-loop}
 use Rattle.rules_theory.proofs.Whole.{reaches}
@@ -32,7 +32,7 @@ module _ (ds : List ℕ) where
   first-unmet [] o x e = absurd (Option·some-ne-none x (sym e))
   first-unmet (c ∷ cs) (h, o) x e = by (test c) refl e (first-unmet cs o x)
     where
-      by : (t : Bool) → test c ≡ t → foundClue t (c .cell) (unmet cs) ≡ some x → (unmet cs ≡ some x → FirstUnmet cs ds x) → FirstUnmet (c ∷ cs) ds x
+      by : (t : Bool) → test c ≡ t → unlessMet t (c .cell) (unmet cs) ≡ some x → (unmet cs ≡ some x → FirstUnmet cs ds x) → FirstUnmet (c ∷ cs) ds x
       by true q e go =
           let u = go e in
           record {
@@ -64,12 +64,12 @@ module _ (ds : List ℕ) where
   unmet-first [] o x u = absurd (List·Memᴰ·not-nil (u .among-clues))
   unmet-first (c ∷ cs) (h, o) x u = by (List·Memᴰ·cases-cons (u .among-clues)) (unmet-first cs o x)
     where
-      by : (u .clue ≡ c) ⊎ (u .clue ∈ cs) → (FirstUnmet cs ds x → unmet cs ≡ some x) → foundClue (test c) (c .cell) (unmet cs) ≡ some x
+      by : (u .clue ≡ c) ⊎ (u .clue ∈ cs) → (FirstUnmet cs ds x → unmet cs ≡ some x) → unlessMet (test c) (c .cell) (unmet cs) ≡ some x
       by (inl p) go =
-          ap (λ t. foundClue t (c .cell) (unmet cs)) (ne-eqb _ _ (subst (λ (c : Clue). Met ds c → ⊥) p (u .unmet)))
+          ap (λ t. unlessMet t (c .cell) (unmet cs)) (ne-eqb _ _ (subst (λ (c : Clue). Met ds c → ⊥) p (u .unmet)))
           ∙ ap some (ap (λ (c : Clue). c .cell) (sym p) ∙ u .in-cell)
       by (inr m) go =
-          ap (λ t. foundClue t (c .cell) (unmet cs)) (eq-eqb _ _ (u .first c (List·Memᴰ·head refl) (rw (← (u .in-cell)) (h (u .clue) m))))
+          ap (λ t. unlessMet t (c .cell) (unmet cs)) (eq-eqb _ _ (u .first c (List·Memᴰ·head refl) (rw (← (u .in-cell)) (h (u .clue) m))))
           ∙ go (record {
             clue = u .clue;
             among-clues = m;

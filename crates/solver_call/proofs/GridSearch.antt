@@ -13,9 +13,8 @@ use Rattle.rules.specs.Record.{IsAccepted, RecordFits}
 use Rattle.rules.specs.Board.{gridBoard, boardOf}
 use Rattle.rules.specs.Judge.{saysYes}
 use Rattle.rules.proofs.Records.{is-accepted, read-sides, read-fits, goes-on}
-use Rattle.decoder.specs.Answer.{gridRows}
 use Rattle.encoder.specs.Variables.{variableCount}
-use Rattle.encoder.specs.Decoding.{decoded, decoderLeaves}
+use Rattle.encoder.specs.Decoding.{decoded, decoderLeaves, decoderGridRows}
 use Rattle.search.specs.Trail.{slices, filledSlices, image, trailOf}
 use Rattle.search.specs.Run.{Ending, Found as DoneFound, None as DoneNone, Halted as DoneHalted, Done, doneOutcome}
 use Rattle.search.specs.Call.{Search, searchOn, Handed, handed, Searching, IsTaken, handsDone, handsTaken}
@@ -109,12 +108,12 @@ module _ {g : Grid} {s : List ℕ} {needed : Needs} {ls ts : List ℤ} {ms vs ds
 
   -- what the decoder leaves, over the grid that was read
   abbrev gridLeaves : Grid → List ℕ → List ℕ → List ℕ
-  gridLeaves g values lent = unlessRefused (firstRefusal (gridRows g s values lent) saysYes) lent (decoded (gridBoard g s) values)
+  gridLeaves g values lent = unlessRefused (firstRefusal (decoderGridRows (gridBoard g s) values lent) saysYes) lent (decoded (gridBoard g s) values)
 
   grid-leaves : (values lent : List ℕ) → gridLeaves g values lent ≡ decoderLeaves s values lent
   grid-leaves values lent =
       λ i.
-      unlessRefused (goes-on s refl (fits .read) (λ g. gridRows g s values lent) saysYes i) lent
+      unlessRefused (goes-on s refl (fits .read) (λ g. decoderGridRows (gridBoard g s) values lent) saysYes i) lent
       (decoded (gridBoard (read-sides s refl (fits .read) i) s) values)
 
   -- after the search

@@ -8,7 +8,7 @@ ghost use Rattle.text.specs.Decimal.{decimal};
 
 // The digits of a number below 10^8.
 fn narrow_width(n: usize) -> usize
-    requires { ⌜ n < 100000000 ⌝ }
+    requires { ⌜ n < 10 ^ 8 ⌝ }
     ensures { λ r. ⌜ r ≡ length (decimal n) ⌝ }
 {
     if n < 10 {

@@ -1,5 +1,6 @@
 // The records that are tried.
 ghost use Prim.Native.Nat.{_*_, _<_, _≤_};
+ghost use Rattle.rules.specs.Record.{mostCells};
 
 // The most bytes of a record: 24×24 has 6 + 576.
 pub(crate) const BYTES: usize = 582;
@@ -18,7 +19,7 @@ fn cell(digit: u64) -> u8 {
 
 // The record of a grid whose cells are made of a number's digits to some base, the lowest first; zeros after it.
 pub(crate) fn numbered(rows: usize, columns: usize, base: u64, number: u64) -> [u8; BYTES]
-    requires { ⌜ (rows ≤ 24) × (columns ≤ 24) × (rows * columns ≤ 576) ⌝ }
+    requires { ⌜ (rows ≤ 24) × (columns ≤ 24) × (rows * columns ≤ mostCells) ⌝ }
     requires { ⌜ 0 < base ⌝ }
 {
     let end = 6 + rows * columns;

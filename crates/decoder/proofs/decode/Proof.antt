@@ -8,9 +8,8 @@ use Rattle.rules.specs.Record.{sides}
 use Rattle.rules.specs.Board.{gridBoard, boardOf}
 use Rattle.rules.specs.Judge.{saysYes}
 use Rattle.rules.proofs.Records.{passes-up, read-sides, read-fits, goes-on}
-use Rattle.encoder.specs.Decoding.{decoded, decoderRows, decoderAnswer}
+use Rattle.encoder.specs.Decoding.{decoded, decoderGridRows, decoderRows, decoderAnswer}
 use Rattle.decoder.specs.declared.DecodeRefusal.the-variants.{Record}
-use Rattle.decoder.specs.Answer.{gridRows}
 use Rattle.decoder.proofs.Answers.{ends-refused}
 use borrow.Author.Needs.{needs}
 use Rattle.decoder.proofs.decode.Statement.{statement}
@@ -32,8 +31,9 @@ read c = c .before .before .before
 
 -- the call is left to the rows after the reader's
 goes : (c : tie.After-known-told)
-    → let r = read c in firstRefusal (gridRows (c .before .p .given .0 .0) (s r) (values r) (lent r)) saysYes ≡ decoderAnswer (s r) (values r) (lent r)
-goes c = let r = read c in goes-on (s r) (c .before .p .given .1) (r .read .ensures) (λ g. gridRows g (s r) (values r) (lent r)) saysYes
+    → let r = read c in
+    firstRefusal (decoderGridRows (gridBoard (c .before .p .given .0 .0) (s r)) (values r) (lent r)) saysYes ≡ decoderAnswer (s r) (values r) (lent r)
+goes c = let r = read c in goes-on (s r) (c .before .p .given .1) (r .read .ensures) (λ g. decoderGridRows (gridBoard g (s r)) (values r) (lent r)) saysYes
 
 read-requires : tie.Need-read-requires
 read-requires c κs = search needs
@@ -51,7 +51,7 @@ returns : tie.Need-returns
 returns c =
     let r = c .before .before .before in
     ends-refused (decoderRows (s r) (values r) (lent r)) (lent r) (decoded (boardOf (s r)) (values r)) (Record (c .refusal .result)) refl
-    (passes-up (s r) (gridRows (sides (s r)) (s r) (values r) (lent r)) saysYes (c .refusal .ensures) (r .read .ensures))
+    (passes-up (s r) (decoderGridRows (boardOf (s r)) (values r) (lent r)) saysYes (c .refusal .ensures) (r .read .ensures))
 
 decode-grid-requires : tie.Need-decode-grid-requires
 decode-grid-requires c κs = let k = c .before in let r = read k in read-fits (s r) (k .before .p .given .1) (r .read .ensures)

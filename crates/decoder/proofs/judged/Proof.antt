@@ -8,9 +8,8 @@ use Rattle.answers.specs.Outcome.{Row, firstRefusal}
 use Rattle.rules.specs.Record.{size}
 use Rattle.rules.specs.Board.{Board, gridBoard}
 use Rattle.rules.specs.Judge.{ruleRows, judgeRows, saysYes}
-use Rattle.encoder.specs.Decoding.{decoded}
+use Rattle.encoder.specs.Decoding.{valueOf, drawnAt, decoded}
 use Rattle.answers.proofs.Elements.{made-long}
-use Rattle.decoder.specs.Values.{byteAt}
 use Rattle.decoder.specs.Answer.{decodedOutcome}
 use Rattle.decoder.proofs.Answers.{ends-refused, ends-yes, front, copied, rules-left}
 use borrow.Author.Needs.{needs}
@@ -28,7 +27,7 @@ abbrev rows : tie.Start → List Row
 rows c = judgeRows (b c) (picture c)
 
 long : (c : tie.Start) → length (picture c) ≡ size (c .args .g)
-long c = made-long (byteAt (b c) (c .args .values .now)) (size (c .args .g))
+long c = made-long (drawnAt (b c) (valueOf (b c) (c .args .values .now))) (size (c .args .g))
 
 -- the start, from where the drawing was made, judged, and found to be right
 abbrev s1 : tie.After-size → tie.Start
@@ -42,7 +41,9 @@ abbrev own : tie.After-size → List ℕ
 own c = take (c .size .result) (c .before .before .draw .last .1 .1 .1 .1 .1 .0)
 
 drawn : (c : tie.After-size) → own c ≡ picture (s1 c)
-drawn c = let s = s1 c in front (byteAt (b s) (s .args .values .now)) (size (s .args .g)) _ (c .size .ensures) (c .before .before .draw .ensures)
+drawn c =
+    let s = s1 c in
+    front (drawnAt (b s) (valueOf (b s) (s .args .values .now))) (size (s .args .g)) _ (c .size .ensures) (c .before .before .draw .ensures)
 
 own-long : (c : tie.After-size) → length (own c) ≡ size (s1 c .args .g)
 own-long c = ap length (drawn c) ∙ long (s1 c)

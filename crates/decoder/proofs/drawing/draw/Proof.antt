@@ -3,13 +3,14 @@ use Prim.Native.Nat.{_-_}
 use native.Mathlib.Omega.{arith}
 use borrow.Author.Needs.{needs}
 use Rattle.rules.specs.Board.{gridBoard}
+use Rattle.encoder.specs.Decoding.{valueOf, drawnAt}
 use Rattle.decoder.proofs.Filled.{Filling, fill-start, fill-inside, fill-on, fill-long, fill-end}
-use Rattle.decoder.specs.Values.{byteAt}
 use Rattle.decoder.proofs.drawing.draw.Statement.{statement}
 use Rattle.decoder.proofs.drawing.draw.Tie as tie
 
 abbrev Inv-loop : tie.InvT-loop
-Inv-loop g «record» values sizes table drawing₀ n x₀ drawing x = Filling (byteAt (gridBoard g «record») values) n drawing₀ drawing x
+Inv-loop g «record» values sizes table drawing₀ n x₀ drawing x =
+    let b = gridBoard g «record» in Filling (drawnAt b (valueOf b values)) n drawing₀ drawing x
 
 abbrev μ-loop : tie.MeasureT-loop
 μ-loop g «record» values sizes table drawing₀ n x₀ drawing x = n - x
@@ -20,7 +21,8 @@ size-requires c κs = c .before .before .before .before .pre .0 .tables .recordF
 loop-holds : tie.Need-loop-holds Inv-loop μ-loop
 loop-holds c =
     let s = c .before .before .before .before .before in
-    fill-start (byteAt (gridBoard (s .args .g) (s .args .«record» .now)) (s .args .values .now)) (s .args .drawing .now) (c .size .ensures) (s .pre .1)
+    let b = gridBoard (s .args .g) (s .args .«record» .now) in
+    fill-start (drawnAt b (valueOf b (s .args .values .now))) (s .args .drawing .now) (c .size .ensures) (s .pre .1)
 
 byte-at-requires : tie.Need-byte-at-requires Inv-loop μ-loop
 byte-at-requires c κs = (c .before .before .before .before .before .before .before .pre .0, omega (arith, c .before .before .size .ensures))

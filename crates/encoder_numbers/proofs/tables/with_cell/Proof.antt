@@ -29,7 +29,8 @@ with-open : (c : tie.After-neighbour-count) → let s = s1 c in
     (sizesBelow (s .args .g) (s .args .«record» .now) (s .args .x + 1))
 with-open c =
     let s = s1 c in
-    sizes-open (s .pre .0) (s .pre .1 .0) (s .pre .1 .1) (c .before .before .before .cell .ensures) (c .before .enum-told .given .1) (c .neighbour-count .ensures)
+    sizes-open (s .pre .0) (s .pre .1 .0) (s .pre .1 .1) (c .before .before .before .cell .ensures) (c .before .enum-told .given .1)
+    (c .neighbour-count .ensures)
 
 with-clue : (c : tie.After-line-end) → let s = s2 c in
     _≡_ {A = Sizes}
