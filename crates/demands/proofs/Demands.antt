@@ -10,7 +10,7 @@ use Rattle.answers.proofs.First.{first-some, some-first}
 use Rattle.answers.proofs.Rows.{answered-clear, clear-answered}
 use Rattle.answers.proofs.ByRows.{by-rows, short}
 use Rattle.answers.proofs.Settled.{untouched}
-use Rattle.rules.specs.Record.{sides, recordRows}
+use Rattle.rules.specs.Record.{gridOf, recordRows, gridAnswer}
 use Rattle.rules.specs.Board.{boardOf}
 use Rattle.rules.specs.Judge.{judgeRows, saysYes}
 use Rattle.rules_theory.proofs.Theorems as rules
@@ -36,7 +36,7 @@ use Rattle.demands.proofs.DecoderTable.{decoder-call}
 pub demand-1 : Demand1
 demand-1 =
     record {
-      record-reader = λ s. by-rows (answer (sides s .rows) (sides s .columns) 0) refl _ (recordRows s) refl refl (λ n. tt);
+      record-reader = λ s. by-rows (gridAnswer (gridOf s)) refl _ (recordRows s) refl refl (λ n. tt);
       judge = λ s ds. by-rows saysYes refl _ (recordRows s ++ judgeRows (boardOf s) ds) refl refl (λ n. tt);
       encoder = λ s out.
           by-rows (answer (length (clauseList (boardOf s))) (variableCount (boardOf s)) (length (clauses (boardOf s)))) refl _ (encoderRows s out) refl refl

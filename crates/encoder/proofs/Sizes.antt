@@ -1,31 +1,18 @@
 -- Which boards are bounded: those of grids with sides to 45 and numbers to 44; so those of accepted records. Assumes nothing.
-use Prim.Native.Nat.{ℕ, suc, _+_, _*_, _/_, _%_, _≤_}
+use Prim.Native.Nat.{ℕ, suc, _+_, _*_, _≤_}
 use native.Mathlib.Omega.{arith}
 use native.Mathlib.Nat.{mul-le-mul}
-use lib.Dec.{eqb, leb}
-use lib.ListN.{length, drop}
-use borrow.Author.Tests.{leb-true, not-false}
-use mathlib.Core.Path.{_≡_}
-use mathlib.Core.Bool.{Bool, true, false, not, _&&_}
+use lib.ListN.{length}
 use mathlib.Core.List.{List, [], _∷_}
 use Rattle.answers.specs.Lists.{All}
-use Rattle.answers.proofs.Bools.{and-both, or-neither}
-use Rattle.answers.proofs.Rows.{no-cause}
 use Rattle.rules.specs.declared.Cell.{Cell}
 use Rattle.rules.specs.declared.Cell.the-variants.{Open, Clue as Clued}
-use Rattle.rules.specs.declared.CellByte.the-variants.{Is, NotAllowed}
-use Rattle.rules.specs.Record.{Puzzle, directionOf, isCell, cellOf, sides, size, puzzle, isSide, IsAccepted}
+use Rattle.rules.specs.Record.{Puzzle, gridOf, size, puzzle, IsAccepted}
 use Rattle.rules.specs.Board.{Clue, cluesFrom, board, boardOf}
 use Rattle.rules.proofs.Boards.{Filled}
-use Rattle.rules.proofs.Records.{fits-filled, accepted-clear, accepted-fits}
+use Rattle.rules.proofs.Records.{numberOf, puzzle-filled, numbers-small, accepted-rows, accepted-columns}
 use Rattle.encoder.specs.Bounds.{BoundedBoard}
-use Rattle.answers.proofs.Elements.{all-map}
 use Rattle.encoder.proofs.Lines.{line-short}
-
--- the number of a clue
-abbrev pub numberOf : Cell → ℕ
-numberOf Open = 0
-numberOf (Clued d n) = n
 
 module _ (p : Puzzle) (rows : p .grid .rows ≤ 45) (columns : p .grid .columns ≤ 45) where
   clues-few : (x : ℕ) (cs : List Cell) → length (cluesFrom p x cs) ≤ length cs
@@ -46,22 +33,6 @@ module _ (p : Puzzle) (rows : p .grid .rows ≤ 45) (columns : p .grid .columns 
       let f = clues-few 0 (p .cells) in
       record { cells = omega arith; clues = omega (arith, filled); short = clues-short 0 (p .cells) (omega (arith, filled)) numbers }
 
--- the number in a cell byte is four bits (the bound is that of numbers to 44)
-pub cell-small : (v : ℕ) → numberOf (cellOf v) ≤ 44
-cell-small v = by (eqb v 0) (leb 0x10 v && leb v 0x4F)
-  where
-    by : (s t : Bool)
-        → numberOf (isCell (mathlib.Core.Bool.cond s (Is Open) (mathlib.Core.Bool.cond t (Is (Clued (directionOf (v / 16)) (v % 16))) NotAllowed))) ≤ 44
-    by true t = omega arith
-    by false true = omega arith
-    by false false = omega arith
-
-side-small : (n : ℕ) → isSide n ≡ true → n ≤ 45
-side-small n h = let l : n ≤ 24 = leb-true _ _ (and-both (leb 1 n) (leb n 24) h .1) in omega arith
-
 pub accepted-bounded : (s : List ℕ) → IsAccepted s → BoundedBoard (boardOf s)
 accepted-bounded s acc =
-    let (c1, (c2, (c3, c))) = accepted-clear s acc in
-    let w = or-neither (not (isSide (sides s .rows))) (not (isSide (sides s .columns))) (no-cause _ c3) in
-    bounded-board (puzzle (sides s) s) (side-small _ (not-false _ (w .0))) (side-small _ (not-false _ (w .1))) (fits-filled (accepted-fits s acc))
-    (all-map (λ c. numberOf c ≤ 44) cellOf (drop 6 s) (λ v m. cell-small v))
+    bounded-board (puzzle (gridOf s) s) (accepted-rows s acc) (accepted-columns s acc) (puzzle-filled (gridOf s) s) (numbers-small (gridOf s) s)

@@ -19,7 +19,7 @@ use Rattle.rules.specs.declared.RecordRefusal.{RecordRefusal}
 use Rattle.rules.specs.Record.{recordAnswer, recordRefusalOutcome, parsedOutcome}
 use Rattle.rules.specs.Board.{gridBoard, boardOf}
 use Rattle.cnf.specs.Literals.{mostVariables}
-use Rattle.rules.proofs.Records.{refusal-number, passes-up, read-sides, read-fits, is-accepted, goes-on}
+use Rattle.rules.proofs.Records.{refusal-number, passes-up, read-grid, read-fits, is-accepted, goes-on}
 use Rattle.encoder.specs.Variables.{variableCount}
 use Rattle.encoder.specs.Clauses.{clauseList}
 use Rattle.encoder.specs.Encoding.{encoderGridRows, encoderAnswer, encoderLeaves}
@@ -85,7 +85,7 @@ pub read-encodable : (s : List ℕ) {p : Parsed} {g : Grid} → p ≡ Accepted g
 read-encodable s q e =
     record {
       recordFits = read-fits s q e;
-      bounded = subst (λ g. BoundedBoard (gridBoard g s)) (sym (read-sides s q e)) (accepted-bounded s (is-accepted s q e));
+      bounded = subst (λ g. BoundedBoard (gridBoard g s)) (sym (read-grid s q e)) (accepted-bounded s (is-accepted s q e));
     }
 
 -- the whole call
@@ -103,5 +103,5 @@ module _ (s : List ℕ) (out : List ℤ) where
     ends-read (a, b) =
         let t = goes-on s q e (λ g. encoderGridRows (gridBoard g s) out) (countsOutcome (countsOf (boardOf s))) in
         let told : Grid → Outcome = (λ g'. firstRefusal (encoderGridRows (gridBoard g s) out) (countsOutcome (countsOf (gridBoard g' s)))) in
-        let z : told g ≡ encoderAnswer s out = ap told (read-sides s q e) ∙ t in
-        (a ∙ z, b ∙ (λ i. unlessRefused (z i) out (filled out (clauseList (gridBoard (read-sides s q e i) s)))))
+        let z : told g ≡ encoderAnswer s out = ap told (read-grid s q e) ∙ t in
+        (a ∙ z, b ∙ (λ i. unlessRefused (z i) out (filled out (clauseList (gridBoard (read-grid s q e i) s)))))

@@ -13,7 +13,7 @@ use Rattle.rules.specs.declared.Cell.the-variants.{Open, Clue as Clued}
 use Rattle.rules.specs.declared.Grid.{Grid}
 use Rattle.rules.specs.Record.{size, puzzle, mostCells, RecordFits}
 use Rattle.rules.specs.Board.{Clue, line, clueOf, cluesFrom, gridBoard}
-use Rattle.rules.proofs.Records.{fits-filled}
+use Rattle.rules.proofs.Records.{puzzle-filled}
 use Rattle.answers.specs.Lists.{upTo, each, joined}
 use Rattle.encoder.specs.Variables.{T, number}
 use Rattle.encoder.specs.Clauses.{clueClauses, clueLines, listOf}
@@ -46,7 +46,7 @@ module _ {g : Grid} {s : List ℕ} (h : RecordFits g s) (x : ℕ) (l : x < size 
   clue-some {d} {n} {first} q f =
       let b = gridBoard g s in
       let p = puzzle g s in
-      let w = fits-filled h in
+      let w = puzzle-filled g s in
       let k : Clue = record { cell = x; number = n; line = line p d x } in
       let m = at-clue p x (omega arith) (sym e ∙ q) in
       let r = place-t b (fits-laws h) k (cluesFrom p 0 (take x (p .cells))) 0 0 m (omega arith) (omega arith) in
@@ -62,7 +62,7 @@ module _ {g : Grid} {s : List ℕ} (h : RecordFits g s) where
   so-far (suc x) l =
       let p = puzzle g s in
       let F = clueClauses (gridBoard g s .isOpen) in
-      let w = fits-filled h in
+      let w = puzzle-filled g s in
       let e : 0 + x ≡ x = omega arith in
       ap (λ k. each (cluesFrom p 0 (take k (p .cells))) F) (sym (add-one x)) ∙ ap (λ cs. each cs F) (clues-next p x (omega arith))
       ∙ each-append F (cluesFrom p 0 (take x (p .cells))) (clueOf p x (getD (p .cells) x Open))
@@ -71,7 +71,7 @@ module _ {g : Grid} {s : List ℕ} (h : RecordFits g s) where
   pub lines-cells : clueLines (gridBoard g s) ≡ each (upTo (size g)) (clueAt (puzzle g s))
   lines-cells =
       let p = puzzle g s in
-      let w = fits-filled h in
+      let w = puzzle-filled g s in
       ap (λ cs. each (cluesFrom p 0 cs) (clueClauses (gridBoard g s .isOpen))) (sym (take-all (size g) (p .cells) (omega arith)))
       ∙ so-far (size g) (omega arith)
 

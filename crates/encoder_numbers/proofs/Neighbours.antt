@@ -14,7 +14,7 @@ use Rattle.rules.specs.Directions.{opposite}
 use Rattle.rules.specs.Record.{size, puzzle, mostCells, RecordFits}
 use Rattle.rules.specs.Board.{Board, gridBoard}
 use Rattle.rules.proofs.Boards.{Laws, laws}
-use Rattle.rules.proofs.Records.{fits-filled}
+use Rattle.rules.proofs.Records.{puzzle-filled}
 use Rattle.encoder.specs.Variables.{Z, S, E, Q, neighbours, openCount, number, rank, earlier}
 use Rattle.encoder.proofs.Neighbours.{in-opens}
 use Rattle.encoder.proofs.Places.{place-z, place-s, place-e, place-q}
@@ -26,7 +26,7 @@ use Rattle.encoder_numbers.specs.Numbered.{blackOf, noNeighbour, neighbo
 use Rattle.encoder_numbers.proofs.Numbers.{Few, sizes-few, there-none, there-some}
 
 pub fits-laws : {g : Grid} {s : List ℕ} → RecordFits g s → Laws (gridBoard g s)
-fits-laws {g} {s} h = laws (puzzle g s) (fits-filled h)
+fits-laws {g} {s} h = laws (puzzle g s) (puzzle-filled g s)
 
 -- there is an open cell, so F is not 0
 some-member : {A : Type 0} {x : A} {xs : List A} → x ∈ xs → 0 < length xs

@@ -14,9 +14,9 @@ use Rattle.rules.specs.declared.Direction.the-variants.{North as north, East as
 use Rattle.rules.specs.declared.Cell.{Cell}
 use Rattle.rules.specs.declared.Cell.the-variants.{Open, Clue as Clued}
 use Rattle.rules.specs.declared.Grid.{Grid}
-use Rattle.rules.specs.Record.{Puzzle, cellByte, size, puzzle, mostCells, RecordFits}
+use Rattle.rules.specs.Record.{Puzzle, size, puzzle, mostCells, RecordFits}
 use Rattle.rules.specs.Board.{Clue, Board, openCell, line, clueOf, cluesFrom, gridBoard}
-use Rattle.rules.proofs.Records.{cell-at, fits-filled}
+use Rattle.rules.proofs.Records.{numberOf, puzzle-filled, number-small}
 use Rattle.answers.specs.Lists.{upTo, each}
 use Rattle.encoder.specs.Variables.{directions, openCount, ifOpen, ifThere, neighbours, out, outgoing, linkVariables, clueCounts, counts, variableCount, lower}
 use Rattle.encoder.specs.Variables.{rank, linksBelow, earlier}
@@ -25,7 +25,6 @@ use Rattle.encoder.proofs.Places.{clue-long, total}
 use Rattle.encoder.proofs.Clues.{clues-next}
 use Rattle.encoder.proofs.Lines.{line-short}
 use Rattle.encoder.proofs.Bounds.{neighbours-most}
-use Rattle.encoder.proofs.Sizes.{numberOf, cell-small}
 use Rattle.encoder.proofs.ClauseLists.{rank-open, rank-shut, links-open, links-shut}
 use Rattle.judge_cells.proofs.Checks.{is-opened}
 use Rattle.encoder_numbers.specs.declared.Sizes.{Sizes}
@@ -128,23 +127,23 @@ line-few {g} {s} {x} h l d =
     omega arith
 
 -- the T variables of a cell
-pub counts-few : {g : Grid} {s : List ℕ} {x : ℕ} → RecordFits g s → x < size g → countsOf (puzzle g s) x ≤ 2 ^ 20
+pub counts-few : {g : Grid} {s : List ℕ} {x : ℕ} → RecordFits g s → x < size g → countsOf (puzzle g s) x ≤ 2 ^ 17
 counts-few {g} {s} {x} h l = by (getD (puzzle g s .cells) x Open) refl
   where
-    by : (c : Cell) → getD (puzzle g s .cells) x Open ≡ c → countsOf (puzzle g s) x ≤ 2 ^ 20
+    by : (c : Cell) → getD (puzzle g s .cells) x Open ≡ c → countsOf (puzzle g s) x ≤ 2 ^ 17
     by Open e = let z = no-counts (puzzle g s) x refl (sym e) in omega arith
     by (Clued d n) e =
         let z = clue-counts (puzzle g s) x refl (sym e) refl in
-        let m : n ≤ 44 = omega (arith, cell-small (cellByte s x), ap numberOf (cell-at g s x ∙ e)) in
+        let m : n ≤ 44 = omega (arith, number-small g s x l, ap numberOf e) in
         let j = length (line (puzzle g s) d x) in
         let k : (j + 1) * (n + 1) ≤ suc mostCells * 45 = mul-le-mul {n₂ = suc mostCells} {m₂ = 45} (omega (arith, line-few h l d)) (omega arith) in
         omega arith
 
 -- and of all: whatever the grid, nothing that is counted overflows
-pub below-few : {g : Grid} {s : List ℕ} → RecordFits g s → (x : ℕ) → x ≤ size g → countsBelow (puzzle g s) x ≤ x * 2 ^ 20
+pub below-few : {g : Grid} {s : List ℕ} → RecordFits g s → (x : ℕ) → x ≤ size g → countsBelow (puzzle g s) x ≤ x * 2 ^ 17
 below-few h zero l = omega arith
 below-few {g} {s} h (suc x) l =
-    let f = fits-filled h in
+    let f = puzzle-filled g s in
     let k = below-few h x (omega arith) in
     let e : countsBelow (puzzle g s) (suc x) ≡ countsBelow (puzzle g s) x + countsOf (puzzle g s) x = ap (countsBelow (puzzle g s)) (sym (add-one x))
     ∙ counts-on (puzzle g s) x (omega arith) in
@@ -152,14 +151,14 @@ below-few {g} {s} h (suc x) l =
 
 pub counts-are : {g : Grid} {s : List ℕ} → RecordFits g s → countsBelow (puzzle g s) (size g) ≡ length (counts (gridBoard g s))
 counts-are {g} {s} h =
-    let f = fits-filled h in ap (λ cs. length (each (cluesFrom (puzzle g s) 0 cs) clueCounts)) (take-all (size g) (puzzle g s .cells) (omega arith))
+    let f = puzzle-filled g s in ap (λ cs. length (each (cluesFrom (puzzle g s) 0 cs) clueCounts)) (take-all (size g) (puzzle g s .cells) (omega arith))
 
 -- 3. The sizes of the cells before x, one cell more, and their bounds
 
 module _ {g : Grid} {s : List ℕ} (h : RecordFits g s) {x : ℕ} (l : x < size g) {z : Sizes} (e : z ≡ sizesBelow g s x) {c : Cell}
     (q : c ≡ getD (puzzle g s .cells) x Open) where
   counts-next : countsBelow (puzzle g s) (x + 1) ≡ countsBelow (puzzle g s) x + countsOf (puzzle g s) x
-  counts-next = let f = fits-filled h in counts-on (puzzle g s) x (omega arith)
+  counts-next = let f = puzzle-filled g s in counts-on (puzzle g s) x (omega arith)
 
   opens-is : z .opens ≡ rank (gridBoard g s) x
   opens-is = ap (λ (z : Sizes). z .opens) e

@@ -15,11 +15,11 @@ use Rattle.answers.specs.Lists.{All, _∈_}
 use Rattle.answers.proofs.First.{first-with}
 use Rattle.rules.specs.declared.Direction.{Direction}
 use Rattle.rules.specs.declared.Cell.the-variants.{Open, Clue as Clued}
-use Rattle.rules.specs.Record.{Puzzle, puzzle, sides, size, IsAccepted}
+use Rattle.rules.specs.Record.{Puzzle, puzzle, gridOf, size, IsAccepted}
 use Rattle.rules.specs.Board.{Board, line, board, boardOf}
 use Rattle.rules.specs.Drawing.{blacksNearest, blackAt, SolutionBytes}
 use Rattle.rules.proofs.Boards.{Laws, Filled}
-use Rattle.rules.proofs.Records.{fits-filled, accepted-fits, accepted-laws}
+use Rattle.rules.proofs.Records.{numberOf, puzzle-filled, accepted-laws}
 use Rattle.cnf.specs.Literals.{mostVariables, tooManyVariables, wrongList}
 use Rattle.cnf.specs.Clauses.{clauseCount}
 use Rattle.encoder.specs.Variables.{T, variableCount}
@@ -67,7 +67,7 @@ pub never-refused-on : {b : Board} → Laws b → BoundedBoard b
 never-refused-on {b} law bounded = let h = bounds.few-variables bounded in (h, le-ltb mostVariables (variableCount b) h, bounds.list-not-wrong b law)
 
 -- .. as is that of each grid with sides to 45 and numbers to 44 ..
-pub bounded-board : (p : Puzzle) → p .grid .rows ≤ 45 → p .grid .columns ≤ 45 → Filled p → All (λ c. sizes.numberOf c ≤ 44) (p .cells) → BoundedBoard (board p)
+pub bounded-board : (p : Puzzle) → p .grid .rows ≤ 45 → p .grid .columns ≤ 45 → Filled p → All (λ c. numberOf c ≤ 44) (p .cells) → BoundedBoard (board p)
 bounded-board = sizes.bounded-board
 
 -- .. and so of an accepted record.
@@ -84,18 +84,18 @@ clause-count = bounds.clause-count
 -- clue
 -- in cell x with its direction and number: T(j,t) holds exactly if the judge, counting its line from the edge, has t black cells after j cells.
 pub side-by-side : (s : List ℕ) → IsAccepted s → (a : List Bool) → Satisfying s a → (ds : List ℕ) → DecodesTo s a ds
-    → (x : ℕ) (d : Direction) (n : ℕ) → x < size (sides s) → getD (puzzle (sides s) s .cells) x Open ≡ Clued d n → (j t : ℕ)
-    → j ≤ length (line (puzzle (sides s) s) d x) → t ≤ n
-    → valuation (boardOf s) a (T x j t) ≡ true ↔ blacksNearest (blackAt ds) (line (puzzle (sides s) s) d x) j ≡ t
+    → (x : ℕ) (d : Direction) (n : ℕ) → x < size (gridOf s) → getD (puzzle (gridOf s) s .cells) x Open ≡ Clued d n → (j t : ℕ)
+    → j ≤ length (line (puzzle (gridOf s) s) d x) → t ≤ n
+    → valuation (boardOf s) a (T x j t) ≡ true ↔ blacksNearest (blackAt ds) (line (puzzle (gridOf s) s) d x) j ≡ t
 side-by-side s acc a h ds dec x d n inside is j t l k = (λ p. eqb-true _ t (sym e ∙ p), λ p. e ∙ eq-eqb _ t p)
   where
-    clue : record { cell = x; number = n; line = line (puzzle (sides s) s) d x } ∈ boardOf s .clues
-    clue = let f = fits-filled (accepted-fits s acc) in clue-in (puzzle (sides s) s) x (omega arith) is
+    clue : record { cell = x; number = n; line = line (puzzle (gridOf s) s) d x } ∈ boardOf s .clues
+    clue = let f = puzzle-filled (gridOf s) s in clue-in (puzzle (gridOf s) s) x (omega arith) is
 
-    e : valuation (boardOf s) a (T x j t) ≡ eqb (blacksNearest (blackAt ds) (line (puzzle (sides s) s) d x) j) t
+    e : valuation (boardOf s) a (T x j t) ≡ eqb (blacksNearest (blackAt ds) (line (puzzle (gridOf s) s) d x) j) t
     e =
         exactly.draws-counts (boardOf s) (accepted-laws s acc) a (h .gives) (h .satisfies) _ clue j t l k
-        ∙ ap (λ ds. eqb (blacksNearest (blackAt ds) (line (puzzle (sides s) s) d x) j) t) (handed s acc a (h .gives) dec)
+        ∙ ap (λ ds. eqb (blacksNearest (blackAt ds) (line (puzzle (gridOf s) s) d x) j) t) (handed s acc a (h .gives) dec)
 
 -- What stands beside 9: the number of the first variable whose value is not 0 or 1.
 pub value-place : (values : List ℕ) (n : ℕ) → wrongValue values ≡ some n ↔ FirstWrongValue values n

@@ -24,7 +24,7 @@ use Rattle.judge_cells.specs.declared.Test.{Test}
 use Rattle.judge_cells.specs.declared.Test.the-variants.{DrawingByte, Touching, ClueNotMet, LinkUnmatched, NotTwoLinks, White}
 use Rattle.judge_cells.specs.Tests.{unmetCell, unmetAt, testAt, firstOf}
 use Rattle.rules.proofs.Boards.{Filled}
-use Rattle.rules.proofs.Records.{fits-filled}
+use Rattle.rules.proofs.Records.{puzzle-filled}
 use Rattle.rules.proofs.Steps.{stays-on}
 
 -- bytes of a drawing
@@ -50,7 +50,7 @@ open-at (c ∷ cs) (suc x) h = open-at cs x (omega arith)
 
 module _ {g : Grid} {s : List ℕ} {x : ℕ} (h : RecordFits g s) (inside : x < size g) where
   pub is-opened : {c : Cell} → c ≡ getD (puzzle g s .cells) x Open → openCell c ≡ gridBoard g s .isOpen x
-  is-opened e = let l = fits-filled h in ap openCell e ∙ open-at (puzzle g s .cells) x (omega arith)
+  is-opened e = let l = puzzle-filled g s in ap openCell e ∙ open-at (puzzle g s .cells) x (omega arith)
 
 -- a cell of a grid with its drawing
 pub on-drawn : {g : Grid} {s ds : List ℕ} {x : ℕ} → DrawingFits g s ds → x < size g → OnBoard g x
@@ -119,7 +119,7 @@ module _ (p : Puzzle) (ds : List ℕ) where
 
 pub sought : {g : Grid} {s ds : List ℕ} {o : Option ℕ} (t : Test) → DrawingFits g s ds → o ≡ firstWhere (testAt t (puzzle g s) ds) (size g)
     → o ≡ firstOf t (gridBoard g s) ds
-sought {g = g} {s = s} {ds = ds} t d e = e ∙ first-of (puzzle g s) ds (fits-filled (d .recordFits)) t
+sought {g = g} {s = s} {ds = ds} t d e = e ∙ first-of (puzzle g s) ds (puzzle-filled g s) t
 
 pub weight-positive : (d : Direction) → 0 < weight d
 weight-positive north = omega arith

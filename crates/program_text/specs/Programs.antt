@@ -5,7 +5,7 @@ use lib.ListN.{length}
 use mathlib.Core.Bool.{Bool, _||_, cond}
 use mathlib.Core.List.{List, [], _∷_, _++_}
 use Rattle.answers.specs.Outcome.{answer, Row, row, cause, firstRefusal}
-use Rattle.rules.specs.Record.{recordRows, sides}
+use Rattle.rules.specs.Record.{recordRows, gridOf}
 use Rattle.rules.specs.Board.{Board, boardOf}
 use Rattle.dimacs.specs.Text.{textOf}
 use Rattle.encoder.specs.Variables.{variableCount}
@@ -63,4 +63,4 @@ drawingAt b d = decoded b (bytesOf (valuesOf (variableCount b) (d .trail)))
 abbrev pub printedSolution : List ℕ → List ℕ
 printedSolution s =
     printed (programNumber s)
-    (endText (searched (boardOf s) .ending) (drawingText (sides s .columns) (drawingAt (boardOf s) (searched (boardOf s)))))
+    (endText (searched (boardOf s) .ending) (drawingText (gridOf s .columns) (drawingAt (boardOf s) (searched (boardOf s)))))

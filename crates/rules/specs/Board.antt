@@ -9,7 +9,7 @@ use Rattle.rules.specs.declared.Direction.the-variants.{North as north, 
 use Rattle.rules.specs.declared.Cell.{Cell}
 use Rattle.rules.specs.declared.Cell.the-variants.{Open, Clue as Clued}
 use Rattle.rules.specs.declared.Grid.{Grid}
-use Rattle.rules.specs.Record.{Puzzle, puzzle, sides, size}
+use Rattle.rules.specs.Record.{Puzzle, puzzle, gridOf, size}
 
 -- a clue on the board: its cell, its number, and its line, the cell nearest the edge first
 pub record Clue : Type 0 where
@@ -85,4 +85,4 @@ abbrev pub gridBoard : Grid → List ℕ → Board
 gridBoard g s = board (puzzle g s)
 
 abbrev pub boardOf : List ℕ → Board
-boardOf s = gridBoard (sides s) s
+boardOf s = gridBoard (gridOf s) s

@@ -12,14 +12,14 @@ pub enum Cell {
     Clue(Direction, u8),
 }
 
-// What a cell byte is.
-pub enum CellByte {
+// What a cell's code is.
+pub enum CellCode {
     Is(Cell),
     NotAllowed,
 }
 
-// The most cells that a grid has.
-pub const MOST_CELLS: usize = 576;
+// The most cells that a grid has: 45 times 45.
+pub const MOST_CELLS: usize = 2025;
 
 // The parsed grid: its sides. The cells stay in the record.
 pub struct Grid {

@@ -8,7 +8,7 @@ ghost use Rattle.rules.specs.Record.{readCell, notAllowed, word, size, p
 ghost use Rattle.rules.specs.Record.{IsRefused};
 ghost use Rattle.rules.specs.declared.Parsed.the-variants.{Refused};
 use super::Cell;
-use super::CellByte;
+use super::CellCode;
 use super::Direction;
 use super::Grid;
 use super::Parsed;
@@ -16,16 +16,16 @@ use super::RecordRefusal;
 use answers::Place;
 
 // The cell of a byte: 0 is open; the upper four bits of a clue tell the direction, the lower four the number.
-pub fn read_cell(b: u8) -> CellByte
+pub fn read_cell(b: u8) -> CellCode
     ensures { λ r. ⌜ r ≡ readCell b ⌝ }
 {
     match b {
-        0 => CellByte::Is(Cell::Open),
-        0x10..=0x1f => CellByte::Is(Cell::Clue(Direction::North, b % 16)),
-        0x20..=0x2f => CellByte::Is(Cell::Clue(Direction::East, b % 16)),
-        0x30..=0x3f => CellByte::Is(Cell::Clue(Direction::South, b % 16)),
-        0x40..=0x4f => CellByte::Is(Cell::Clue(Direction::West, b % 16)),
-        0x01..=0x0f | 0x50..=0xff => CellByte::NotAllowed,
+        0 => CellCode::Is(Cell::Open),
+        0x10..=0x1f => CellCode::Is(Cell::Clue(Direction::North, b % 16)),
+        0x20..=0x2f => CellCode::Is(Cell::Clue(Direction::East, b % 16)),
+        0x30..=0x3f => CellCode::Is(Cell::Clue(Direction::South, b % 16)),
+        0x40..=0x4f => CellCode::Is(Cell::Clue(Direction::West, b % 16)),
+        0x01..=0x0f | 0x50..=0xff => CellCode::NotAllowed,
     }
 }
 
@@ -47,7 +47,7 @@ impl Grid {
         ensures { λ r. ⌜ r ≡ getD (puzzle self (now («record» .entry)) .cells) x Open ⌝ }
     {
         let c = read_cell(record[6 + x]);
-        let CellByte::Is(cell) = c else {
+        let CellCode::Is(cell) = c else {
             return Cell::Open;
         };
         cell
@@ -58,7 +58,7 @@ fn not_allowed(b: u8) -> bool
     ensures { λ r. ⌜ r ≡ notAllowed (readCell b) ⌝ }
 {
     let c = read_cell(b);
-    let CellByte::Is(_) = c else {
+    let CellCode::Is(_) = c else {
         return true;
     };
     false

@@ -15,7 +15,7 @@ use Rattle.rules.specs.declared.Direction.{Direction}
 use Rattle.rules.specs.declared.Direction.the-variants.{North as north, East as east, South as south, West as west}
 use Rattle.rules.specs.declared.Parsed.{Parsed}
 use Rattle.rules.specs.declared.Verdict.{Verdict}
-use Rattle.rules.specs.Record.{sides, puzzle, recordRows, IsAccepted, parsedOutcome}
+use Rattle.rules.specs.Record.{gridOf, puzzle, recordRows, IsAccepted, parsedOutcome}
 use Rattle.rules.specs.Board.{Board, boardOf}
 use Rattle.rules.specs.Drawing.{Drawing, white, Links, Solution, SolutionBytes}
 use Rattle.rules.specs.Judge.{wrongByte, clueNotMet, linkUnmatched, notTwoLinks, notOneLoop, judgeRows, judgeAnswer, saysYes, verdictOutcome}
@@ -54,7 +54,7 @@ judge-right s a ds = (λ e. right .0 (sym passed ∙ e), λ S. passed ∙ right 
 
 -- What stands beside 12: the cell of the first clue, in cell order, that is not met.
 pub clue-place : (s ds : List ℕ) (x : ℕ) → clueNotMet (boardOf s) ds ≡ some x ↔ FirstUnmet (boardOf s .clues) ds x
-clue-place s = unmet-place (boardOf s) (clues-in-order (puzzle (sides s) s))
+clue-place s = unmet-place (boardOf s) (clues-in-order (puzzle (gridOf s) s))
 
 -- What stands beside 15, where the drawing has N bytes and 10, 13 and 14 are not the cause: 0 if no cell is white, else the first white cell to which
 -- links do not lead from the first white cell.

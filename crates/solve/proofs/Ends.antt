@@ -15,7 +15,7 @@ use Rattle.answers.specs.Lent.{Wrote, filled}
 use Rattle.answers.proofs.Lent.{wrote-recast}
 use Rattle.answers.proofs.Rows.{Clear, answered-clear, clear-answered}
 use Rattle.rules.specs.declared.Grid.{Grid}
-use Rattle.rules.specs.Record.{sides, size, mostCells, Sides, RecordFits}
+use Rattle.rules.specs.Record.{gridOf, size, mostCells, Sides, RecordFits}
 use Rattle.rules.specs.Board.{boardOf}
 use Rattle.rules.proofs.Records.{accepted-fits, refusal-number}
 use Rattle.encoder.specs.Variables.{variableCount}
@@ -65,10 +65,10 @@ same-refusal s =
     same-number s (roomRows (boardOf s) lent) (doneOutcome (searched (boardOf s)))
     (λ c.
     by (ltb elementLimit (length (clauseList (boardOf s)))) refl (ltb variableLimit (variableCount (boardOf s))) refl
-    (le-ltb mostCells (size (sides s)) (accepted-fits s (clear-accepted s c) .sides .few)))
+    (le-ltb mostCells (size (gridOf s)) (accepted-fits s (clear-accepted s c) .sides .few)))
   where
     by : (l : Bool) → ltb elementLimit (length (clauseList (boardOf s))) ≡ l → (v : Bool) → ltb variableLimit (variableCount (boardOf s)) ≡ v
-        → ltb mostCells (size (sides s)) ≡ false
+        → ltb mostCells (size (gridOf s)) ≡ false
         → firstRefusal (roomRows (boardOf s) lent) (doneOutcome (searched (boardOf s))) .number ≡ limited (needsMore (boardOf s))
     by true h v k n = rw h
     by false h true k n = rw (h, k)
@@ -79,8 +79,8 @@ abbrev cells : List ℕ → List ℕ
 cells s = drawingAt (boardOf s) (searched (boardOf s))
 
 -- a byte for each cell
-cells-long : (s : List ℕ) → length (cells s) ≡ size (sides s)
-cells-long s = made-long _ (size (sides s))
+cells-long : (s : List ℕ) → length (cells s) ≡ size (gridOf s)
+cells-long s = made-long _ (size (gridOf s))
 
 module _ {s : List ℕ} {r : Solved} {drawing : List ℕ} (w : Solves s r drawing) where
   number-is : solvedOutcome r .number ≡ programNumber s
@@ -103,7 +103,7 @@ module _ {s : List ℕ} {r : Solved} {drawing : List ℕ} (w : Solves s r drawin
     clear : Clear (solverRows s lent)
     clear = answered-clear (solverRows s lent) (doneOutcome (searched (boardOf s))) refl (sym (ap (λ (t : Outcome). t .number) (w .outcome)) ∙ answered)
 
-    recordFits : RecordFits (sides s) s
+    recordFits : RecordFits (gridOf s) s
     recordFits = accepted-fits s (clear-accepted s (clear-parts s (roomRows (boardOf s) lent) clear .0))
 
     ending : endingOf x ≡ searched (boardOf s) .ending
@@ -111,10 +111,10 @@ module _ {s : List ℕ} {r : Solved} {drawing : List ℕ} (w : Solves s r drawin
         let a = w .outcome ∙ clear-answered (solverRows s lent) (doneOutcome (searched (boardOf s))) clear in
         same-ending (endingOf x) (searched (boardOf s) .ending) (sym said ∙ ap (λ (t : Outcome). t .first) a)
 
-    pub ends : {text buf out : List ℕ} {n : ℕ} → text ≡ endText (endingOf x) (drawingText (sides s .columns) (cells s))
+    pub ends : {text buf out : List ℕ} {n : ℕ} → text ≡ endText (endingOf x) (drawingText (gridOf s .columns) (cells s))
         → Wrote buf 0 text out n → Wrote buf 0 (printedSolution s) out n
     ends h p =
-        wrote-recast (h ∙ ap (λ x. endText x (drawingText (sides s .columns) (cells s))) ending ∙ printed-text _ (sym number-is ∙ answered)) p
+        wrote-recast (h ∙ ap (λ x. endText x (drawingText (gridOf s .columns) (cells s))) ending ∙ printed-text _ (sym number-is ∙ answered)) p
 
   module _ {e : End} (q : r ≡ Ended e) (k : e .ending ≡ Found) where
     drawn : drawing ≡ filled (lent .drawing) (cells s)
@@ -125,7 +125,7 @@ module _ {s : List ℕ} {r : Solved} {drawing : List ℕ} (w : Solves s r drawin
         ap (λ x. atFound x (lent .drawing) (filled (lent .drawing) (cells s))) (sym (ending q k))
 
     -- over the grid that was read
-    module _ {g : Grid} (is : g ≡ sides s) where
+    module _ {g : Grid} (is : g ≡ gridOf s) where
       pub found-sides : Sides g
       found-sides = rw is (recordFits q k .sides)
 
@@ -134,14 +134,14 @@ module _ {s : List ℕ} {r : Solved} {drawing : List ℕ} (w : Solves s r drawin
 
       pub ends-found : {buf out : List ℕ} {n : ℕ} → Wrote buf 0 (drawingText (g .columns) (take (size g) drawing)) out n → Wrote buf 0 (printedSolution s) out n
       ends-found p =
-          let is-drawn : take (size (sides s)) drawing ≡ cells s = ap (take (size (sides s))) drawn ∙ take-at (cells s) _ (size (sides s)) (cells-long s) in
-          ends q k (ap (λ (g : Grid). drawingText (g .columns) (take (size g) drawing)) is ∙ ap (drawingText (sides s .columns)) is-drawn) p
+          let is-drawn : take (size (gridOf s)) drawing ≡ cells s = ap (take (size (gridOf s))) drawn ∙ take-at (cells s) _ (size (gridOf s)) (cells-long s) in
+          ends q k (ap (λ (g : Grid). drawingText (g .columns) (take (size g) drawing)) is ∙ ap (drawingText (gridOf s .columns)) is-drawn) p
 
 -- what the program prints fits 4,096 bytes
-pub solution-fits : (s : List ℕ) → length (printedSolution s) ≤ 4096
-solution-fits s = printed-fits s _ 4096 (omega arith) (λ e. by (searched (boardOf s) .ending) (accepted-fits s (unrefused s e .0) .sides .few))
+pub solution-fits : (s : List ℕ) → length (printedSolution s) ≤ 65536
+solution-fits s = printed-fits s _ 65536 (omega arith) (λ e. by (searched (boardOf s) .ending) (accepted-fits s (unrefused s e .0) .sides .few))
   where
-    by : (x : search.Ending) → size (sides s) ≤ mostCells → length (endText x (drawingText (sides s .columns) (cells s))) ≤ 4096
-    by search.Found h = omega (arith, drawing-length (sides s .columns) 0 (cells s), cells-long s)
+    by : (x : search.Ending) → size (gridOf s) ≤ mostCells → length (endText x (drawingText (gridOf s .columns) (cells s))) ≤ 65536
+    by search.Found h = omega (arith, drawing-length (gridOf s .columns) 0 (cells s), cells-long s)
     by search.None h = omega arith
     by search.Halted h = omega arith

@@ -32,7 +32,7 @@ fn put_cells(text: &mut [u8], g: Grid, drawing: &[u8]) -> usize
 }
 
 // Writes what the program prints for the bytes on its standard input, which `text` has room for; returns how many bytes that is.
-fn solution_text(record: &[u8], text: &mut [u8; 4096]) -> usize
+fn solution_text(record: &[u8], text: &mut [u8; 65536]) -> usize
     ensures { λ r. ⌜ Wrote (now (text .entry)) 0 (printedSolution (now («record» .entry))) (now (text .exit)) r ⌝ }
     ensures { λ r. ⌜ Counts r (now (text .exit)) ⌝ }
 {
@@ -70,7 +70,7 @@ fn solution_text(record: &[u8], text: &mut [u8; 4096]) -> usize
 fn main() {
     let mut record = io::large_buffer();
     let read = io::read_full(0, &mut record);
-    let mut text = io::buffer();
+    let mut text = io::large_buffer();
     let printed = solution_text(&record[..read], &mut text);
     io::write_all(1, &text[..printed]);
 }

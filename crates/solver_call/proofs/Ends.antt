@@ -17,7 +17,7 @@ use Rattle.rules.specs.declared.Parsed.the-variants.{Accepted, Refused as NotRe
 use Rattle.rules.specs.declared.RecordRefusal.{RecordRefusal}
 use Rattle.rules.specs.Record.{recordRows, recordAnswer, recordRefusalOutcome, parsedOutcome}
 use Rattle.rules.specs.Board.{gridBoard, boardOf}
-use Rattle.rules.proofs.Records.{accepted-clear, refusal-number, passes-up, is-accepted, read-sides}
+use Rattle.rules.proofs.Records.{accepted-clear, refusal-number, passes-up, is-accepted, read-grid}
 use Rattle.encoder.specs.Variables.{variableCount}
 use Rattle.encoder.specs.Clauses.{clauses, clauseList}
 use Rattle.encoder.specs.Encoding.{encoderAnswer, encoderLeaves}
@@ -61,7 +61,7 @@ module _ (s : List ℕ) (budget : ℕ) (lent : Lent) where
   module _ {p : Parsed} {g : Grid} (q : p ≡ Accepted g) (e : parsedOutcome p ≡ recordAnswer s) {needed : Needs} (needs : needed ≡ needsOf (gridBoard g s))
       (room : Room) (says : (t : Outcome) → roomTells room t ≡ firstRefusal (shortRows (lengthsOf lent) needed) t) where
     needed-is : needed ≡ needsOf (boardOf s)
-    needed-is = needs ∙ ap (λ g. needsOf (gridBoard g s)) (read-sides s q e)
+    needed-is = needs ∙ ap (λ g. needsOf (gridBoard g s)) (read-grid s q e)
 
     by-room : {x : Room} → room ≡ x → (t : Outcome) → roomTells x t ≡ firstRefusal (roomRows (boardOf s) lent) t
     by-room w t = sym (ap (λ x. roomTells x t) w) ∙ says t ∙ ap (λ z. firstRefusal (shortRows (lengthsOf lent) z) t) needed-is

@@ -12,7 +12,7 @@ use Rattle.rules.specs.declared.Grid.{Grid}
 use Rattle.rules.specs.Record.{IsAccepted, RecordFits}
 use Rattle.rules.specs.Board.{gridBoard, boardOf}
 use Rattle.rules.specs.Judge.{saysYes}
-use Rattle.rules.proofs.Records.{is-accepted, read-sides, read-fits, goes-on}
+use Rattle.rules.proofs.Records.{is-accepted, read-grid, read-fits, goes-on}
 use Rattle.encoder.specs.Variables.{variableCount}
 use Rattle.encoder.specs.Decoding.{decoded, decoderLeaves, decoderGridRows}
 use Rattle.search.specs.Trail.{slices, filledSlices, image, trailOf}
@@ -114,7 +114,7 @@ module _ {g : Grid} {s : List ℕ} {needed : Needs} {ls ts : List ℤ} {ms vs ds
   grid-leaves values lent =
       λ i.
       unlessRefused (goes-on s refl (fits .read) (λ g. decoderGridRows (gridBoard g s) values lent) saysYes i) lent
-      (decoded (gridBoard (read-sides s refl (fits .read) i) s) values)
+      (decoded (gridBoard (read-grid s refl (fits .read) i) s) values)
 
   -- after the search
   module _ (e : End) {us : List ℤ} {ns : List ℕ}

@@ -1,8 +1,7 @@
 // The records that are tried.
 ghost use Prim.Native.Nat.{_*_, _<_, _≤_};
-ghost use Rattle.rules.specs.Record.{mostCells};
 
-// The most bytes of a record: 24×24 has 6 + 576.
+// The most bytes of a record of kind 1: 24×24 has 6 + 576.
 pub(crate) const BYTES: usize = 582;
 
 // The cell that a digit makes: 0 open, 1 to 12 clues of every direction with number 0, 1 and 2, then open again.
@@ -19,7 +18,7 @@ fn cell(digit: u64) -> u8 {
 
 // The record of a grid whose cells are made of a number's digits to some base, the lowest first; zeros after it.
 pub(crate) fn numbered(rows: usize, columns: usize, base: u64, number: u64) -> [u8; BYTES]
-    requires { ⌜ (rows ≤ 24) × (columns ≤ 24) × (rows * columns ≤ mostCells) ⌝ }
+    requires { ⌜ (rows ≤ 24) × (columns ≤ 24) × (rows * columns ≤ 576) ⌝ }
     requires { ⌜ 0 < base ⌝ }
 {
     let end = 6 + rows * columns;

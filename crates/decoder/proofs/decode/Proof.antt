@@ -4,10 +4,10 @@ use mathlib.Core.Path.{_≡_, refl, _∙_}
 use mathlib.Core.List.{List}
 use Rattle.answers.specs.Outcome.{firstRefusal}
 use Rattle.answers.specs.Lent.{unlessRefused}
-use Rattle.rules.specs.Record.{sides}
+use Rattle.rules.specs.Record.{gridOf}
 use Rattle.rules.specs.Board.{gridBoard, boardOf}
 use Rattle.rules.specs.Judge.{saysYes}
-use Rattle.rules.proofs.Records.{passes-up, read-sides, read-fits, goes-on}
+use Rattle.rules.proofs.Records.{passes-up, read-grid, read-fits, goes-on}
 use Rattle.encoder.specs.Decoding.{decoded, decoderGridRows, decoderRows, decoderAnswer}
 use Rattle.decoder.specs.declared.DecodeRefusal.the-variants.{Record}
 use Rattle.decoder.proofs.Answers.{ends-refused}
@@ -65,7 +65,7 @@ returns-2 c =
     let r = read k in
     let e = c .before .before .decode-grid .ensures in (
       e .0 ∙ goes k,
-      e .1 ∙ (λ i. unlessRefused (goes k i) (lent r) (decoded (gridBoard (read-sides (s r) (k .before .p .given .1) (r .read .ensures) i) (s r)) (values r))),
+      e .1 ∙ (λ i. unlessRefused (goes k i) (lent r) (decoded (gridBoard (read-grid (s r) (k .before .p .given .1) (r .read .ensures) i) (s r)) (values r))),
     )
 
 pub decode-spec : {M : Type 1} → statement M

@@ -4,7 +4,7 @@ use Prim.Native.Nat.{_+_, _*_, _≤_}
 use lib.ListN.{length}
 use mathlib.Core.Path.{_≡_, refl, sym, ap}
 use Rattle.answers.proofs.Lent.{wrote-recast}
-use Rattle.rules.specs.Record.{puzzle}
+use Rattle.rules.specs.Record.{puzzle, mostCells}
 use Rattle.cnf.specs.Literals.{mostVariables}
 use Rattle.encoder_shapes.specs.Shapes.{unit}
 use Rattle.encoder_lines.specs.Line.{blacksOf, LineEnd}
@@ -65,7 +65,7 @@ p4 c = part-on (p3 (c .before .before .before)) (wrote-recast (ap unit (last (e3
 first-small : (c : tie.Start) → c .args .first ≤ mostVariables
 first-small c = part-needs (start c) .literals .0
 
-last-small : (c : tie.After-line-end) → let s = c .before .before .before in c .line-end .result .cells * (s .args .n + 1) ≤ 576 * 256
+last-small : (c : tie.After-line-end) → let s = c .before .before .before in c .line-end .result .cells * (s .args .n + 1) ≤ mostCells * 256
 last-small c =
     let s = c .before .before .before in
     last-few (s .args .g) (s .args .«record» .now) (s .args .d) (s .args .x) (s .args .n) (c .line-end .ensures .1) (s .pre .1 .0 .recordFits) (s .pre .1 .1 .0)

@@ -4,8 +4,8 @@ use mathlib.Core.List.{List}
 use Prim.Native.Nat.{ℕ}
 use Rattle.answers.proofs.Lent.{wrote-recast}
 use Rattle.rules.specs.declared.Grid.{Grid}
-use Rattle.rules.specs.Record.{sides, parsedOutcome}
-use Rattle.rules.proofs.Records.{read-sides}
+use Rattle.rules.specs.Record.{gridOf, parsedOutcome}
+use Rattle.rules.proofs.Records.{read-grid}
 use Rattle.program_text.proofs.Limits.{read-refused, whole}
 use Rattle.solver.specs.SolverCall.{Lent}
 use Rattle.solve.proofs.Ends.{Solves, ends-refused, ends, found-sides, found-inside, ends-found, solution-fits}
@@ -23,8 +23,8 @@ read-at c = c .before .before .before .before .before .before
 abbrev g : tie.After-known-told → Grid
 g c = c .before .p .given .0 .0
 
-is-sides : (c : tie.After-known-told) → g c ≡ sides (s (c .before .before .before))
-is-sides c = let r = c .before .before .before in read-sides (s r) (c .before .p .given .1) (r .read .ensures)
+is-grid : (c : tie.After-known-told) → g c ≡ gridOf (s (c .before .before .before))
+is-grid c = let r = c .before .before .before in read-grid (s r) (c .before .p .given .1) (r .read .ensures)
 
 -- the record of the solver's call, the call, and its answer
 abbrev solved-record : tie.After-solve-grid → List ℕ
@@ -114,7 +114,7 @@ put-cells-requires c κs =
     let told = c .before .before in
     let answered = told .before .before .before in
     let v = solved answered in
-    let is = is-sides (read-at v) in (
+    let is = is-grid (read-at v) in (
       found-sides (call v) (answered .answer .given .1) (told .enum-told3 .given .1) is,
       found-inside (call v) (answered .answer .given .1) (told .enum-told3 .given .1) is,
     )
@@ -144,7 +144,7 @@ returns-3 c =
     let answered = told .before .before .before in
     let v = solved answered in
     whole (at-text .put-cells-arg .given .0 .1) (solution-fits (solved-record v))
-    (ends-found (call v) (answered .answer .given .1) (told .enum-told3 .given .1) (is-sides (read-at v)) (c .put-cells .ensures))
+    (ends-found (call v) (answered .answer .given .1) (told .enum-told3 .given .1) (is-grid (read-at v)) (c .put-cells .ensures))
 
 returns-4 : tie.Need-returns-4
 returns-4 c =

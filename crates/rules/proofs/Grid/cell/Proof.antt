@@ -25,14 +25,14 @@ returns : tie.Need-returns
 returns c =
     let at-start = c .before .before .before .before .before in
     sym (ap isCell (sym (c .before .before .read-cell .ensures) ∙ c .enum-told .given .1)) ∙ cell-at (at-start .args .self)
-    (at-start .args .«record» .now) (at-start .args .x)
+    (at-start .args .«record» .now) (at-start .args .x) (at-start .pre .1)
 
 returns-2 : tie.Need-returns-2
 returns-2 c =
     let at-read-cell = c .before .before .before in
     let at-start = at-read-cell .before .before .before in
     sym (ap isCell (sym (at-read-cell .read-cell .ensures) ∙ c .before .c .given .1)) ∙ cell-at (at-start .args .self) (at-start .args .«record» .now)
-    (at-start .args .x)
+    (at-start .args .x) (at-start .pre .1)
 
 pub cell-spec : {M : Type 1} → statement M
 cell-spec =

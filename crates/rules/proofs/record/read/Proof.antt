@@ -7,10 +7,9 @@ use lib.ListN.{drop}
 use mathlib.Core.Path.{_≡_, sym, _∙_}
 use mathlib.Core.Bool.{true}
 use mathlib.Core.List.{List}
-use Rattle.answers.specs.Outcome.{answer}
 use Rattle.answers.proofs.First.{found-at, found-none}
 use Rattle.answers.proofs.Rows.{Left, left-all, left-next, left-turn, left-done}
-use Rattle.rules.specs.Record.{sides, isSide, Sides, recordRows}
+use Rattle.rules.specs.Record.{gridOf, isSide, Sides, recordRows, gridAnswer}
 use Rattle.rules.proofs.Records.{sides-small, short-record, other-length, right-length, other-kind, right-kind, wrong-rows, wrong-columns, right-sides}
 use Rattle.rules.proofs.Records.{other-size, right-size}
 use Rattle.rules.proofs.record.read.Statement.{statement}
@@ -18,10 +17,10 @@ use Rattle.rules.proofs.record.read.Tie as tie
 
 -- so many rows are passed
 abbrev Past : List ℕ → ℕ → Type 0
-Past s k = Left (recordRows s) (answer (sides s .rows) (sides s .columns) 0) (drop k (recordRows s))
+Past s k = Left (recordRows s) (gridAnswer (gridOf s)) (drop k (recordRows s))
 
 past0 : (s : List ℕ) → Past s 0
-past0 s = left-all (recordRows s) (answer (sides s .rows) (sides s .columns) 0)
+past0 s = left-all (recordRows s) (gridAnswer (gridOf s))
 
 -- the record at each place, and the rows that are passed there
 abbrev s1 : tie.After-word-at → List ℕ
@@ -42,17 +41,17 @@ past1 c = let w = c .before .before in left-next (past0 (s2 c)) (right-length (s
 past2 : (c : tie.After-is-side) → Past (s3 c) 2
 past2 c = let e = c .before .before .before in left-next (past1 (e .before)) (right-kind (s3 c) (sym (e .before .word-at2 .ensures) ∙ e .if3 .left))
 
-side-rows : (c : tie.Else4) → isSide (sides (s3 (c .before)) .rows) ≡ true
+side-rows : (c : tie.Else4) → isSide (gridOf (s3 (c .before)) .rows) ≡ true
 side-rows c = sym (c .before .is-side .ensures) ∙ not-false _ (c .if4 .left)
 
-side-columns : (c : tie.Else5) → isSide (sides (s4 (c .before)) .columns) ≡ true
+side-columns : (c : tie.Else5) → isSide (gridOf (s4 (c .before)) .columns) ≡ true
 side-columns c = sym (c .before .is-side2 .ensures) ∙ not-false _ (c .if5 .left)
 
 past3 : (c : tie.Else5) → Past (s4 (c .before)) 3
 past3 c = let e = c .before .before in left-next (past2 (e .before)) (right-sides (s4 (c .before)) (side-rows e) (side-columns c))
 
-small : (c : tie.Else5) → Sides (sides (s4 (c .before)))
-small c = sides-small (sides (s4 (c .before))) (side-rows (c .before .before)) (side-columns c)
+small : (c : tie.Else5) → Sides (gridOf (s4 (c .before)))
+small c = sides-small (gridOf (s4 (c .before))) (side-rows (c .before .before)) (side-columns c)
 
 past4 : (c : tie.Else6) → Past (s4 (c .before .before)) 4
 past4 c = left-next (past3 (c .before)) (right-size (s4 (c .before .before)) (c .if6 .left))
