@@ -6,8 +6,11 @@ use mathlib.Core.Path.{_≡_, refl, ap}
 use mathlib.Core.Bool.{cond}
 use Rattle.answers.specs.declared.Outcome.{Outcome}
 use Rattle.answers.proofs.OneToOne.{OneToOne, Between, number-eqb, number-under, number-over}
+use Rattle.rules.specs.declared.Kind.{Kind}
+use Rattle.rules.specs.declared.Kind.the-variants.{One, Two}
+use Rattle.rules.specs.declared.Grid.{Grid}
 use Rattle.rules.specs.declared.RecordRefusal.{RecordRefusal}
-use Rattle.rules.specs.declared.RecordRefusal.the-variants.{Length, Kind, Side, Size, NotACell}
+use Rattle.rules.specs.declared.RecordRefusal.the-variants.{Length, Kind as OtherKind, Side, Size, NotACell}
 use Rattle.rules.specs.declared.Parsed.{Parsed}
 use Rattle.rules.specs.declared.Parsed.the-variants.{Accepted, Refused}
 use Rattle.rules.specs.declared.RuleRefusal.{RuleRefusal}
@@ -16,7 +19,7 @@ use Rattle.rules.specs.declared.JudgeRefusal.{JudgeRefusal}
 use Rattle.rules.specs.declared.JudgeRefusal.the-variants.{Record, DrawingLength, Rule}
 use Rattle.rules.specs.declared.Verdict.{Verdict}
 use Rattle.rules.specs.declared.Verdict.the-variants.{Yes, No}
-use Rattle.rules.specs.Record.{recordRefusalOutcome, parsedOutcome}
+use Rattle.rules.specs.Record.{kindNumber, readKind, isKind, gridAnswer, recordRefusalOutcome, parsedOutcome}
 use Rattle.rules.specs.Judge.{ruleRefusalOutcome, judgeRefusalOutcome, verdictOutcome}
 
 -- the reader's refusals are 1 to 5
@@ -25,7 +28,7 @@ record-numbers = record { bounds = by }
   where
     by : (r : RecordRefusal) → (1 ≤ recordRefusalOutcome r .number) × (recordRefusalOutcome r .number ≤ 5)
     by Length = (omega arith, omega arith)
-    by Kind = (omega arith, omega arith)
+    by OtherKind = (omega arith, omega arith)
     by Side = (omega arith, omega arith)
     by Size = (omega arith, omega arith)
     by (NotACell x) = (omega arith, omega arith)
@@ -36,26 +39,37 @@ record-refusals = record { from = from; back = back }
     from : Outcome → RecordRefusal
     from t =
         cond (eqb (t .number) 1) Length
-        (cond (eqb (t .number) 2) Kind
+        (cond (eqb (t .number) 2) OtherKind
         (cond (eqb (t .number) 3) Side
         (cond (eqb (t .number) 4) Size
         (NotACell (t .first)))))
 
     back : (r : RecordRefusal) → from (recordRefusalOutcome r) ≡ r
     back Length = refl
-    back Kind = refl
+    back OtherKind = refl
     back Side = refl
     back Size = refl
     back (NotACell x) = refl
+
+-- the grid of an accepted record, by what is told of it
+abbrev pub gridTold : Outcome → Grid
+gridTold t = record { kind = isKind (readKind (t .third)); rows = t .first; columns = t .second }
+
+pub grid-told : (g : Grid) → gridTold (gridAnswer g) ≡ g
+grid-told g = λ i. record { kind = by (g .kind) i; rows = g .rows; columns = g .columns }
+  where
+    by : (k : Kind) → isKind (readKind (kindNumber k)) ≡ k
+    by One = refl
+    by Two = refl
 
 pub readings : OneToOne parsedOutcome
 readings = record { from = from; back = back }
   where
     from : Outcome → Parsed
-    from t = cond (eqb (t .number) 0) (Accepted (record { rows = t .first; columns = t .second })) (Refused (record-refusals .from t))
+    from t = cond (eqb (t .number) 0) (Accepted (gridTold t)) (Refused (record-refusals .from t))
 
     back : (p : Parsed) → from (parsedOutcome p) ≡ p
-    back (Accepted g) = refl
+    back (Accepted g) = ap Accepted (grid-told g)
     back (Refused r) = rw (number-eqb record-numbers r {n = 0} (omega arith)) (ap Refused (record-refusals .back r))
 
 -- the rules' are 10 to 15

@@ -1,4 +1,4 @@
--- "The grid record" of document 01, and rows 1 to 5 of "Turned down".
+-- "The grid record" of document 01, with kind 2 of document 02's E4, and rows 1 to 5 of "Turned down".
 use Prim.Native.Nat.{ℕ, _+_, _*_, _/_, _%_, _≤_, _<_}
 use mathlib.Core.Path.{_≡_}
 use lib.Dec.{eqb, leb, ltb}
@@ -15,25 +15,74 @@ use Rattle.rules.specs.declared.Cell.{Cell}
 use Rattle.rules.specs.declared.Cell.the-variants.{Open, Clue}
 use Rattle.rules.specs.declared.CellCode.{CellCode}
 use Rattle.rules.specs.declared.CellCode.the-variants.{Is, NotAllowed}
+use Rattle.rules.specs.declared.Kind.{Kind}
+use Rattle.rules.specs.declared.Kind.the-variants.{One, Two}
+use Rattle.rules.specs.declared.KindField.{KindField}
+use Rattle.rules.specs.declared.KindField.the-variants.{Is as IsKind, NotAllowed as NoKind}
 use Rattle.rules.specs.declared.Grid.{Grid}
 use Rattle.rules.specs.declared.RecordRefusal.{RecordRefusal}
-use Rattle.rules.specs.declared.RecordRefusal.the-variants.{Length, Kind, Side, Size, NotACell}
+use Rattle.rules.specs.declared.RecordRefusal.the-variants.{Length, Kind as OtherKind, Side, Size, NotACell}
 use Rattle.rules.specs.declared.Parsed.{Parsed}
 use Rattle.rules.specs.declared.Parsed.the-variants.{Accepted, Refused}
 
--- the inner form of a grid: its sides, and its cells row by row from the top left
+-- the inner form of a grid: its kind and sides, and its cells row by row from the top left
 pub record Puzzle : Type 0 where
   pub grid : Grid
   pub cells : List Cell
+
+-- the number of a kind
+abbrev pub kindNumber : Kind → ℕ
+kindNumber One = 1
+kindNumber Two = 2
+
+abbrev pub readKind : ℕ → KindField
+readKind n = cond (eqb n 1) (IsKind One) (cond (eqb n 2) (IsKind Two) NoKind)
+
+-- (a kind that is not allowed stands in no accepted record)
+abbrev pub isKind : KindField → Kind
+isKind (IsKind k) = k
+isKind NoKind = One
+
+abbrev pub noKind : KindField → Bool
+noKind (IsKind k) = false
+noKind NoKind = true
+
+-- what a kind sets: the largest side,
+abbrev pub mostSide : Kind → ℕ
+mostSide One = 24
+mostSide Two = 45
+
+-- the bytes of a cell,
+abbrev pub cellBytes : Kind → ℕ
+cellBytes One = 1
+cellBytes Two = 2
+
+-- the largest number of a clue,
+abbrev pub mostNumber : Kind → ℕ
+mostNumber One = 15
+mostNumber Two = 44
+
+-- and how many codes a direction has: it stands above the lower four bits of a code, or the lower twelve
+abbrev pub perDirection : Kind → ℕ
+perDirection One = 0x10
+perDirection Two = 0x1000
 
 -- 1 north, 2 east, 3 south, 4 west
 abbrev pub directionOf : ℕ → Direction
 directionOf n = cond (eqb n 1) north (cond (eqb n 2) east (cond (eqb n 3) south west))
 
--- 0x00 is open; 0x10 to 0x4F is a clue: upper four bits the direction, lower four bits the number
-abbrev pub readCell : ℕ → CellCode
-readCell b = cond (eqb b 0) (Is Open) (cond (leb 0x10 b && leb b 0x4F) (Is (Clue (directionOf (b / 16)) (b % 16))) NotAllowed)
+abbrev pub isDirection : ℕ → Bool
+isDirection n = leb 1 n && leb n 4
 
+-- a clue's upper four bits are the direction, its lower ones the number
+abbrev pub isClue : Kind → ℕ → Bool
+isClue k c = isDirection (c / perDirection k) && leb (c % perDirection k) (mostNumber k)
+
+-- 0 is open
+abbrev pub readCell : Kind → ℕ → CellCode
+readCell k c = cond (eqb c 0) (Is Open) (cond (isClue k c) (Is (Clue (directionOf (c / perDirection k)) (c % perDirection k))) NotAllowed)
+
+-- (a code that is not allowed stands in no accepted record)
 abbrev pub isCell : CellCode → Cell
 isCell (Is c) = c
 isCell NotAllowed = Open
@@ -42,35 +91,32 @@ abbrev pub notAllowed : CellCode → Bool
 notAllowed (Is c) = false
 notAllowed NotAllowed = true
 
--- the cell of a code (a code that is not allowed stands in no accepted record)
-abbrev pub cellOf : ℕ → Cell
-cellOf c = isCell (readCell c)
-
 -- a number of two bytes, little-endian
 abbrev pub word : List ℕ → ℕ → ℕ
 word s i = getD s i 0 + 256 * getD s (i + 1) 0
 
--- what a record says of its grid: byte 4 the rows, byte 5 the columns
+-- what a record says of its grid: bytes 2 and 3 the kind, byte 4 the rows, byte 5 the columns
 abbrev pub gridOf : List ℕ → Grid
-gridOf s = record { rows = getD s 4 0; columns = getD s 5 0 }
+gridOf s = record { kind = isKind (readKind (word s 2)); rows = getD s 4 0; columns = getD s 5 0 }
 
 -- N, the number of cells
 abbrev pub size : Grid → ℕ
 size g = g .rows * g .columns
 
--- the code of the cell numbered x
-abbrev pub cellCode : List ℕ → ℕ → ℕ
-cellCode s x = getD s (6 + x) 0
+-- the code of the cell numbered x: its byte, or its two bytes
+abbrev pub cellCode : Kind → List ℕ → ℕ → ℕ
+cellCode One s x = getD s (6 + x) 0
+cellCode Two s x = word s (6 + 2 * x)
 
-abbrev pub cellAt : List ℕ → ℕ → Cell
-cellAt s x = cellOf (cellCode s x)
+abbrev pub cellAt : Kind → List ℕ → ℕ → Cell
+cellAt k s x = isCell (readCell k (cellCode k s x))
 
 abbrev pub puzzle : Grid → List ℕ → Puzzle
-puzzle g s = record { grid = g; cells = map (cellAt s) (upTo (size g)) }
+puzzle g s = record { grid = g; cells = map (cellAt (g .kind) s) (upTo (size g)) }
 
--- a side is 1 to 24
-abbrev pub isSide : ℕ → Bool
-isSide n = leb 1 n && leb n 24
+-- a side is 1 to the largest
+abbrev pub isSide : Kind → ℕ → Bool
+isSide k n = leb 1 n && leb n (mostSide k)
 
 -- the most cells that a grid has: 45 times 45
 abbrev pub mostCells : ℕ
@@ -90,7 +136,7 @@ pub record OnBoard (g : Grid) (x : ℕ) : Type 0 where
 -- with its record,
 pub record RecordFits (g : Grid) (s : List ℕ) : Type 0 where
   pub sides : Sides g
-  pub long : length s ≡ 6 + size g
+  pub long : length s ≡ 6 + cellBytes (g .kind) * size g
 
 -- and with a drawing of its size
 pub record DrawingFits (g : Grid) (s ds : List ℕ) : Type 0 where
@@ -101,34 +147,35 @@ pub record DrawingFits (g : Grid) (s ds : List ℕ) : Type 0 where
 abbrev pub wrongLength : List ℕ → Bool
 wrongLength s = ltb (length s) 6 || not (eqb (word s 0) (length s))
 
--- 2: kind not 1
+-- 2: kind not 1 or 2
 abbrev pub wrongKind : List ℕ → Bool
-wrongKind s = not (eqb (word s 2) 1)
+wrongKind s = noKind (readKind (word s 2))
 
--- 3: a side not 1 to 24
-abbrev pub wrongSide : List ℕ → Bool
-wrongSide s = not (isSide (gridOf s .rows)) || not (isSide (gridOf s .columns))
+module _ (g : Grid) where
+  -- 3: a side not 1 to 24, or in kind 2 not 1 to 45
+  abbrev pub wrongSide : Bool
+  wrongSide = not (isSide (g .kind) (g .rows)) || not (isSide (g .kind) (g .columns))
 
--- 4: length not 6 + N
-abbrev pub wrongSize : List ℕ → Bool
-wrongSize s = not (eqb (length s) (6 + size (gridOf s)))
+  -- 4: length not 6 + N, or in kind 2 not 6 + 2N
+  abbrev pub wrongSize : List ℕ → Bool
+  wrongSize s = not (eqb (length s) (6 + cellBytes (g .kind) * size g))
 
--- 5: cell byte not allowed
-abbrev pub wrongCell : List ℕ → ℕ → Bool
-wrongCell s x = notAllowed (readCell (cellCode s x))
+  -- 5: cell code not allowed
+  abbrev pub wrongCell : List ℕ → ℕ → Bool
+  wrongCell s x = notAllowed (readCell (g .kind) (cellCode (g .kind) s x))
 
 abbrev pub recordRows : List ℕ → List Row
 recordRows s =
     row 1 (cause (wrongLength s)) ∷
     row 2 (cause (wrongKind s)) ∷
-    row 3 (cause (wrongSide s)) ∷
-    row 4 (cause (wrongSize s)) ∷
-    row 5 (firstWhere (wrongCell s) (size (gridOf s))) ∷
+    row 3 (cause (wrongSide (gridOf s))) ∷
+    row 4 (cause (wrongSize (gridOf s) s)) ∷
+    row 5 (firstWhere (wrongCell (gridOf s) s) (size (gridOf s))) ∷
     []
 
--- what the record reader tells of an accepted record: rows and columns
+-- what the record reader tells of an accepted record: rows, columns and kind
 abbrev pub gridAnswer : Grid → Outcome
-gridAnswer g = answer (g .rows) (g .columns) 0
+gridAnswer g = answer (g .rows) (g .columns) (kindNumber (g .kind))
 
 abbrev pub recordAnswer : List ℕ → Outcome
 recordAnswer s = firstRefusal (recordRows s) (gridAnswer (gridOf s))
@@ -139,7 +186,7 @@ IsAccepted s = recordAnswer s .number ≡ 0
 
 abbrev pub recordRefusalOutcome : RecordRefusal → Outcome
 recordRefusalOutcome Length = refusal 1 0
-recordRefusalOutcome Kind = refusal 2 0
+recordRefusalOutcome OtherKind = refusal 2 0
 recordRefusalOutcome Side = refusal 3 0
 recordRefusalOutcome Size = refusal 4 0
 recordRefusalOutcome (NotACell x) = refusal 5 x

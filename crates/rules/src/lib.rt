@@ -1,4 +1,4 @@
-// What a grid is, and when a drawing is a solution: document 01's "The grid record" and "The drawing and its judge".
+// What a grid is, and when a drawing is a solution: document 01's "The grid record" and "The drawing and its judge", with document 02's E4.
 pub enum Direction {
     North,
     East,
@@ -18,11 +18,24 @@ pub enum CellCode {
     NotAllowed,
 }
 
+// A record's kind: 1, or 2 with larger sides and numbers.
+pub enum Kind {
+    One,
+    Two,
+}
+
+// What the kind field of a record is.
+pub enum KindField {
+    Is(Kind),
+    NotAllowed,
+}
+
 // The most cells that a grid has: 45 times 45.
 pub const MOST_CELLS: usize = 2025;
 
-// The parsed grid: its sides. The cells stay in the record.
+// The parsed grid: its kind and its sides. The cells stay in the record.
 pub struct Grid {
+    pub kind: Kind,
     pub rows: usize,
     pub columns: usize,
 }

@@ -1,23 +1,26 @@
-// The reader of a grid record: document 01's "The grid record".
+// The reader of a grid record: document 01's "The grid record", and document 02's E4. Nothing above it knows of kinds.
 ghost use mathlib.Core.Path.{_≡_};
 ghost use Prim.Native.Nat.{_+_, _<_};
 ghost use lib.ListN.{length, getD};
 ghost use Rattle.answers.specs.First.{firstWhere, placed};
 ghost use Rattle.rules.specs.declared.Cell.the-variants.{Open};
-ghost use Rattle.rules.specs.Record.{readCell, notAllowed, word, size, puzzle, isSide, wrongCell, Sides, RecordFits, recordAnswer, parsedOutcome};
-ghost use Rattle.rules.specs.Record.{IsRefused};
+ghost use Rattle.rules.specs.declared.Kind.the-variants.{One, Two};
 ghost use Rattle.rules.specs.declared.Parsed.the-variants.{Refused};
+ghost use Rattle.rules.specs.Record.{cellBytes, readKind, readCell, notAllowed, word, size, cellCode, puzzle, isSide, wrongCell};
+ghost use Rattle.rules.specs.Record.{Sides, RecordFits, recordAnswer, parsedOutcome, IsRefused};
 use super::Cell;
 use super::CellCode;
 use super::Direction;
 use super::Grid;
+use super::Kind;
+use super::KindField;
 use super::Parsed;
 use super::RecordRefusal;
 use answers::Place;
 
-// The cell of a byte: 0 is open; the upper four bits of a clue tell the direction, the lower four the number.
-pub fn read_cell(b: u8) -> CellCode
-    ensures { λ r. ⌜ r ≡ readCell b ⌝ }
+// The cell of a byte, in kind 1: 0 is open; the upper four bits of a clue tell the direction, the lower four the number.
+fn read_byte(b: u8) -> CellCode
+    ensures { λ r. ⌜ r ≡ readCell One b ⌝ }
 {
     match b {
         0 => CellCode::Is(Cell::Open),
@@ -27,6 +30,35 @@ pub fn read_cell(b: u8) -> CellCode
         0x40..=0x4f => CellCode::Is(Cell::Clue(Direction::West, b % 16)),
         0x01..=0x0f | 0x50..=0xff => CellCode::NotAllowed,
     }
+}
+
+// The cell of two bytes, in kind 2: the lower twelve bits tell the number, 0 to 44.
+fn read_word(w: u16) -> CellCode
+    ensures { λ r. ⌜ r ≡ readCell Two w ⌝ }
+{
+    match w {
+        0 => CellCode::Is(Cell::Open),
+        0x1000..=0x102c => CellCode::Is(Cell::Clue(Direction::North, (w % 4096) as u8)),
+        0x2000..=0x202c => CellCode::Is(Cell::Clue(Direction::East, (w % 4096) as u8)),
+        0x3000..=0x302c => CellCode::Is(Cell::Clue(Direction::South, (w % 4096) as u8)),
+        0x4000..=0x402c => CellCode::Is(Cell::Clue(Direction::West, (w % 4096) as u8)),
+        0x0001..=0x0fff
+        | 0x102d..=0x1fff
+        | 0x202d..=0x2fff
+        | 0x302d..=0x3fff
+        | 0x402d..=0x4fff
+        | 0x5000..=0xffff => { CellCode::NotAllowed }
+    }
+}
+
+// Two bytes, little-endian.
+fn word_at(record: &[u8], i: usize) -> u16
+    requires { ⌜ i + 1 < length (now «record») ⌝ }
+    ensures { λ r. ⌜ r ≡ word (now («record» .entry)) i ⌝ }
+{
+    let low = record[i] as u16;
+    let high = record[i + 1] as u16;
+    low + 256 * high
 }
 
 impl Grid {
@@ -40,13 +72,26 @@ impl Grid {
         rows * columns
     }
 
+    // What the code of the cell numbered x is: of one byte or two, by the record's kind.
+    fn read_cell(self, record: &[u8], x: usize) -> CellCode
+        requires { ⌜ RecordFits self (now «record») ⌝ }
+        requires { ⌜ x < size self ⌝ }
+        ensures { λ r. ⌜ r ≡ readCell (self .kind) (cellCode (self .kind) (now («record» .entry)) x) ⌝ }
+    {
+        let kind = self.kind;
+        match kind {
+            Kind::One => read_byte(record[6 + x]),
+            Kind::Two => read_word(word_at(record, 6 + 2 * x)),
+        }
+    }
+
     // The cell numbered x.
     pub fn cell(self, record: &[u8], x: usize) -> Cell
         requires { ⌜ RecordFits self (now «record») ⌝ }
         requires { ⌜ x < size self ⌝ }
         ensures { λ r. ⌜ r ≡ getD (puzzle self (now («record» .entry)) .cells) x Open ⌝ }
     {
-        let c = read_cell(record[6 + x]);
+        let c = self.read_cell(record, x);
         let CellCode::Is(cell) = c else {
             return Cell::Open;
         };
@@ -54,25 +99,26 @@ impl Grid {
     }
 }
 
-fn not_allowed(b: u8) -> bool
-    ensures { λ r. ⌜ r ≡ notAllowed (readCell b) ⌝ }
-{
-    let c = read_cell(b);
-    let CellCode::Is(_) = c else {
-        return true;
-    };
-    false
+impl CellCode {
+    fn not_allowed(self) -> bool
+        ensures { λ r. ⌜ r ≡ notAllowed self ⌝ }
+    {
+        let CellCode::Is(_) = self else {
+            return true;
+        };
+        false
+    }
 }
 
-// The first cell whose byte is not allowed.
+// The first cell whose code is not allowed.
 fn wrong_cell(g: Grid, record: &[u8]) -> Place
     requires { ⌜ RecordFits g (now «record») ⌝ }
-    ensures { λ r. ⌜ placed r ≡ firstWhere (wrongCell (now («record» .entry))) (size g) ⌝ }
+    ensures { λ r. ⌜ placed r ≡ firstWhere (wrongCell g (now («record» .entry))) (size g) ⌝ }
 {
     let n = g.size();
     let mut x = 0;
     while x < n {
-        let bad = not_allowed(record[6 + x]);
+        let bad = g.read_cell(record, x).not_allowed();
         if bad {
             return Place::At(x);
         }
@@ -81,23 +127,39 @@ fn wrong_cell(g: Grid, record: &[u8]) -> Place
     Place::Nowhere
 }
 
-// Two bytes, little-endian.
-fn word_at(record: &[u8], i: usize) -> usize
-    requires { ⌜ i + 1 < length (now «record») ⌝ }
-    ensures { λ r. ⌜ r ≡ word (now («record» .entry)) i ⌝ }
+// The kind that a number tells.
+fn read_kind(n: u16) -> KindField
+    ensures { λ r. ⌜ r ≡ readKind n ⌝ }
 {
-    let low = record[i] as usize;
-    let high = record[i + 1] as usize;
-    low + 256 * high
+    match n {
+        1 => KindField::Is(Kind::One),
+        2 => KindField::Is(Kind::Two),
+        0 | 3..=0xffff => KindField::NotAllowed,
+    }
 }
 
-fn is_side(n: usize) -> bool
-    ensures { λ r. ⌜ r ≡ isSide n ⌝ }
-{
-    if n < 1 {
-        return false;
+impl Kind {
+    fn is_side(self, n: usize) -> bool
+        ensures { λ r. ⌜ r ≡ isSide self n ⌝ }
+    {
+        if n < 1 {
+            return false;
+        }
+        match self {
+            Kind::One => n <= 24,
+            Kind::Two => n <= 45,
+        }
     }
-    n <= 24
+
+    // The bytes of a cell.
+    fn cell_bytes(self) -> usize
+        ensures { λ r. ⌜ r ≡ cellBytes self ⌝ }
+    {
+        match self {
+            Kind::One => 1,
+            Kind::Two => 2,
+        }
+    }
 }
 
 // Refusals 1 to 5, in order.
@@ -107,28 +169,32 @@ pub fn read(record: &[u8]) -> Parsed
     if record.len() < 6 {
         return Parsed::Refused(RecordRefusal::Length);
     }
-    let length = word_at(record, 0);
+    let length = word_at(record, 0) as usize;
     if length != record.len() {
         return Parsed::Refused(RecordRefusal::Length);
     }
-    let kind = word_at(record, 2);
-    if kind != 1 {
+    let field = read_kind(word_at(record, 2));
+    let KindField::Is(kind) = field else {
         return Parsed::Refused(RecordRefusal::Kind);
-    }
+    };
     let rows = record[4] as usize;
     let columns = record[5] as usize;
-    let tall = is_side(rows);
+    let tall = kind.is_side(rows);
     if !tall {
         return Parsed::Refused(RecordRefusal::Side);
     }
-    let wide = is_side(columns);
+    let wide = kind.is_side(columns);
     if !wide {
         return Parsed::Refused(RecordRefusal::Side);
     }
-    if record.len() != 6 + rows * columns {
+    if record.len() != 6 + kind.cell_bytes() * (rows * columns) {
         return Parsed::Refused(RecordRefusal::Size);
     }
-    let g = Grid { rows, columns };
+    let g = Grid {
+        kind,
+        rows,
+        columns,
+    };
     let p = wrong_cell(g, record);
     let Place::At(x) = p else {
         return Parsed::Accepted(g);

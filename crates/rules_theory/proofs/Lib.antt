@@ -11,4 +11,5 @@ pub mod Whole
 pub mod Bytes
 pub mod JudgeExact
 pub mod Places
+pub mod RecordKinds
 pub mod Cases

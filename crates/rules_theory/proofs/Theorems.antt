@@ -9,19 +9,21 @@ use mathlib.Core.Option.{Option, none, some}
 use mathlib.Core.List.{List}
 use Rattle.answers.specs.declared.Outcome.{Outcome}
 use Rattle.answers.specs.First.{Least}
-use Rattle.answers.specs.Outcome.{firstRefusal}
+use Rattle.answers.specs.Outcome.{refusal, firstRefusal}
 use Rattle.answers.proofs.Rows.{refusals-append, answered-clear, clear-answered}
 use Rattle.rules.specs.declared.Direction.{Direction}
 use Rattle.rules.specs.declared.Direction.the-variants.{North as north, East as east, South as south, West as west}
+use Rattle.rules.specs.declared.Kind.{Kind}
 use Rattle.rules.specs.declared.Parsed.{Parsed}
 use Rattle.rules.specs.declared.Verdict.{Verdict}
-use Rattle.rules.specs.Record.{gridOf, puzzle, recordRows, IsAccepted, parsedOutcome}
+use Rattle.rules.specs.Record.{gridOf, puzzle, recordRows, recordAnswer, IsAccepted, parsedOutcome}
 use Rattle.rules.specs.Board.{Board, boardOf}
 use Rattle.rules.specs.Drawing.{Drawing, white, Links, Solution, SolutionBytes}
 use Rattle.rules.specs.Judge.{wrongByte, clueNotMet, linkUnmatched, notTwoLinks, notOneLoop, judgeRows, judgeAnswer, saysYes, verdictOutcome}
 use Rattle.rules.proofs.Boards.{Wired, Laws, clues-in-order}
 use Rattle.rules_theory.specs.Loop.{WholeLoop, Looped}
 use Rattle.rules_theory.specs.Places.{FirstUnmet, FirstUnreached}
+use Rattle.rules_theory.specs.RecordKinds.{bytesAt, Whole, Accepts, Refuses, SameGrid}
 use Rattle.rules.proofs.Records as records
 use Rattle.rules.proofs.Outcomes.{readings, verdicts}
 use Rattle.answers.proofs.OneToOne.{one-to-one}
@@ -29,6 +31,7 @@ use Rattle.rules_theory.proofs.JudgeExact.{clear-links, clear-solution,
 use Rattle.rules_theory.proofs.Places.{unmet-place, unreached-place}
 use Rattle.rules_theory.proofs.Loop.{first-north, first-east, first-south, first-west}
 use Rattle.rules_theory.proofs.Whole as whole
+use Rattle.rules_theory.proofs.RecordKinds as kinds
 
 -- An accepted record's board has the laws of a board: a step stays inside and leads back, open cells and lines are on it, and so on.
 pub accepted-laws : (s : List ℕ) → IsAccepted s → Laws (boardOf s)
@@ -87,3 +90,18 @@ module _ {b : Board} (law : Laws b) {D : Drawing} (sol : Solution b D) where
 -- Document 01's numbers and values tell the answers apart: two verdicts with the same outcome are the same, and so are two readings of a record.
 pub outcome-one-to-one : ((v w : Verdict) → verdictOutcome v ≡ verdictOutcome w → v ≡ w) × ((p q : Parsed) → parsedOutcome p ≡ parsedOutcome q → p ≡ q)
 outcome-one-to-one = (one-to-one verdicts, one-to-one readings)
+
+-- What the reader tells of a record, in the documents' words (document 02, E4). Of a record of each kind: when it is accepted, and refusals 3 to 5; and
+-- refusal 2.
+pub kind-accepts : (k : Kind) → Accepts (kinds.layout k)
+kind-accepts = kinds.accepts
+
+pub kind-refuses : (k : Kind) → Refuses (kinds.layout k)
+kind-refuses = kinds.refuses
+
+pub other-kind : (s : List ℕ) → recordAnswer s ≡ refusal 2 0 ↔ Whole s × (bytesAt s 2 2 ≡ 1 → ⊥) × (bytesAt s 2 2 ≡ 2 → ⊥)
+other-kind = kinds.refused-kind
+
+-- Records of the same grid have the same board, whatever their kinds.
+pub one-form : (s t : List ℕ) → SameGrid s t → boardOf s ≡ boardOf t
+one-form = kinds.one-form

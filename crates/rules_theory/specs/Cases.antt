@@ -1,29 +1,52 @@
--- The starred cases of document 01's "Grids to try" that concern the record reader: records, and what it tells of each.
+-- The starred cases of document 01's "Grids to try" that concern the record reader, with those of kind 2 beside them: records, and what it tells of each.
+-- Then records that tell the kinds apart.
 use Prim.Native.Nat.{ℕ, _+_, _*_}
-use lib.ListN.{replicate}
+use lib.ListN.{length, replicate}
 use mathlib.Core.List.{List, [], _∷_}
 use Rattle.answers.specs.declared.Outcome.{Outcome}
-use Rattle.answers.specs.Outcome.{refusal}
+use Rattle.answers.specs.Outcome.{refusal, answer}
 
 pub record ReaderCase : Type 0 where
   pub bytes : List ℕ
   pub says : Outcome
 
--- a record of kind 1 with these sides and cells; its length is below 256
-abbrev recordOf : ℕ → ℕ → List ℕ → ℕ → List ℕ
-recordOf rows columns cells size = (6 + size) ∷ 0 ∷ 1 ∷ 0 ∷ rows ∷ columns ∷ cells
+-- a record of a kind with these sides and the bytes of its cells; its length is below 256
+abbrev recordOf : ℕ → ℕ → ℕ → List ℕ → List ℕ
+recordOf kind rows columns cells = (6 + length cells) ∷ 0 ∷ kind ∷ 0 ∷ rows ∷ columns ∷ cells
 
--- open cells only
-abbrev openRecord : ℕ → ℕ → List ℕ
-openRecord rows columns = recordOf rows columns (replicate (rows * columns) 0) (rows * columns)
+-- open cells only, of so many bytes each
+abbrev openRecord : ℕ → ℕ → ℕ → ℕ → List ℕ
+openRecord kind bytes rows columns = recordOf kind rows columns (replicate (bytes * (rows * columns)) 0)
 
--- 0x0F and 0x50 are refused as 5, sides 0 and 25 as 3, for rows and for columns
+-- 0x0F and 0x50 are refused as 5, sides 0 and 25 as 3, for rows and for columns; in kind 2 sides 0 and 46
 abbrev pub readerCases : List ReaderCase
 readerCases =
-    record { bytes = recordOf 1 1 (0x0F ∷ []) 1; says = refusal 5 0 } ∷
-    record { bytes = recordOf 1 1 (0x50 ∷ []) 1; says = refusal 5 0 } ∷
-    record { bytes = openRecord 0 1; says = refusal 3 0 } ∷
-    record { bytes = openRecord 1 0; says = refusal 3 0 } ∷
-    record { bytes = openRecord 25 1; says = refusal 3 0 } ∷
-    record { bytes = openRecord 1 25; says = refusal 3 0 } ∷
+    record { bytes = recordOf 1 1 1 (0x0F ∷ []); says = refusal 5 0 } ∷
+    record { bytes = recordOf 1 1 1 (0x50 ∷ []); says = refusal 5 0 } ∷
+    record { bytes = openRecord 1 1 0 1; says = refusal 3 0 } ∷
+    record { bytes = openRecord 1 1 1 0; says = refusal 3 0 } ∷
+    record { bytes = openRecord 1 1 25 1; says = refusal 3 0 } ∷
+    record { bytes = openRecord 1 1 1 25; says = refusal 3 0 } ∷
+    record { bytes = openRecord 2 2 0 1; says = refusal 3 0 } ∷
+    record { bytes = openRecord 2 2 1 0; says = refusal 3 0 } ∷
+    record { bytes = openRecord 2 2 46 1; says = refusal 3 0 } ∷
+    record { bytes = openRecord 2 2 1 46; says = refusal 3 0 } ∷
+    []
+
+-- kinds 0, 3 and 256 are refused; in kind 2, sides 25 and 45 are accepted; a length of 6 + N is refused; codes 0x1000 and 0x102C are clues, 0x102D and
+-- 0x5000 are none, and 0x0001 in the second cell is refused beside 1; the bytes `10 00` are 0x0010, which is none
+abbrev pub kindCases : List ReaderCase
+kindCases =
+    record { bytes = recordOf 0 1 1 (0 ∷ []); says = refusal 2 0 } ∷
+    record { bytes = recordOf 3 1 1 (0 ∷ []); says = refusal 2 0 } ∷
+    record { bytes = 7 ∷ 0 ∷ 0 ∷ 1 ∷ 1 ∷ 1 ∷ 0 ∷ []; says = refusal 2 0 } ∷
+    record { bytes = openRecord 2 2 25 1; says = answer 25 1 2 } ∷
+    record { bytes = openRecord 2 2 1 45; says = answer 1 45 2 } ∷
+    record { bytes = openRecord 2 1 1 1; says = refusal 4 0 } ∷
+    record { bytes = recordOf 2 1 1 (0x00 ∷ 0x10 ∷ []); says = answer 1 1 2 } ∷
+    record { bytes = recordOf 2 1 1 (0x2C ∷ 0x10 ∷ []); says = answer 1 1 2 } ∷
+    record { bytes = recordOf 2 1 1 (0x2D ∷ 0x10 ∷ []); says = refusal 5 0 } ∷
+    record { bytes = recordOf 2 1 1 (0x00 ∷ 0x50 ∷ []); says = refusal 5 0 } ∷
+    record { bytes = recordOf 2 1 2 (0 ∷ 0 ∷ 1 ∷ 0 ∷ []); says = refusal 5 1 } ∷
+    record { bytes = recordOf 2 1 1 (0x10 ∷ 0x00 ∷ []); says = refusal 5 0 } ∷
     []

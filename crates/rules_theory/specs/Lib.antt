@@ -1,4 +1,6 @@
--- What the theorems say, where `rules` has no word for it. Loop: the walk along the links. Places: what stands beside 12 and 15. Cases: starred records.
+-- What the theorems say, where `rules` has no word for it. Loop: the walk along the links. Places: what stands beside 12 and 15.
+-- RecordKinds: the records of a kind. Cases: starred records.
 pub mod Loop
 pub mod Places
+pub mod RecordKinds
 pub mod Cases

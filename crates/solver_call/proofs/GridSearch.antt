@@ -56,10 +56,10 @@ module _ {A : Type 0} {n : ℕ} (buf us : List A) (long : length us ≡ length (
 
 module _ {g : Grid} {s : List ℕ} {needed : Needs} {ls ts : List ℤ} {ms vs ds : List ℕ} (fits : Fits g s needed ls ts ms vs ds) (budget : ℕ) where
   accepted : IsAccepted s
-  accepted = is-accepted s refl (fits .read)
+  accepted = is-accepted s {g = g} refl (fits .read)
 
   pub may-decode : RecordFits g s
-  may-decode = read-fits s refl (fits .read)
+  may-decode = read-fits s {g = g} refl (fits .read)
 
   abbrev v : ℕ
   v = variableCount (boardOf s)
@@ -113,8 +113,8 @@ module _ {g : Grid} {s : List ℕ} {needed : Needs} {ls ts : List ℤ} {ms vs ds
   grid-leaves : (values lent : List ℕ) → gridLeaves g values lent ≡ decoderLeaves s values lent
   grid-leaves values lent =
       λ i.
-      unlessRefused (goes-on s refl (fits .read) (λ g. decoderGridRows (gridBoard g s) values lent) saysYes i) lent
-      (decoded (gridBoard (read-grid s refl (fits .read) i) s) values)
+      unlessRefused (goes-on s {g = g} refl (fits .read) (λ g. decoderGridRows (gridBoard g s) values lent) saysYes i) lent
+      (decoded (gridBoard (read-grid s {g = g} refl (fits .read) i) s) values)
 
   -- after the search
   module _ (e : End) {us : List ℤ} {ns : List ℕ}

@@ -31,12 +31,12 @@ needed-is c = λ i. record { elements = c .before .count .ensures i .elements; v
 count-requires : tie.Need-count-requires
 count-requires c κs =
     let start = c .before .before .before .before in
-    read-fits (start .args .«record» .now) refl (start .pre)
+    read-fits (start .args .«record» .now) {g = start .args .g} refl (start .pre)
 
 size-requires : tie.Need-size-requires
 size-requires c κs =
     let start = start1 c in
-    read-fits (start .args .«record» .now) refl (start .pre) .sides
+    read-fits (start .args .«record» .now) {g = start .args .g} refl (start .pre) .sides
 
 first-short-requires : tie.Need-first-short-requires
 first-short-requires c κs = search needs
@@ -48,7 +48,7 @@ returns : tie.Need-returns
 returns c =
     let sought = c .before .before .before in
     let start = start1 (sought .before .before) in
-    ends-short (start .args .«record» .now) (start .args .budget) (lent start) refl (start .pre) (needed-is (sought .before))
+    ends-short (start .args .«record» .now) (start .args .budget) (lent start) {g = start .args .g} refl (start .pre) (needed-is (sought .before))
     (sought .first-short .result) (sought .first-short .ensures) (c .before .room .given .1)
 
 enum-told : tie.Need-enum-told
@@ -58,16 +58,16 @@ encode-grid-requires : tie.Need-encode-grid-requires
 encode-grid-requires c κs =
     let counted = c .before .before .before .before .before in
     let start = start1 counted in
-    (read-encodable (start .args .«record» .now) refl (start .pre), counted .count .ensures)
+    (read-encodable (start .args .«record» .now) {g = start .args .g} refl (start .pre), counted .count .ensures)
 
 find-drawing-requires : tie.Need-find-drawing-requires
 find-drawing-requires c κs =
     let encoded = c .before .before .before .before .before .before in
     let sought = encoded .before .before .before .before in
     let start = start1 (sought .before .before) in
-    fits (start .args .«record» .now) (start .args .budget) (lent start) refl (start .pre) (needed-is (sought .before))
+    fits (start .args .«record» .now) (start .args .budget) (lent start) {g = start .args .g} refl (start .pre) (needed-is (sought .before))
     (sought .first-short .result) (sought .first-short .ensures) (encoded .before .before .enum-told .given .1)
-    (ends-read (start .args .«record» .now) (start .args .list .now) refl (start .pre) (encoded .encode-grid .ensures) .1)
+    (ends-read (start .args .«record» .now) (start .args .list .now) {g = start .args .g} refl (start .pre) (encoded .encode-grid .ensures) .1)
 
 same-length : tie.Need-same-length
 same-length c = search needs
@@ -90,9 +90,9 @@ returns-2 c =
     let encoded = drawn .before .before .before .before .before .before .before in
     let sought = encoded .before .before .before .before in
     let start = start1 (sought .before .before) in
-    ends-solved (start .args .«record» .now) (start .args .budget) (lent start) refl (start .pre) (needed-is (sought .before))
+    ends-solved (start .args .«record» .now) (start .args .budget) (lent start) {g = start .args .g} refl (start .pre) (needed-is (sought .before))
     (sought .first-short .result) (sought .first-short .ensures) (encoded .before .before .enum-told .given .1)
-    (ends-read (start .args .«record» .now) (start .args .list .now) refl (start .pre) (encoded .encode-grid .ensures) .1)
+    (ends-read (start .args .«record» .now) (start .args .list .now) {g = start .args .g} refl (start .pre) (encoded .encode-grid .ensures) .1)
     (drawn .find-drawing .ensures)
 
 pub solve-grid-spec : {M : Type 1} → statement M

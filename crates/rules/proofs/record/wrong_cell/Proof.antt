@@ -1,17 +1,18 @@
 -- `rules::record::wrong_cell` meets its contract: a loop that seeks the first cell. Assumes nothing.
 use Prim.Native.Nat.{_-_}
 use borrow.Author.Needs.{needs}
-use mathlib.Core.Path.{sym, _∙_}
+use native.Mathlib.Omega.{arith}
+use mathlib.Core.Path.{_≡_, sym, _∙_, ap}
 use Rattle.answers.proofs.First.{Seeking, seek-start, seek-on, seek-found, seek-none}
-use Rattle.rules.specs.Record.{wrongCell}
+use Rattle.rules.specs.Record.{notAllowed, wrongCell}
 use Rattle.rules.proofs.record.wrong_cell.Statement.{statement}
 use Rattle.rules.proofs.record.wrong_cell.Tie as tie
 
 abbrev Inv-loop : tie.InvT-loop
-Inv-loop «record» n x₀ x = Seeking (wrongCell «record») n x
+Inv-loop g «record» n x₀ x = Seeking (wrongCell g «record») n x
 
 abbrev μ-loop : tie.MeasureT-loop
-μ-loop «record» n x₀ x = n - x
+μ-loop g «record» n x₀ x = n - x
 
 size-requires : tie.Need-size-requires Inv-loop μ-loop
 size-requires c κs = search needs
@@ -19,21 +20,24 @@ size-requires c κs = search needs
 loop-holds : tie.Need-loop-holds Inv-loop μ-loop
 loop-holds c = seek-start
 
-add-not-allowed : tie.Need-add-not-allowed Inv-loop μ-loop
-add-not-allowed c = search needs
-
-shared-slice-read-not-allowed : tie.Need-shared-slice-read-not-allowed Inv-loop μ-loop
-shared-slice-read-not-allowed c = search needs
+read-cell-requires : tie.Need-read-cell-requires Inv-loop μ-loop
+read-cell-requires c κs =
+    let z = c .before .before in
+    (z .before .before .pre, omega (arith, c .loop-test .taken, z .size .ensures))
 
 not-allowed-requires : tie.Need-not-allowed-requires Inv-loop μ-loop
 not-allowed-requires c κs = search needs
+
+-- what was asked of the cell
+is-wrong : (c : tie.After-not-allowed Inv-loop μ-loop) → let z = c .before .before .before .before .before .before in
+    wrongCell (z .args .g) (z .args .«record» .now) (c .before .before .before .loop .x) ≡ c .not-allowed .result
+is-wrong c = sym (c .not-allowed .ensures ∙ ap notAllowed (c .before .read-cell .ensures))
 
 returns : tie.Need-returns Inv-loop μ-loop
 returns c =
     let in-loop = c .before .before .before in
     let at-loop = in-loop .before in
-    let at-size = at-loop .before in
-    seek-found (at-loop .loop .inv) (in-loop .loop-test .taken) (sym (c .before .not-allowed .ensures) ∙ c .if1 .taken) (at-size .size .ensures)
+    seek-found (at-loop .loop .inv) (in-loop .loop-test .taken) (is-wrong (c .before) ∙ c .if1 .taken) (at-loop .before .size .ensures)
 
 add-x : tie.Need-add-x Inv-loop μ-loop
 add-x c = search needs
@@ -44,7 +48,7 @@ loop-less c = search needs
 loop-again : tie.Need-loop-again Inv-loop μ-loop
 loop-again c =
     let in-loop = c .before .before .before in
-    seek-on (in-loop .before .loop .inv) (in-loop .loop-test .taken) (sym (c .before .not-allowed .ensures) ∙ c .if1 .left)
+    seek-on (in-loop .before .loop .inv) (in-loop .loop-test .taken) (is-wrong (c .before) ∙ c .if1 .left)
 
 returns-2 : tie.Need-returns-2 Inv-loop μ-loop
 returns-2 c = seek-none (c .before .loop .inv) (c .loop-test .left) (c .before .before .size .ensures)
@@ -57,8 +61,7 @@ wrong-cell-spec =
     μ-loop
     size-requires
     loop-holds
-    add-not-allowed
-    shared-slice-read-not-allowed
+    read-cell-requires
     not-allowed-requires
     returns
     add-x

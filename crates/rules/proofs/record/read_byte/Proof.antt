@@ -1,0 +1,32 @@
+-- `rules::record::read_byte` meets its contract. Assumes nothing.
+use native.Mathlib.Omega.{arith}
+use mathlib.Core.Path.{_≡_}
+use Rattle.rules.specs.declared.Kind.the-variants.{One}
+use Rattle.rules.proofs.Records.{clue-within, no-direction, past-codes}
+use Rattle.rules.proofs.record.read_byte.Statement.{statement}
+use Rattle.rules.proofs.record.read_byte.Tie as tie
+
+returns : tie.Need-returns
+returns c = let t : c .before .args .b ≡ 0 = c .match .keys1 in rw t
+
+returns-2 : tie.Need-returns-2
+returns-2 c = clue-within One _ 1 (omega arith) (omega arith) (omega arith) (omega arith)
+
+returns-3 : tie.Need-returns-3
+returns-3 c = clue-within One _ 2 (omega arith) (omega arith) (omega arith) (omega arith)
+
+returns-4 : tie.Need-returns-4
+returns-4 c = clue-within One _ 3 (omega arith) (omega arith) (omega arith) (omega arith)
+
+returns-5 : tie.Need-returns-5
+returns-5 c = clue-within One _ 4 (omega arith) (omega arith) (omega arith) (omega arith)
+
+returns-6 : tie.Need-returns-6
+returns-6 c = no-direction One _ (c .before .match .rest .1) (c .if1 .taken)
+
+returns-7 : tie.Need-returns-7
+returns-7 c = past-codes One _ (c .if5 .left)
+
+pub read-byte-spec : {M : Type 1} → statement M
+read-byte-spec =
+    tie.close (tie.spec returns returns-2 returns-3 returns-4 returns-5 returns-6 returns-7)
