@@ -24,9 +24,15 @@
  *
  * The contents of a buffer may be anything: the call is answered or refused.
  *
- * A grid record, little-endian: bytes 0-1 its length, 2-3 the kind 1, byte 4 rows, byte 5 columns (1 to 24 each), then a
- * byte for each of the N = rows * columns cells, row by row: 0x00 open, or a clue, 0x10 to 0x4F, whose upper four bits are
- * its direction (1 north, 2 east, 3 south, 4 west) and whose lower four bits are its number. Cells are numbered from 0.
+ * A grid record: bytes 0-1 its length, 2-3 its kind, 1 or 2, byte 4 rows, byte 5 columns, then the codes of the
+ * N = rows * columns cells, row by row. Numbers of two bytes are little-endian. Cells are numbered from 0.
+ *
+ * - Kind 1: sides 1 to 24, a code has one byte: 0x00 open, or a clue, 0x10 to 0x4F, whose upper four bits are its
+ *   direction (1 north, 2 east, 3 south, 4 west) and whose lower four bits are its number. The length is 6 + N.
+ * - Kind 2: sides 1 to 45, a code has two bytes: 0x0000 open, or a clue, whose upper four bits are its direction (1 to 4)
+ *   and whose lower twelve bits are its number, 0 to 44. The length is 6 + 2 * N.
+ *
+ * A function that takes a record takes either kind. Accepted records of the same grid get the same answers and refusals.
  *
  * A drawing has N bytes: 0x20 a clue, 0x10 black, else white with the sum of its links (1 north, 2 east, 4 south, 8 west).
  *
@@ -44,15 +50,15 @@ extern "C" {
 #endif
 
 #define YAJILIN_MOST_VARIABLES 16777216
-#define YAJILIN_MOST_CELLS 576
+#define YAJILIN_MOST_CELLS 2025
 
 /* The refusals, and the value beside each. Cells, indexes and bytes are counted from 0, variables from 1. */
 enum yajilin_refusal {
     YAJILIN_RECORD_LENGTH = 1,   /* record under 6 bytes, or its length field isn't its length: 0 */
-    YAJILIN_KIND = 2,            /* kind not 1: 0 */
-    YAJILIN_SIDES = 3,           /* a side not 1 to 24: 0 */
-    YAJILIN_CELL_COUNT = 4,      /* length not 6 + N: 0 */
-    YAJILIN_CELL_BYTE = 5,       /* a cell byte that isn't allowed: the first such cell */
+    YAJILIN_KIND = 2,            /* kind not 1 or 2: 0 */
+    YAJILIN_SIDES = 3,           /* a side not 1 to 24, in kind 2 not 1 to 45: 0 */
+    YAJILIN_CELL_COUNT = 4,      /* length not 6 + N, in kind 2 not 6 + 2 * N: 0 */
+    YAJILIN_CELL_BYTE = 5,       /* a cell's code that isn't allowed: the first such cell */
     YAJILIN_ROOM = 6,            /* output shorter than needed: elements needed (2^64 - 1 if more) */
     YAJILIN_DRAWING_LENGTH = 7,  /* drawing not N bytes: 0 */
     YAJILIN_VALUE_COUNT = 8,     /* values not V bytes: 0 */

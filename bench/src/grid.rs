@@ -37,16 +37,44 @@ impl Sides {
     }
 }
 
-pub fn record_of(sides: Sides, cells: &[u8]) -> Vec<u8> {
-    let length = (6 + cells.len()) as u16;
-    let mut record = length.to_le_bytes().to_vec();
-    record.extend([1, 0, sides.rows as u8, sides.columns as u8]);
-    record.extend(cells);
-    record
+/// A record's kind, and what it sets.
+#[derive(Clone, Copy)]
+pub struct Kind {
+    pub number: u16,
+    pub most_side: u8,
+    pub cell_bytes: usize,
+    /// The lower bits of a clue's code, which are its number.
+    pub number_bits: u32,
+    pub most_number: u16,
+}
+
+pub const KINDS: [Kind; 2] = [
+    Kind { number: 1, most_side: 24, cell_bytes: 1, number_bits: 4, most_number: 15 },
+    Kind { number: 2, most_side: 45, cell_bytes: 2, number_bits: 12, most_number: 44 },
+];
+
+impl Kind {
+    /// The first that has such a side.
+    fn with_side(side: usize) -> Kind {
+        KINDS[(side > KINDS[0].most_side as usize) as usize]
+    }
+
+    /// The record of a grid whose clues are directions and numbers.
+    fn record_of(self, sides: Sides, cells: &[Option<(usize, usize)>]) -> Vec<u8> {
+        let length = (6 + self.cell_bytes * cells.len()) as u16;
+        let mut record = length.to_le_bytes().to_vec();
+        record.extend(self.number.to_le_bytes());
+        record.extend([sides.rows as u8, sides.columns as u8]);
+        for cell in cells {
+            let code = cell.map_or(0, |(d, number)| (d + 1) << self.number_bits | number);
+            record.extend(&code.to_le_bytes()[..self.cell_bytes]);
+        }
+        record
+    }
 }
 
 pub fn open(side: usize) -> Vec<u8> {
-    record_of(Sides { rows: side, columns: side }, &vec![0; side * side])
+    Kind::with_side(side).record_of(Sides { rows: side, columns: side }, &vec![None; side * side])
 }
 
 /// Numbers that are the same in every run (SplitMix64).
@@ -125,6 +153,11 @@ impl Region {
 /// A grid with a solution, and that solution: a loop through about 7 of 10 cells, of the others about half black and half clues, with
 /// the numbers that fit. Whether it has other solutions isn't looked at.
 pub fn dealt(side: usize, seed: u64) -> (Vec<u8>, Vec<u8>) {
+    dealt_in(Kind::with_side(side), side, seed)
+}
+
+/// The same in a record of some kind.
+pub fn dealt_in(kind: Kind, side: usize, seed: u64) -> (Vec<u8>, Vec<u8>) {
     let sides = Sides { rows: side, columns: side };
     let mut dice = Dice(seed);
     let mut drawing = Region::grown(side - 1, side * side * 7 / 10, &mut dice).outline(sides);
@@ -134,13 +167,13 @@ pub fn dealt(side: usize, seed: u64) -> (Vec<u8>, Vec<u8>) {
             drawing[x] = if beside_black || dice.below(3) == 0 { CLUE } else { BLACK };
         }
     }
-    let mut cells = vec![0; sides.size()];
+    let mut cells = vec![None; sides.size()];
     for x in 0..sides.size() {
         if drawing[x] == CLUE {
             let d = dice.below(4);
             let black = sides.line(x, d).filter(|&y| drawing[y] == BLACK).count();
-            cells[x] = (d as u8 + 1) << 4 | black as u8;
+            cells[x] = Some((d, black));
         }
     }
-    (record_of(sides, &cells), drawing)
+    (kind.record_of(sides, &cells), drawing)
 }

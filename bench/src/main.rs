@@ -47,7 +47,7 @@ fn row(what: &str, against: &str, times: Times, shown: impl Fn(f64) -> String, r
 }
 
 fn encoder_rows(rows: &mut Vec<Row>) {
-    for side in [6, 12, 24] {
+    for side in [6, 12, 24, 45] {
         let what = format!("encode, open {side}×{side}");
         let record = grid::open(side);
         let source = clauses_of(&what, &record).list;
@@ -224,23 +224,50 @@ fn trail_row() -> Row {
 }
 
 /// The judge on a solved grid; and on the drawings with one byte changed, where it must refuse as plain Rust does.
-fn judge_row() -> Row {
-    let what = "judge, solved 24×24";
-    let (record, mut drawing) = grid::dealt(24, 1);
-    same(what, &library::judge(&record, &drawing), &(0, [0; 4]));
-    let times = side_by_side(ROUNDS, &mut || same(what, &library::judge(black_box(&record), black_box(&drawing)).0, &0), &mut || {
-        same(what, &plain::judge(black_box(&record), black_box(&drawing)), &(0, 0))
+fn judge_row(side: usize, goal: Goal) -> Row {
+    let what = format!("judge, solved {side}×{side}");
+    let (record, mut drawing) = grid::dealt(side, 1);
+    same(&what, &library::judge(&record, &drawing), &(0, [0; 4]));
+    let times = side_by_side(ROUNDS, &mut || same(&what, &library::judge(black_box(&record), black_box(&drawing)).0, &0), &mut || {
+        same(&what, &plain::judge(black_box(&record), black_box(&drawing)), &(0, 0))
     });
     for x in 0..drawing.len() {
         let was = drawing[x];
         for byte in 0..=0x21 {
             drawing[x] = byte;
-            let (number, beside) = plain::judge(&record, &drawing);
-            same(what, &library::judge(&record, &drawing), &(number, [beside, 0, 0, 0]));
+            same_judged(&what, &record, &drawing);
         }
         drawing[x] = was;
     }
-    time_row(what, times, |seconds| format!("{:.1} µs", seconds * 1e6), Goal::AtMost(2.0))
+    time_row(&what, times, |seconds| format!("{:.1} µs", seconds * 1e6), goal)
+}
+
+/// The judge and plain Rust answer or refuse alike; the refusal's number.
+fn same_judged(what: &str, record: &[u8], drawing: &[u8]) -> u64 {
+    let (number, beside) = plain::judge(record, drawing);
+    same(what, &library::judge(record, drawing), &(number, [beside, 0, 0, 0]));
+    number
+}
+
+/// A small grid in either kind of record: the same clauses. And each record with one byte changed, at every place: library and plain
+/// Rust refuse it alike, or judge and encode it alike.
+fn compare_kinds() {
+    let what = "record, one byte changed";
+    let dealt = grid::KINDS.map(|kind| grid::dealt_in(kind, 4, 1));
+    let [one, two] = dealt.each_ref().map(|(record, _)| clauses_of(what, record));
+    same(what, &(one.variables, one.list), &(two.variables, two.list));
+    for (mut record, drawing) in dealt {
+        for at in 0..record.len() {
+            let was = record[at];
+            for byte in 0..=255 {
+                record[at] = byte;
+                if !(1..=5).contains(&same_judged(what, &record, &drawing)) {
+                    clauses_of(what, &record);
+                }
+            }
+            record[at] = was;
+        }
+    }
 }
 
 fn main() {
@@ -260,6 +287,8 @@ fn main() {
     compare_refused_texts();
     search_rows(&mut rows);
     rows.push(trail_row());
-    rows.push(judge_row());
+    compare_kinds();
+    rows.push(judge_row(24, Goal::AtMost(2.0)));
+    rows.push(judge_row(45, Goal::Shown));
     table::print(&rows);
 }

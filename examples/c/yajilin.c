@@ -32,10 +32,10 @@ static const char *cause(uint64_t number)
 {
     switch (number) {
     case YAJILIN_RECORD_LENGTH: return "not a record: under 6 bytes, or its length field isn't the file's length";
-    case YAJILIN_KIND: return "not a grid record: its kind isn't 1";
-    case YAJILIN_SIDES: return "a side isn't 1 to 24";
-    case YAJILIN_CELL_COUNT: return "the record's length doesn't fit its sides";
-    case YAJILIN_CELL_BYTE: return "a cell byte that isn't allowed";
+    case YAJILIN_KIND: return "not a grid record: its kind isn't 1 or 2";
+    case YAJILIN_SIDES: return "a side isn't 1 to 24 (in kind 2: 1 to 45)";
+    case YAJILIN_CELL_COUNT: return "the record's length doesn't fit its kind and sides";
+    case YAJILIN_CELL_BYTE: return "a cell's code that isn't allowed";
     default: return "turned down";
     }
 }

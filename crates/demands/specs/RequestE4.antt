@@ -5,14 +5,14 @@ use Prim.Native.Nat.{ℕ, _≤_, _<_, _^_}
 use lib.IntN.{ℤ}
 use lib.ListN.{length}
 use mathlib.Core.Path.{_≡_}
-use mathlib.Core.Logic.{_↔_}
+use mathlib.Core.Logic.{_↔_, _⊎_}
 use mathlib.Core.Option.{none}
 use mathlib.Core.List.{List}
 use Rattle.answers.specs.Outcome.{refusal}
 use Rattle.rules.specs.Record.{recordAnswer, IsAccepted}
 use Rattle.rules.specs.Board.{boardOf}
 use Rattle.rules.specs.Judge.{judgeAnswer}
-use Rattle.rules_theory.specs.RecordKinds.{Layout, bytesAt, Whole, Accepts, Refuses, SameGrid}
+use Rattle.rules_theory.specs.RecordKinds.{Layout, OfKind, OfOtherKind, Accepts, Refuses, SameGrid}
 use Rattle.cnf.specs.Literals.{mostVariables, wrongList}
 use Rattle.encoder.specs.Variables.{variableCount}
 use Rattle.encoder.specs.Clauses.{clauseList}
@@ -22,11 +22,11 @@ use Rattle.encoder.specs.Decoding.{decoderAnswer, decoderLeaves}
 
 -- sides to 24, one byte a cell, lower four bits the number, 0 to 15
 abbrev pub kindOne : Layout
-kindOne = record { kind = 1; side = 24; bytes = 1; codes = 0x10; number = 15 }
+kindOne = record { kind = 1; side = 24; bytes = 1; unit = 0x10; number = 15 }
 
 -- sides to 45, two bytes a cell, lower twelve bits the number, 0 to 44
 abbrev pub kindTwo : Layout
-kindTwo = record { kind = 2; side = 45; bytes = 2; codes = 0x1000; number = 44 }
+kindTwo = record { kind = 2; side = 45; bytes = 2; unit = 0x1000; number = 44 }
 
 pub record RequestE4 : Type 0 where
   -- "Wall sheets reach 45 cells a side, and a number may pass 15. Kind 2 has sides 1 to 45 and two bytes a cell, little-endian: upper four bits the direction
@@ -36,11 +36,12 @@ pub record RequestE4 : Type 0 where
   pub kind-one : Accepts kindOne
   pub one-refused : Refuses kindOne
   -- "Refusal 2 is given for a kind other than 1 or 2;"
-  pub other-kind : (s : List ℕ) → recordAnswer s ≡ refusal 2 0 ↔ Whole s × (bytesAt s 2 2 ≡ 1 → ⊥) × (bytesAt s 2 2 ≡ 2 → ⊥)
+  pub other-kind : (s : List ℕ) → recordAnswer s ≡ refusal 2 0 ↔ OfOtherKind s
   -- "refusals 3 to 5 read these limits for kind 2."
   pub two-refused : Refuses kindTwo
   -- "Grids of either kind are covered through one inner form of the grid,"
-  -- (Records of the same grid have the same board, and the judge, the encoder and the decoder tell and leave the same of them.)
+  -- (No other record is accepted. Records of the same grid have the same board, and the judge, the encoder and the decoder tell and leave the same of them.)
+  pub either-kind : (s : List ℕ) → IsAccepted s → OfKind kindOne s ⊎ OfKind kindTwo s
   pub one-form : (s t : List ℕ) → SameGrid s t → boardOf s ≡ boardOf t
   pub same-judged : (s t : List ℕ) → IsAccepted s → IsAccepted t → SameGrid s t → (ds : List ℕ) → judgeAnswer s ds ≡ judgeAnswer t ds
   pub same-encoded : (s t : List ℕ) → IsAccepted s → IsAccepted t → SameGrid s t → (out : List ℤ)
@@ -49,7 +50,7 @@ pub record RequestE4 : Type 0 where
       → (decoderAnswer s values lent ≡ decoderAnswer t values lent) × (decoderLeaves s values lent ≡ decoderLeaves t values lent)
   -- "with the arguments about clauses made for the larger limits."
   -- (The bounds on which the encoder's code and the arguments rest are those of 45 times 45 cells and numbers to 44. Every accepted grid keeps them: V is one
-  -- that search and writer take, the list has a length of 64 bits by far and gets no 16 for that V. The demands speak of every accepted grid.)
+  -- that search and writer take, the list is far shorter than 2^64 and gets no 16 for that V. The demands speak of every accepted grid.)
   pub larger-limits : (s : List ℕ) → IsAccepted s → BoundedBoard (boardOf s)
   pub few-variables : (s : List ℕ) → IsAccepted s → variableCount (boardOf s) ≤ mostVariables
   pub short-list : (s : List ℕ) → IsAccepted s → length (clauseList (boardOf s)) < 2 ^ 40

@@ -30,11 +30,7 @@ pub fn is_open(g: Grid, record: &[u8], x: usize) -> bool
     requires { ⌜ x < size g ⌝ }
     ensures { λ r. ⌜ r ≡ gridBoard g (now («record» .entry)) .isOpen x ⌝ }
 {
-    let c = g.cell(record, x);
-    let Cell::Open = c else {
-        return false;
-    };
-    true
+    g.is_open(record, x)
 }
 
 // A byte that its cell doesn't allow: over 0x20, 0x11 to 0x1F, or 0x20 and clue not together.

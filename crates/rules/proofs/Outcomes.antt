@@ -19,7 +19,7 @@ use Rattle.rules.specs.declared.JudgeRefusal.{JudgeRefusal}
 use Rattle.rules.specs.declared.JudgeRefusal.the-variants.{Record, DrawingLength, Rule}
 use Rattle.rules.specs.declared.Verdict.{Verdict}
 use Rattle.rules.specs.declared.Verdict.the-variants.{Yes, No}
-use Rattle.rules.specs.Record.{kindNumber, readKind, isKind, gridAnswer, recordRefusalOutcome, parsedOutcome}
+use Rattle.rules.specs.Record.{kindNumber, readKind, kindOf, gridAnswer, recordRefusalOutcome, parsedOutcome}
 use Rattle.rules.specs.Judge.{ruleRefusalOutcome, judgeRefusalOutcome, verdictOutcome}
 
 -- the reader's refusals are 1 to 5
@@ -53,12 +53,12 @@ record-refusals = record { from = from; back = back }
 
 -- the grid of an accepted record, by what is told of it
 abbrev pub gridTold : Outcome → Grid
-gridTold t = record { kind = isKind (readKind (t .third)); rows = t .first; columns = t .second }
+gridTold t = record { kind = kindOf (readKind (t .third)); rows = t .first; columns = t .second }
 
 pub grid-told : (g : Grid) → gridTold (gridAnswer g) ≡ g
 grid-told g = λ i. record { kind = by (g .kind) i; rows = g .rows; columns = g .columns }
   where
-    by : (k : Kind) → isKind (readKind (kindNumber k)) ≡ k
+    by : (k : Kind) → kindOf (readKind (kindNumber k)) ≡ k
     by One = refl
     by Two = refl
 

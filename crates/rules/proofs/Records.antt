@@ -1,5 +1,5 @@
--- Cell bytes, and what an accepted record is. Assumes nothing.
-use Prim.Native.Nat.{ℕ, _+_, _*_, _/_, _%_, _≤_, _<_}
+-- The codes of cells, and what an accepted record is. Assumes nothing.
+use Prim.Native.Nat.{ℕ, _+_, _-_, _*_, _/_, _%_, _≤_, _<_}
 use native.Mathlib.Omega.{arith}
 use native.Mathlib.Nat.{mul-le-mul, div-add-mod'}
 use lib.Dec.{eqb, leb, ltb}
@@ -9,7 +9,8 @@ use mathlib.Core.Path.{_≡_, refl, sym, _∙_, ap, subst}
 use mathlib.Core.Bool.{Bool, true, false, not, cond}
 use mathlib.Core.Option.{none, some}
 use mathlib.Core.List.{List, _++_}
-use Rattle.answers.proofs.Bools.{and-both, or-left, or-right, or-neither}
+use Rattle.answers.proofs.First.{first-none}
+use Rattle.answers.proofs.Bools.{clash, and-both, or-left, or-right, or-neither}
 use Rattle.answers.proofs.Rows.{Clear, answered-clear, clear-answered, no-cause, still-refused, refusals-append}
 use Rattle.answers.proofs.OneToOne.{number-not}
 use Rattle.answers.proofs.Elements.{all-map, made-long, made-at}
@@ -19,6 +20,7 @@ use Rattle.answers.specs.First.{firstWhere}
 use Rattle.answers.specs.Outcome.{Row, cause, firstRefusal}
 use Rattle.rules.specs.declared.Cell.{Cell}
 use Rattle.rules.specs.declared.Cell.the-variants.{Open, Clue}
+use Rattle.rules.specs.declared.CellCode.{CellCode}
 use Rattle.rules.specs.declared.CellCode.the-variants.{Is, NotAllowed}
 use Rattle.rules.specs.declared.Kind.{Kind}
 use Rattle.rules.specs.declared.Kind.the-variants.{One, Two}
@@ -27,61 +29,98 @@ use Rattle.rules.specs.declared.Grid.{Grid}
 use Rattle.rules.specs.declared.RecordRefusal.{RecordRefusal}
 use Rattle.rules.specs.declared.Parsed.{Parsed}
 use Rattle.rules.specs.declared.Parsed.the-variants.{Accepted, Refused}
-use Rattle.rules.specs.Board.{boardOf}
+use Rattle.rules.specs.Board.{openCell, boardOf}
 use Rattle.rules.proofs.Boards.{Laws, Filled, laws}
 use Rattle.rules.proofs.Outcomes.{record-numbers, gridTold, grid-told}
-use Rattle.rules.specs.Record.{readKind, isKind, noKind, mostSide, cellBytes, mostNumber, perDirection, directionOf, isDirection, isClue}
-use Rattle.rules.specs.Record.{readCell, isCell, word, gridOf, size, cellCode, cellAt, puzzle, isSide, Sides, RecordFits}
+use Rattle.rules.specs.Record.{readKind, kindOf, kindNotAllowed, mostSide, cellBytes, mostNumber, directionUnit, directionOf, isDirection, isClue}
+use Rattle.rules.specs.Record.{readCell, cellOf, notAllowed, word, gridOf, size, cellCode, cellAt, puzzle, isSide, Sides, RecordSized, RecordFits}
 use Rattle.rules.specs.Record.{wrongLength, wrongKind, wrongSide, wrongSize, wrongCell, recordRows, gridAnswer, recordAnswer, IsAccepted}
 use Rattle.rules.specs.Record.{recordRefusalOutcome, parsedOutcome}
 
 -- The codes of cells, once for every direction and kind
 
 -- a clue's code: its direction d and its number n
-clue-of : (k : Kind) (c d n : ℕ) → 1 ≤ d → d ≤ 4 → n ≤ mostNumber k → (c ≡ 0 → ⊥) → c / perDirection k ≡ d → c % perDirection k ≡ n
+clue-of : (k : Kind) (c d n : ℕ) → 1 ≤ d → d ≤ 4 → n ≤ mostNumber k → (c ≡ 0 → ⊥) → c / directionUnit k ≡ d → c % directionUnit k ≡ n
     → Is (Clue (directionOf d) n) ≡ readCell k c
 clue-of k c d n low high m z q r = simp (ne-eqb c 0 z, q, r, le-leb 1 d low, le-leb d 4 high, le-leb n (mostNumber k) m)
 
-pub clue-code : (k : Kind) (c d n : ℕ) → 1 ≤ d → d ≤ 4 → n ≤ mostNumber k → c ≡ d * perDirection k + n → Is (Clue (directionOf d) n) ≡ readCell k c
+pub clue-code : (k : Kind) (c d n : ℕ) → 1 ≤ d → d ≤ 4 → n ≤ mostNumber k → c ≡ d * directionUnit k + n → Is (Clue (directionOf d) n) ≡ readCell k c
 clue-code One c d n low high m e = clue-of One c d n low high m (λ z. omega arith) (omega arith) (omega arith)
 clue-code Two c d n low high m e = clue-of Two c d n low high m (λ z. omega arith) (omega arith) (omega arith)
 
 -- the codes of a direction from its first to its largest number
-pub clue-within : (k : Kind) (c d : ℕ) → 1 ≤ d → d ≤ 4 → d * perDirection k ≤ c → c ≤ d * perDirection k + mostNumber k
-    → Is (Clue (directionOf d) (c % perDirection k)) ≡ readCell k c
+pub clue-within : (k : Kind) (c d : ℕ) → 1 ≤ d → d ≤ 4 → d * directionUnit k ≤ c → c ≤ d * directionUnit k + mostNumber k
+    → Is (Clue (directionOf d) (c % directionUnit k)) ≡ readCell k c
 clue-within One c d low high from to = clue-code One c d _ low high (omega arith) (omega arith)
 clue-within Two c d low high from to = clue-code Two c d _ low high (omega arith) (omega arith)
 
-pub clue-parts : (k : Kind) (c : ℕ) → isClue k c ≡ true → (1 ≤ c / perDirection k) × (c / perDirection k ≤ 4) × (c % perDirection k ≤ mostNumber k)
-clue-parts k c e =
-    let (d, m) = and-both (isDirection (c / perDirection k)) _ e in
-    let (low, high) = and-both (leb 1 (c / perDirection k)) _ d in
-    (leb-true _ _ low, leb-true _ _ high, leb-true _ _ m)
+-- what a code is read as
+pub data ReadAs (k : Kind) (c : ℕ) : CellCode → Type 0 where
+  as-open : c ≡ 0 → ReadAs k c (Is Open)
+  as-clue : (d n : ℕ) → 1 ≤ d → d ≤ 4 → n ≤ mostNumber k → c ≡ d * directionUnit k + n → ReadAs k c (Is (Clue (directionOf d) n))
+  as-none : ReadAs k c NotAllowed
 
--- what is neither 0 nor such a code is not allowed:
-no-code : (k : Kind) (c : ℕ) → (c ≡ 0 → ⊥) → ((d n : ℕ) → 1 ≤ d → d ≤ 4 → n ≤ mostNumber k → c ≡ d * perDirection k + n → ⊥) → NotAllowed ≡ readCell k c
-no-code k c z no-clue = rw (ne-eqb c 0 z) (by (isClue k c) refl)
+pub read-as : (k : Kind) (c : ℕ) → ReadAs k c (readCell k c)
+read-as k c = by (eqb c 0) refl (isClue k c) refl
   where
-    by : (t : Bool) → isClue k c ≡ t → NotAllowed ≡ cond t (Is (Clue (directionOf (c / perDirection k)) (c % perDirection k))) NotAllowed
-    by false e = refl
-    by true e = let p = clue-parts k c e in absurd (no-clue _ _ (p .0) (p .1) (p .2) (sym (div-add-mod' c (perDirection k))))
+    by : (s : Bool) → eqb c 0 ≡ s → (t : Bool) → isClue k c ≡ t
+        → ReadAs k c (cond s (Is Open) (cond t (Is (Clue (directionOf (c / directionUnit k)) (c % directionUnit k))) NotAllowed))
+    by true z t e = as-open (eqb-true c 0 z)
+    by false z true e =
+        let (d, m) = and-both (isDirection (c / directionUnit k)) _ e in
+        let (low, high) = and-both (leb 1 (c / directionUnit k)) _ d in
+        as-clue _ _ (leb-true _ _ low) (leb-true _ _ high) (leb-true _ _ m) (sym (div-add-mod' c (directionUnit k)))
+    by false z false e = as-none
+
+-- what is neither 0 nor a clue's code is not allowed:
+no-code : (k : Kind) (c : ℕ) → (c ≡ 0 → ⊥) → ((d n : ℕ) → 1 ≤ d → d ≤ 4 → n ≤ mostNumber k → c ≡ d * directionUnit k + n → ⊥) → NotAllowed ≡ readCell k c
+no-code k c z no-clue = by (read-as k c)
+  where
+    by : {r : CellCode} → ReadAs k c r → NotAllowed ≡ r
+    by (as-open e) = absurd (z e)
+    by (as-clue d n low high m e) = absurd (no-clue d n low high m e)
+    by as-none = refl
 
 -- a number with no direction, one that is too large, and all after the last clue
-pub no-direction : (k : Kind) (c : ℕ) → (c ≡ 0 → ⊥) → c < perDirection k → NotAllowed ≡ readCell k c
+pub no-direction : (k : Kind) (c : ℕ) → (c ≡ 0 → ⊥) → c < directionUnit k → NotAllowed ≡ readCell k c
 no-direction One c z h = no-code One c z (λ d n low high m e. omega arith)
 no-direction Two c z h = no-code Two c z (λ d n low high m e. omega arith)
 
-pub large-number : (k : Kind) (c b : ℕ) → b * perDirection k + mostNumber k < c → c < (b + 1) * perDirection k → NotAllowed ≡ readCell k c
+pub large-number : (k : Kind) (c b : ℕ) → b * directionUnit k + mostNumber k < c → c < (b + 1) * directionUnit k → NotAllowed ≡ readCell k c
 large-number One c b over under = no-code One c (λ z. omega arith) (λ d n low high m e. omega arith)
 large-number Two c b over under = no-code Two c (λ z. omega arith) (λ d n low high m e. omega arith)
 
-pub past-codes : (k : Kind) (c : ℕ) → 4 * perDirection k + mostNumber k < c → NotAllowed ≡ readCell k c
+pub past-codes : (k : Kind) (c : ℕ) → 4 * directionUnit k + mostNumber k < c → NotAllowed ≡ readCell k c
 past-codes One c h = no-code One c (λ z. omega arith) (λ d n low high m e. omega arith)
 past-codes Two c h = no-code Two c (λ z. omega arith) (λ d n low high m e. omega arith)
 
 -- the cell numbered x is that of its code
 pub cell-at : (g : Grid) (s : List ℕ) (x : ℕ) → x < size g → cellAt (g .kind) s x ≡ getD (puzzle g s .cells) x Open
 cell-at g s x h = sym (made-at (cellAt (g .kind) s) Open (size g) x h)
+
+-- the sum of a code's first and last byte
+abbrev endsSum : Kind → List ℕ → ℕ → ℕ
+endsSum k s x = getD s (6 + cellBytes k * x) 0 + getD s (6 + cellBytes k * x + cellBytes k - 1) 0
+
+sum-zero : (k : Kind) (s : List ℕ) (x : ℕ) → (cellCode k s x ≡ 0 → endsSum k s x ≡ 0) × (endsSum k s x ≡ 0 → cellCode k s x ≡ 0)
+sum-zero One s x =
+    let first : 6 + 1 * x ≡ 6 + x = omega arith in
+    let last : 6 + 1 * x + 1 - 1 ≡ 6 + x = omega arith in
+    rw (last, first) (λ e. omega arith, λ e. omega arith)
+sum-zero Two s x = let last : 6 + 2 * x + 2 - 1 ≡ 6 + 2 * x + 1 = omega arith in rw last (λ e. omega arith, λ e. omega arith)
+
+clue-not-zero : (k : Kind) {c : ℕ} (d n : ℕ) → 1 ≤ d → c ≡ d * directionUnit k + n → c ≡ 0 → ⊥
+clue-not-zero One d n low e z = omega arith
+clue-not-zero Two d n low e z = omega arith
+
+-- of the codes that are allowed only an open cell's has the sum 0
+pub open-sum : (k : Kind) (s : List ℕ) (x : ℕ) → notAllowed (readCell k (cellCode k s x)) ≡ false → eqb (endsSum k s x) 0 ≡ openCell (cellAt k s x)
+open-sum k s x = by (read-as k (cellCode k s x))
+  where
+    by : {r : CellCode} → ReadAs k (cellCode k s x) r → notAllowed r ≡ false → eqb (endsSum k s x) 0 ≡ openCell (cellOf r)
+    by (as-open e) h = eq-eqb _ 0 (sum-zero k s x .0 e)
+    by (as-clue d n low high m e) h = ne-eqb _ 0 (λ z. clue-not-zero k d n low e (sum-zero k s x .1 z))
+    by as-none h = clash refl h
 
 -- a grid has as many cells as its sides say
 pub puzzle-filled : (g : Grid) (s : List ℕ) → Filled (puzzle g s)
@@ -96,14 +135,13 @@ number-bound : (k : Kind) → mostNumber k ≤ 44
 number-bound One = omega arith
 number-bound Two = omega arith
 
-code-number : (k : Kind) (c : ℕ) → numberOf (isCell (readCell k c)) ≤ 44
-code-number k c = by (eqb c 0) (isClue k c) refl
+code-number : (k : Kind) (c : ℕ) → numberOf (cellOf (readCell k c)) ≤ 44
+code-number k c = by (read-as k c)
   where
-    by : (s t : Bool) → isClue k c ≡ t
-        → numberOf (isCell (cond s (Is Open) (cond t (Is (Clue (directionOf (c / perDirection k)) (c % perDirection k))) NotAllowed))) ≤ 44
-    by true t e = omega arith
-    by false true e = omega (arith, clue-parts k c e .2, number-bound k)
-    by false false e = omega arith
+    by : {r : CellCode} → ReadAs k c r → numberOf (cellOf r) ≤ 44
+    by (as-open e) = omega arith
+    by (as-clue d n low high m e) = omega (arith, number-bound k)
+    by as-none = omega arith
 
 pub numbers-small : (g : Grid) (s : List ℕ) → All (λ c. numberOf c ≤ 44) (puzzle g s .cells)
 numbers-small g s = all-map (λ c. numberOf c ≤ 44) (cellAt (g .kind) s) (upTo (size g)) (λ x m. code-number (g .kind) (cellCode (g .kind) s x))
@@ -126,6 +164,13 @@ side-between k n h =
 pub bytes-few : (k : Kind) (n : ℕ) → cellBytes k * n ≤ 2 * n
 bytes-few One n = omega arith
 bytes-few Two n = omega arith
+
+pub bytes-inside : (k : Kind) {b n x : ℕ} → b ≡ cellBytes k → x < n → (1 ≤ b) × (b * x + b ≤ cellBytes k * n)
+bytes-inside One e h = rw e (omega arith, omega arith)
+bytes-inside Two e h = rw e (omega arith, omega arith)
+
+pub fits-sized : {g : Grid} {s : List ℕ} → RecordFits g s → RecordSized g s
+fits-sized h = record { sides = h .sides; long = h .long }
 
 pub sides-small : (g : Grid) → isSide (g .kind) (g .rows) ≡ true → isSide (g .kind) (g .columns) ≡ true → Sides g
 sides-small g h k =
@@ -155,7 +200,11 @@ module _ (s : List ℕ) (acc : IsAccepted s) where
   pub accepted-fits : RecordFits (gridOf s) s
   accepted-fits =
       let (c1, (c2, (c3, (c4, c)))) = accepted-clear in
-      record { sides = sides-small (gridOf s) (accepted-sides .0) (accepted-sides .1); long = eqb-true _ _ (not-false _ (no-cause _ c4)) }
+      record {
+        sides = sides-small (gridOf s) (accepted-sides .0) (accepted-sides .1);
+        long = eqb-true _ _ (not-false _ (no-cause _ c4));
+        allowed = first-none _ _ (c .0);
+      }
 
   pub accepted-laws : Laws (boardOf s)
   accepted-laws = laws (puzzle (gridOf s) s) (puzzle-filled (gridOf s) s)
@@ -171,16 +220,16 @@ module _ (s : List ℕ) where
   pub right-length : 6 ≤ length s → word s 0 ≡ length s → none ≡ cause (wrongLength s)
   right-length h e = rw (le-ltb _ _ h, eq-eqb _ _ e)
 
-  pub other-kind : NoKind ≡ readKind (word s 2) → some 0 ≡ cause (wrongKind s)
-  other-kind e = ap (λ f. cause (noKind f)) e
+  pub wrong-kind : NoKind ≡ readKind (word s 2) → some 0 ≡ cause (wrongKind s)
+  wrong-kind e = ap (λ f. cause (kindNotAllowed f)) e
 
   module _ {k : Kind} (e : IsKind k ≡ readKind (word s 2)) where
     pub right-kind : none ≡ cause (wrongKind s)
-    right-kind = ap (λ f. cause (noKind f)) e
+    right-kind = ap (λ f. cause (kindNotAllowed f)) e
 
     -- the grid of this kind is the record's
     pub grid-is : record { kind = k; rows = getD s 4 0; columns = getD s 5 0 } ≡ gridOf s
-    grid-is = λ i. record { kind = isKind (e i); rows = getD s 4 0; columns = getD s 5 0 }
+    grid-is = λ i. record { kind = kindOf (e i); rows = getD s 4 0; columns = getD s 5 0 }
 
 module _ {g h : Grid} (e : g ≡ h) where
   pub wrong-rows : isSide (g .kind) (g .rows) ≡ false → some 0 ≡ cause (wrongSide h)

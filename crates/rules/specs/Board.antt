@@ -80,7 +80,7 @@ cluesFrom p x (c ∷ cs) = clueOf p x c ++ cluesFrom p (suc x) cs
 abbrev pub board : Puzzle → Board
 board p = record { size = size (p .grid); isOpen = openAt (p .cells); next = neighbour (p .grid); clues = cluesFrom p 0 (p .cells) }
 
--- the board of a grid whose sides were read, and of a record
+-- the board of a grid that was read, and of a record
 abbrev pub gridBoard : Grid → List ℕ → Board
 gridBoard g s = board (puzzle g s)
 

@@ -39,13 +39,13 @@ abbrev pub readKind : ℕ → KindField
 readKind n = cond (eqb n 1) (IsKind One) (cond (eqb n 2) (IsKind Two) NoKind)
 
 -- (a kind that is not allowed stands in no accepted record)
-abbrev pub isKind : KindField → Kind
-isKind (IsKind k) = k
-isKind NoKind = One
+abbrev pub kindOf : KindField → Kind
+kindOf (IsKind k) = k
+kindOf NoKind = One
 
-abbrev pub noKind : KindField → Bool
-noKind (IsKind k) = false
-noKind NoKind = true
+abbrev pub kindNotAllowed : KindField → Bool
+kindNotAllowed (IsKind k) = false
+kindNotAllowed NoKind = true
 
 -- what a kind sets: the largest side,
 abbrev pub mostSide : Kind → ℕ
@@ -62,10 +62,10 @@ abbrev pub mostNumber : Kind → ℕ
 mostNumber One = 15
 mostNumber Two = 44
 
--- and how many codes a direction has: it stands above the lower four bits of a code, or the lower twelve
-abbrev pub perDirection : Kind → ℕ
-perDirection One = 0x10
-perDirection Two = 0x1000
+-- and what a direction is multiplied by in a code: the number has the lower four bits, or the lower twelve
+abbrev pub directionUnit : Kind → ℕ
+directionUnit One = 0x10
+directionUnit Two = 0x1000
 
 -- 1 north, 2 east, 3 south, 4 west
 abbrev pub directionOf : ℕ → Direction
@@ -76,16 +76,16 @@ isDirection n = leb 1 n && leb n 4
 
 -- a clue's upper four bits are the direction, its lower ones the number
 abbrev pub isClue : Kind → ℕ → Bool
-isClue k c = isDirection (c / perDirection k) && leb (c % perDirection k) (mostNumber k)
+isClue k c = isDirection (c / directionUnit k) && leb (c % directionUnit k) (mostNumber k)
 
 -- 0 is open
 abbrev pub readCell : Kind → ℕ → CellCode
-readCell k c = cond (eqb c 0) (Is Open) (cond (isClue k c) (Is (Clue (directionOf (c / perDirection k)) (c % perDirection k))) NotAllowed)
+readCell k c = cond (eqb c 0) (Is Open) (cond (isClue k c) (Is (Clue (directionOf (c / directionUnit k)) (c % directionUnit k))) NotAllowed)
 
 -- (a code that is not allowed stands in no accepted record)
-abbrev pub isCell : CellCode → Cell
-isCell (Is c) = c
-isCell NotAllowed = Open
+abbrev pub cellOf : CellCode → Cell
+cellOf (Is c) = c
+cellOf NotAllowed = Open
 
 abbrev pub notAllowed : CellCode → Bool
 notAllowed (Is c) = false
@@ -97,7 +97,7 @@ word s i = getD s i 0 + 256 * getD s (i + 1) 0
 
 -- what a record says of its grid: bytes 2 and 3 the kind, byte 4 the rows, byte 5 the columns
 abbrev pub gridOf : List ℕ → Grid
-gridOf s = record { kind = isKind (readKind (word s 2)); rows = getD s 4 0; columns = getD s 5 0 }
+gridOf s = record { kind = kindOf (readKind (word s 2)); rows = getD s 4 0; columns = getD s 5 0 }
 
 -- N, the number of cells
 abbrev pub size : Grid → ℕ
@@ -109,7 +109,11 @@ cellCode One s x = getD s (6 + x) 0
 cellCode Two s x = word s (6 + 2 * x)
 
 abbrev pub cellAt : Kind → List ℕ → ℕ → Cell
-cellAt k s x = isCell (readCell k (cellCode k s x))
+cellAt k s x = cellOf (readCell k (cellCode k s x))
+
+-- 5: cell code not allowed
+abbrev pub wrongCell : Grid → List ℕ → ℕ → Bool
+wrongCell g s x = notAllowed (readCell (g .kind) (cellCode (g .kind) s x))
 
 abbrev pub puzzle : Grid → List ℕ → Puzzle
 puzzle g s = record { grid = g; cells = map (cellAt (g .kind) s) (upTo (size g)) }
@@ -133,10 +137,16 @@ pub record OnBoard (g : Grid) (x : ℕ) : Type 0 where
   pub sides : Sides g
   pub inside : x < size g
 
--- with its record,
+-- with a record of its length,
+pub record RecordSized (g : Grid) (s : List ℕ) : Type 0 where
+  pub sides : Sides g
+  pub long : length s ≡ 6 + cellBytes (g .kind) * size g
+
+-- all of whose codes are allowed,
 pub record RecordFits (g : Grid) (s : List ℕ) : Type 0 where
   pub sides : Sides g
   pub long : length s ≡ 6 + cellBytes (g .kind) * size g
+  pub allowed : (x : ℕ) → x < size g → wrongCell g s x ≡ false
 
 -- and with a drawing of its size
 pub record DrawingFits (g : Grid) (s ds : List ℕ) : Type 0 where
@@ -149,7 +159,7 @@ wrongLength s = ltb (length s) 6 || not (eqb (word s 0) (length s))
 
 -- 2: kind not 1 or 2
 abbrev pub wrongKind : List ℕ → Bool
-wrongKind s = noKind (readKind (word s 2))
+wrongKind s = kindNotAllowed (readKind (word s 2))
 
 module _ (g : Grid) where
   -- 3: a side not 1 to 24, or in kind 2 not 1 to 45
@@ -159,10 +169,6 @@ module _ (g : Grid) where
   -- 4: length not 6 + N, or in kind 2 not 6 + 2N
   abbrev pub wrongSize : List ℕ → Bool
   wrongSize s = not (eqb (length s) (6 + cellBytes (g .kind) * size g))
-
-  -- 5: cell code not allowed
-  abbrev pub wrongCell : List ℕ → ℕ → Bool
-  wrongCell s x = notAllowed (readCell (g .kind) (cellCode (g .kind) s x))
 
 abbrev pub recordRows : List ℕ → List Row
 recordRows s =

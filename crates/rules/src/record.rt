@@ -7,7 +7,8 @@ ghost use Rattle.rules.specs.declared.Cell.the-variants.{Open};
 ghost use Rattle.rules.specs.declared.Kind.the-variants.{One, Two};
 ghost use Rattle.rules.specs.declared.Parsed.the-variants.{Refused};
 ghost use Rattle.rules.specs.Record.{cellBytes, readKind, readCell, notAllowed, word, size, cellCode, puzzle, isSide, wrongCell};
-ghost use Rattle.rules.specs.Record.{Sides, RecordFits, recordAnswer, parsedOutcome, IsRefused};
+ghost use Rattle.rules.specs.Record.{Sides, RecordSized, RecordFits, recordAnswer, parsedOutcome, IsRefused};
+ghost use Rattle.rules.specs.Board.{openCell};
 use super::Cell;
 use super::CellCode;
 use super::Direction;
@@ -18,36 +19,36 @@ use super::Parsed;
 use super::RecordRefusal;
 use answers::Place;
 
-// The cell of a byte, in kind 1: 0 is open; the upper four bits of a clue tell the direction, the lower four the number.
-fn read_byte(b: u8) -> CellCode
-    ensures { λ r. ⌜ r ≡ readCell One b ⌝ }
+// The cell of a code of kind 1: 0 is open; the upper four bits of a clue tell the direction, the lower four the number.
+fn read_one(c: u16) -> CellCode
+    ensures { λ r. ⌜ r ≡ readCell One c ⌝ }
 {
-    match b {
+    match c {
         0 => CellCode::Is(Cell::Open),
-        0x10..=0x1f => CellCode::Is(Cell::Clue(Direction::North, b % 16)),
-        0x20..=0x2f => CellCode::Is(Cell::Clue(Direction::East, b % 16)),
-        0x30..=0x3f => CellCode::Is(Cell::Clue(Direction::South, b % 16)),
-        0x40..=0x4f => CellCode::Is(Cell::Clue(Direction::West, b % 16)),
-        0x01..=0x0f | 0x50..=0xff => CellCode::NotAllowed,
+        0x10..=0x1f => CellCode::Is(Cell::Clue(Direction::North, (c % 16) as u8)),
+        0x20..=0x2f => CellCode::Is(Cell::Clue(Direction::East, (c % 16) as u8)),
+        0x30..=0x3f => CellCode::Is(Cell::Clue(Direction::South, (c % 16) as u8)),
+        0x40..=0x4f => CellCode::Is(Cell::Clue(Direction::West, (c % 16) as u8)),
+        0x01..=0x0f | 0x50..=0xffff => CellCode::NotAllowed,
     }
 }
 
-// The cell of two bytes, in kind 2: the lower twelve bits tell the number, 0 to 44.
-fn read_word(w: u16) -> CellCode
-    ensures { λ r. ⌜ r ≡ readCell Two w ⌝ }
+// The cell of a code of kind 2: the lower twelve bits tell the number, 0 to 44.
+fn read_two(c: u16) -> CellCode
+    ensures { λ r. ⌜ r ≡ readCell Two c ⌝ }
 {
-    match w {
+    match c {
         0 => CellCode::Is(Cell::Open),
-        0x1000..=0x102c => CellCode::Is(Cell::Clue(Direction::North, (w % 4096) as u8)),
-        0x2000..=0x202c => CellCode::Is(Cell::Clue(Direction::East, (w % 4096) as u8)),
-        0x3000..=0x302c => CellCode::Is(Cell::Clue(Direction::South, (w % 4096) as u8)),
-        0x4000..=0x402c => CellCode::Is(Cell::Clue(Direction::West, (w % 4096) as u8)),
+        0x1000..=0x102c => CellCode::Is(Cell::Clue(Direction::North, (c % 4096) as u8)),
+        0x2000..=0x202c => CellCode::Is(Cell::Clue(Direction::East, (c % 4096) as u8)),
+        0x3000..=0x302c => CellCode::Is(Cell::Clue(Direction::South, (c % 4096) as u8)),
+        0x4000..=0x402c => CellCode::Is(Cell::Clue(Direction::West, (c % 4096) as u8)),
         0x0001..=0x0fff
         | 0x102d..=0x1fff
         | 0x202d..=0x2fff
         | 0x302d..=0x3fff
         | 0x402d..=0x4fff
-        | 0x5000..=0xffff => { CellCode::NotAllowed }
+        | 0x5000..=0xffff => CellCode::NotAllowed,
     }
 }
 
@@ -72,16 +73,16 @@ impl Grid {
         rows * columns
     }
 
-    // What the code of the cell numbered x is: of one byte or two, by the record's kind.
-    fn read_cell(self, record: &[u8], x: usize) -> CellCode
-        requires { ⌜ RecordFits self (now «record») ⌝ }
+    // The code of the cell numbered x: its byte, or its two bytes.
+    fn code(self, record: &[u8], x: usize) -> u16
+        requires { ⌜ RecordSized self (now «record») ⌝ }
         requires { ⌜ x < size self ⌝ }
-        ensures { λ r. ⌜ r ≡ readCell (self .kind) (cellCode (self .kind) (now («record» .entry)) x) ⌝ }
+        ensures { λ r. ⌜ r ≡ cellCode (self .kind) (now («record» .entry)) x ⌝ }
     {
         let kind = self.kind;
         match kind {
-            Kind::One => read_byte(record[6 + x]),
-            Kind::Two => read_word(word_at(record, 6 + 2 * x)),
+            Kind::One => record[6 + x] as u16,
+            Kind::Two => word_at(record, 6 + 2 * x),
         }
     }
 
@@ -91,34 +92,39 @@ impl Grid {
         requires { ⌜ x < size self ⌝ }
         ensures { λ r. ⌜ r ≡ getD (puzzle self (now («record» .entry)) .cells) x Open ⌝ }
     {
-        let c = self.read_cell(record, x);
+        let kind = self.kind;
+        let c = kind.read_cell(self.code(record, x));
         let CellCode::Is(cell) = c else {
             return Cell::Open;
         };
         cell
     }
-}
 
-impl CellCode {
-    fn not_allowed(self) -> bool
-        ensures { λ r. ⌜ r ≡ notAllowed self ⌝ }
+    // Is the cell numbered x open? All its bytes are 0 then. This is asked most, so it goes without a branch on the kind.
+    pub fn is_open(self, record: &[u8], x: usize) -> bool
+        requires { ⌜ RecordFits self (now «record») ⌝ }
+        requires { ⌜ x < size self ⌝ }
+        ensures { λ r. ⌜ r ≡ openCell (getD (puzzle self (now («record» .entry)) .cells) x Open) ⌝ }
     {
-        let CellCode::Is(_) = self else {
-            return true;
-        };
-        false
+        let kind = self.kind;
+        let bytes = kind.cell_bytes();
+        let first = 6 + bytes * x;
+        let last = first + bytes - 1;
+        let sum = record[first] as usize + record[last] as usize;
+        sum == 0
     }
 }
 
 // The first cell whose code is not allowed.
 fn wrong_cell(g: Grid, record: &[u8]) -> Place
-    requires { ⌜ RecordFits g (now «record») ⌝ }
+    requires { ⌜ RecordSized g (now «record») ⌝ }
     ensures { λ r. ⌜ placed r ≡ firstWhere (wrongCell g (now («record» .entry))) (size g) ⌝ }
 {
     let n = g.size();
+    let kind = g.kind;
     let mut x = 0;
     while x < n {
-        let bad = g.read_cell(record, x).not_allowed();
+        let bad = kind.not_allowed(g.code(record, x));
         if bad {
             return Place::At(x);
         }
@@ -149,6 +155,26 @@ impl Kind {
             Kind::One => n <= 24,
             Kind::Two => n <= 45,
         }
+    }
+
+    // What a cell's code is.
+    fn read_cell(self, code: u16) -> CellCode
+        ensures { λ r. ⌜ r ≡ readCell self code ⌝ }
+    {
+        match self {
+            Kind::One => read_one(code),
+            Kind::Two => read_two(code),
+        }
+    }
+
+    fn not_allowed(self, code: u16) -> bool
+        ensures { λ r. ⌜ r ≡ notAllowed (readCell self code) ⌝ }
+    {
+        let c = self.read_cell(code);
+        let CellCode::Is(_) = c else {
+            return true;
+        };
+        false
     }
 
     // The bytes of a cell.

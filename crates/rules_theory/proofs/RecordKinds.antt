@@ -1,21 +1,20 @@
 -- What the reader tells of a record of each kind, in the documents' words. Once for all kinds. Assumes nothing.
-use Prim.Native.Nat.{ℕ, zero, suc, _+_, _*_, _/_, _%_, _≤_, _<_}
+use Prim.Native.Nat.{ℕ, zero, suc, _+_, _*_, _≤_, _<_}
 use native.Mathlib.Omega.{arith}
-use native.Mathlib.Nat.{div-add-mod'}
 use lib.Dec.{eqb, leb, ltb}
 use lib.ListN.{length, getD, take, drop}
 use lib.Seq.{getD-drop}
 use borrow.Author.Tests.{eqb-true, eqb-false, ltb-false, leb-true, le-ltb, le-leb, eq-eqb, not-false}
 use mathlib.Core.Path.{_≡_, refl, sym, _∙_, ap, subst}
 use mathlib.Core.Bool.{Bool, true, false, not, cond}
-use mathlib.Core.Logic.{_↔_}
+use mathlib.Core.Logic.{_↔_, _⊎_, inl, inr}
 use mathlib.Core.Option.{Option, none, some}
 use mathlib.Core.List.{List, [], _∷_, _++_}
 use Rattle.answers.specs.declared.Outcome.{Outcome}
 use Rattle.answers.specs.First.{firstWhere, LeastWith}
 use Rattle.answers.specs.Outcome.{refusal, Row, cause, unless, firstRefusal}
 use Rattle.answers.proofs.Bools.{clash, and-both, both-and, or-neither}
-use Rattle.answers.proofs.Rows.{refusals-append, clear-answered}
+use Rattle.answers.proofs.Rows.{refusals-append, clear-answered, no-cause}
 use Rattle.answers.proofs.First.{first-none, none-first, first-with}
 use Rattle.rules.specs.declared.Direction.{Direction}
 use Rattle.rules.specs.declared.Direction.the-variants.{North as north, East as east, South as south, West as west}
@@ -25,15 +24,16 @@ use Rattle.rules.specs.declared.KindField.the-variants.{Is as IsKind, NotAllowe
 use Rattle.rules.specs.declared.Cell.{Cell}
 use Rattle.rules.specs.declared.Cell.the-variants.{Open, Clue}
 use Rattle.rules.specs.declared.CellCode.{CellCode}
-use Rattle.rules.specs.declared.CellCode.the-variants.{Is, NotAllowed}
+use Rattle.rules.specs.declared.CellCode.the-variants.{Is}
 use Rattle.rules.specs.declared.Grid.{Grid}
 use Rattle.rules.specs.Board.{Board, neighbour, openAt, beyond, outward, clueOf, cluesFrom, board, boardOf}
-use Rattle.rules.specs.Record.{Puzzle, kindNumber, readKind, noKind, mostSide, cellBytes, mostNumber, perDirection, directionOf, isClue, readCell, isCell}
-use Rattle.rules.specs.Record.{notAllowed, word, gridOf, size, cellCode, cellAt, puzzle, isSide, wrongLength, wrongKind, wrongSide, wrongSize, wrongCell}
+use Rattle.rules.specs.Record.{Puzzle, kindNumber, readKind, kindNotAllowed, mostSide, cellBytes, mostNumber, directionUnit, readCell, cellOf, notAllowed}
+use Rattle.rules.specs.Record.{word, gridOf, size, cellCode, cellAt, puzzle, isSide, wrongLength, wrongKind, wrongSide, wrongSize, wrongCell}
 use Rattle.rules.specs.Record.{recordRows, gridAnswer, recordAnswer, IsAccepted}
-use Rattle.rules.proofs.Records.{clue-code, clue-parts, cell-at, accepted-clear, right-length, right-kind, grid-is}
-use Rattle.rules_theory.specs.RecordKinds.{Layout, littleEndian, bytesAt, Whole, cellCount, CodeIs, is-open, is-clue, OfKind, Sided, Long, codeAt, NoCell}
-use Rattle.rules_theory.specs.RecordKinds.{Accepts, Refuses, SameGrid}
+use Rattle.rules.proofs.Records.{ReadAs, as-open, as-clue, as-none, read-as, clue-code, cell-at, puzzle-filled, accepted-clear}
+use Rattle.rules.proofs.Records.{right-length, right-kind, grid-is}
+use Rattle.rules_theory.specs.RecordKinds.{Layout, littleEndian, bytesAt, Whole, cellCount, CodeIs, is-open, is-clue, OfKind, Sided, RightLength}
+use Rattle.rules_theory.specs.RecordKinds.{codeAt, NoCell, Accepts, Refuses, OfOtherKind, SameGrid}
 
 -- 1. Bytes
 
@@ -57,7 +57,7 @@ word-at s i =
 -- 2. The codes of cells
 
 abbrev pub layout : Kind → Layout
-layout k = record { kind = kindNumber k; side = mostSide k; bytes = cellBytes k; codes = perDirection k; number = mostNumber k }
+layout k = record { kind = kindNumber k; side = mostSide k; bytes = cellBytes k; unit = directionUnit k; number = mostNumber k }
 
 code-at : (k : Kind) (s : List ℕ) (x : ℕ) → codeAt (layout k) s x ≡ cellCode k s x
 code-at One s x = byte-at s (6 + 1 * x) ∙ ap (λ j. getD s j 0) (omega arith)
@@ -67,16 +67,13 @@ code-read : (k : Kind) {c : ℕ} {e : Cell} → CodeIs (layout k) c e → readCe
 code-read k (is-open z) = rw z
 code-read k (is-clue d n low high m e) = sym (clue-code k _ d n low high m e)
 
-read-code : (k : Kind) (c : ℕ) → notAllowed (readCell k c) ≡ false → CodeIs (layout k) c (isCell (readCell k c))
-read-code k c = by (eqb c 0) refl (isClue k c) refl
+read-code : (k : Kind) (c : ℕ) → notAllowed (readCell k c) ≡ false → CodeIs (layout k) c (cellOf (readCell k c))
+read-code k c = by (read-as k c)
   where
-    read : Bool → Bool → CellCode
-    read s t = cond s (Is Open) (cond t (Is (Clue (directionOf (c / perDirection k)) (c % perDirection k))) NotAllowed)
-
-    by : (s : Bool) → eqb c 0 ≡ s → (t : Bool) → isClue k c ≡ t → notAllowed (read s t) ≡ false → CodeIs (layout k) c (isCell (read s t))
-    by true z t e h = is-open (eqb-true c 0 z)
-    by false z true e h = let p = clue-parts k c e in is-clue _ _ (p .0) (p .1) (p .2) (sym (div-add-mod' c (perDirection k)))
-    by false z false e h = clash refl h
+    by : {r : CellCode} → ReadAs k c r → notAllowed r ≡ false → CodeIs (layout k) c (cellOf r)
+    by (as-open z) h = is-open z
+    by (as-clue d n low high m e) h = is-clue d n low high m e
+    by as-none h = clash refl h
 
 -- 3. Rows 3 to 5
 
@@ -133,11 +130,11 @@ module _ (s : List ℕ) where
     λ w. rw (le-ltb _ _ (w .six), eq-eqb _ _ (sym (word-at s 0) ∙ w .told)),
   )
 
-  other-kind : wrongKind s ≡ true ↔ (bytesAt s 2 2 ≡ 1 → ⊥) × (bytesAt s 2 2 ≡ 2 → ⊥)
-  other-kind = rw (word-at s 2) (by (word s 2) (eqb (word s 2) 1) refl (eqb (word s 2) 2) refl)
+  neither-kind : wrongKind s ≡ true ↔ (bytesAt s 2 2 ≡ 1 → ⊥) × (bytesAt s 2 2 ≡ 2 → ⊥)
+  neither-kind = rw (word-at s 2) (by (word s 2) (eqb (word s 2) 1) refl (eqb (word s 2) 2) refl)
     where
       by : (n : ℕ) (a : Bool) → eqb n 1 ≡ a → (b : Bool) → eqb n 2 ≡ b
-          → noKind (cond a (IsKind One) (cond b (IsKind Two) NoKind)) ≡ true ↔ (n ≡ 1 → ⊥) × (n ≡ 2 → ⊥)
+          → kindNotAllowed (cond a (IsKind One) (cond b (IsKind Two) NoKind)) ≡ true ↔ (n ≡ 1 → ⊥) × (n ≡ 2 → ⊥)
       by n true e b f = (λ q. clash q refl, λ p. absurd (p .0 (eqb-true n 1 e)))
       by n false e true f = (λ q. clash q refl, λ p. absurd (p .1 (eqb-true n 2 f)))
       by n false e false f = (λ q. (eqb-false n 1 e, eqb-false n 2 f), λ p. refl)
@@ -152,12 +149,25 @@ module _ (s : List ℕ) where
   two false true = (λ e. (refl, refl), λ p. refl)
   two false false = (rest-two, λ p. clash (p .1) refl)
 
-  pub refused-kind : recordAnswer s ≡ refusal 2 0 ↔ Whole s × (bytesAt s 2 2 ≡ 1 → ⊥) × (bytesAt s 2 2 ≡ 2 → ⊥)
+  pub refused-kind : recordAnswer s ≡ refusal 2 0 ↔ OfOtherKind s
   refused-kind =
       let w = two (wrongLength s) (wrongKind s) in (
-        λ e. let p = w .0 e in let q = other-kind .0 (p .1) in (whole .0 (p .0), q .0, q .1),
-        λ p. w .1 (whole .1 (p .0), other-kind .1 (p .1, p .2)),
+        λ e. let p = w .0 e in let q = neither-kind .0 (p .1) in record { whole = whole .0 (p .0); not-one = q .0; not-two = q .1 },
+        λ o. w .1 (whole .1 (o .whole), neither-kind .1 (o .not-one, o .not-two)),
       )
+
+  -- an accepted record is of kind 1 or 2
+  pub either-kind : IsAccepted s → OfKind (layout One) s ⊎ OfKind (layout Two) s
+  either-kind a =
+      let (c1, (c2, c)) = accepted-clear s a in
+      let w = whole .0 (no-cause _ c1) in
+      by (eqb (bytesAt s 2 2) 1) refl (eqb (bytesAt s 2 2) 2) refl w (no-cause _ c2)
+    where
+      by : (p : Bool) → eqb (bytesAt s 2 2) 1 ≡ p → (q : Bool) → eqb (bytesAt s 2 2) 2 ≡ q → Whole s → wrongKind s ≡ false
+          → OfKind (layout One) s ⊎ OfKind (layout Two) s
+      by true e q f w k = inl (record { whole = w; kind = eqb-true _ _ e })
+      by false e true f w k = inr (record { whole = w; kind = eqb-true _ _ f })
+      by false e false f w k = clash (neither-kind .1 (eqb-false _ _ e, eqb-false _ _ f)) k
 
 -- 5. A record of a kind
 
@@ -201,7 +211,7 @@ module _ (k : Kind) (s : List ℕ) (h : OfKind (layout k) s) where
     λ b. rw (side-right (getD s 4 0) .1 (b .rows), side-right (getD s 5 0) .1 (b .columns)),
   )
 
-  long : wrongSize grid s ≡ false ↔ Long (layout k) s
+  long : wrongSize grid s ≡ false ↔ RightLength (layout k) s
   long = (λ e. eqb-true _ _ (not-false _ e), λ e. ap not (eq-eqb _ _ e))
 
   -- a cell's code
@@ -226,7 +236,8 @@ module _ (k : Kind) (s : List ℕ) (h : OfKind (layout k) s) where
       let e = ap (λ (t : Outcome). t .number) answer-is in
       (λ a. w .0 (sym e ∙ a), λ p. e ∙ w .1 p)
 
-  accepted : IsAccepted s ↔ Sided (layout k) s × Long (layout k) s × ((x : ℕ) → x < cellCount s → (c : Cell) × CodeIs (layout k) (codeAt (layout k) s x) c)
+  accepted : IsAccepted s
+      ↔ Sided (layout k) s × RightLength (layout k) s × ((x : ℕ) → x < cellCount s → (c : Cell) × CodeIs (layout k) (codeAt (layout k) s x) c)
   accepted = (
     λ a. let p = parts .0 a in (sided .0 (p .0), long .0 (p .1), all-cells .0 (p .2)),
     λ b. parts .1 (sided .1 (b .0), long .1 (b .1), all-cells .1 (b .2)),
@@ -234,6 +245,9 @@ module _ (k : Kind) (s : List ℕ) (h : OfKind (layout k) s) where
 
   tells : IsAccepted s → recordAnswer s ≡ gridAnswer grid
   tells a = let p = parts .0 a in answer-is ∙ (λ i. told (p .0 i) (p .1 i) (p .2 i) (gridAnswer grid))
+
+  all : IsAccepted s → length (puzzle (gridOf s) s .cells) ≡ cellCount s
+  all a = puzzle-filled (gridOf s) s
 
   cells : IsAccepted s → (x : ℕ) → x < cellCount s → CodeIs (layout k) (codeAt (layout k) s x) (getD (puzzle (gridOf s) s .cells) x Open)
   cells a x l =
@@ -245,14 +259,14 @@ module _ (k : Kind) (s : List ℕ) (h : OfKind (layout k) s) where
       let w = three (gridAnswer grid) refl (wrongSide grid) (wrongSize grid s) wrong in
       (λ e b. clash (w .0 (sym answer-is ∙ e)) (sided .1 b), λ n. answer-is ∙ w .1 (on _ (λ e. n (sided .0 e))))
 
-  refused-size : recordAnswer s ≡ refusal 4 0 ↔ Sided (layout k) s × (Long (layout k) s → ⊥)
+  refused-size : recordAnswer s ≡ refusal 4 0 ↔ Sided (layout k) s × (RightLength (layout k) s → ⊥)
   refused-size =
       let w = four (gridAnswer grid) refl (wrongSide grid) (wrongSize grid s) wrong in (
         λ e. let p = w .0 (sym answer-is ∙ e) in (sided .0 (p .0), λ l. clash (p .1) (long .1 l)),
         λ p. answer-is ∙ w .1 (sided .1 (p .0), on _ (λ e. p .1 (long .0 e))),
       )
 
-  refused-cell : (x : ℕ) → recordAnswer s ≡ refusal 5 x ↔ Sided (layout k) s × Long (layout k) s × LeastWith (NoCell (layout k) s) (cellCount s) x
+  refused-cell : (x : ℕ) → recordAnswer s ≡ refusal 5 x ↔ Sided (layout k) s × RightLength (layout k) s × LeastWith (NoCell (layout k) s) (cellCount s) x
   refused-cell x =
       let w = five (gridAnswer grid) refl (wrongSide grid) (wrongSize grid s) wrong x in
       let f = first-with (wrongCell grid s) (NoCell (layout k) s) (cellCount s) no-cell x in (
@@ -261,47 +275,47 @@ module _ (k : Kind) (s : List ℕ) (h : OfKind (layout k) s) where
       )
 
 pub accepts : (k : Kind) → Accepts (layout k)
-accepts k = record { accepted = accepted k; tells = tells k; cells = cells k }
+accepts k = record { accepted = accepted k; tells = tells k; all = all k; cells = cells k }
 
 pub refuses : (k : Kind) → Refuses (layout k)
 refuses k = record { side = refused-side k; size = refused-size k; cell = refused-cell k }
 
 -- 6. One inner form: the board knows no kind
 
-abbrev otherKind : Kind → Grid → Grid
-otherKind k g = record { kind = k; rows = g .rows; columns = g .columns }
+abbrev withKind : Kind → Grid → Grid
+withKind k g = record { kind = k; rows = g .rows; columns = g .columns }
 
-neighbour-same : (k : Kind) (g : Grid) (d : Direction) (x : ℕ) → neighbour (otherKind k g) d x ≡ neighbour g d x
+neighbour-same : (k : Kind) (g : Grid) (d : Direction) (x : ℕ) → neighbour (withKind k g) d x ≡ neighbour g d x
 neighbour-same k g north x = refl
 neighbour-same k g east x = refl
 neighbour-same k g south x = refl
 neighbour-same k g west x = refl
 
-outward-same : (k : Kind) (g : Grid) (d : Direction) (fuel x : ℕ) (seen : List ℕ) → outward (otherKind k g) d fuel x seen ≡ outward g d fuel x seen
+outward-same : (k : Kind) (g : Grid) (d : Direction) (fuel x : ℕ) (seen : List ℕ) → outward (withKind k g) d fuel x seen ≡ outward g d fuel x seen
 unfolding outward
 outward-same k g d zero x seen = refl
 outward-same k g d (suc fuel) x seen =
-    ap (λ o. beyond o seen (λ y. outward (otherKind k g) d fuel y (y ∷ seen))) (neighbour-same k g d x)
+    ap (λ o. beyond o seen (λ y. outward (withKind k g) d fuel y (y ∷ seen))) (neighbour-same k g d x)
     ∙ by (neighbour g d x) (λ y. outward-same k g d fuel y (y ∷ seen))
   where
-    by : (o : Option ℕ) → ((y : ℕ) → outward (otherKind k g) d fuel y (y ∷ seen) ≡ outward g d fuel y (y ∷ seen))
-        → beyond o seen (λ y. outward (otherKind k g) d fuel y (y ∷ seen)) ≡ beyond o seen (λ y. outward g d fuel y (y ∷ seen))
+    by : (o : Option ℕ) → ((y : ℕ) → outward (withKind k g) d fuel y (y ∷ seen) ≡ outward g d fuel y (y ∷ seen))
+        → beyond o seen (λ y. outward (withKind k g) d fuel y (y ∷ seen)) ≡ beyond o seen (λ y. outward g d fuel y (y ∷ seen))
     by none go = refl
     by (some y) go = go y
 
 module _ (k : Kind) (p : Puzzle) where
-  abbrev otherPuzzle : Puzzle
-  otherPuzzle = record { grid = otherKind k (p .grid); cells = p .cells }
+  abbrev puzzleWith : Puzzle
+  puzzleWith = record { grid = withKind k (p .grid); cells = p .cells }
 
-  clue-same : (x : ℕ) (c : Cell) → clueOf otherPuzzle x c ≡ clueOf p x c
+  clue-same : (x : ℕ) (c : Cell) → clueOf puzzleWith x c ≡ clueOf p x c
   clue-same x Open = refl
   clue-same x (Clue d n) = ap (λ l. record { cell = x; number = n; line = l } ∷ []) (outward-same k (p .grid) d (size (p .grid)) x [])
 
-  clues-same : (x : ℕ) (cs : List Cell) → cluesFrom otherPuzzle x cs ≡ cluesFrom p x cs
+  clues-same : (x : ℕ) (cs : List Cell) → cluesFrom puzzleWith x cs ≡ cluesFrom p x cs
   clues-same x [] = refl
   clues-same x (c ∷ cs) = λ i. clue-same x c i ++ clues-same (suc x) cs i
 
-  board-same : board otherPuzzle ≡ board p
+  board-same : board puzzleWith ≡ board p
   board-same =
       λ i. record { size = size (p .grid); isOpen = openAt (p .cells); next = λ d x. neighbour-same k (p .grid) d x i; clues = clues-same 0 (p .cells) i }
 

@@ -3,7 +3,7 @@
 use Prim.Native.Nat.{ℕ}
 use mathlib.Core.Path.{_≡_, refl, sym, _∙_, ap}
 use mathlib.Core.Bool.{Bool, true, false}
-use mathlib.Core.Logic.{_↔_}
+use mathlib.Core.Logic.{_↔_, _⊎_}
 use lib.ListN.{length}
 use mathlib.Core.Option.{Option, none, some}
 use mathlib.Core.List.{List}
@@ -14,6 +14,7 @@ use Rattle.answers.proofs.Rows.{refusals-append, answered-clear, clear-answered
 use Rattle.rules.specs.declared.Direction.{Direction}
 use Rattle.rules.specs.declared.Direction.the-variants.{North as north, East as east, South as south, West as west}
 use Rattle.rules.specs.declared.Kind.{Kind}
+use Rattle.rules.specs.declared.Kind.the-variants.{One, Two}
 use Rattle.rules.specs.declared.Parsed.{Parsed}
 use Rattle.rules.specs.declared.Verdict.{Verdict}
 use Rattle.rules.specs.Record.{gridOf, puzzle, recordRows, recordAnswer, IsAccepted, parsedOutcome}
@@ -23,7 +24,7 @@ use Rattle.rules.specs.Judge.{wrongByte, clueNotMet, linkUnmatched, notTwoLinks
 use Rattle.rules.proofs.Boards.{Wired, Laws, clues-in-order}
 use Rattle.rules_theory.specs.Loop.{WholeLoop, Looped}
 use Rattle.rules_theory.specs.Places.{FirstUnmet, FirstUnreached}
-use Rattle.rules_theory.specs.RecordKinds.{bytesAt, Whole, Accepts, Refuses, SameGrid}
+use Rattle.rules_theory.specs.RecordKinds.{OfKind, OfOtherKind, Accepts, Refuses, SameGrid}
 use Rattle.rules.proofs.Records as records
 use Rattle.rules.proofs.Outcomes.{readings, verdicts}
 use Rattle.answers.proofs.OneToOne.{one-to-one}
@@ -91,16 +92,19 @@ module _ {b : Board} (law : Laws b) {D : Drawing} (sol : Solution b D) where
 pub outcome-one-to-one : ((v w : Verdict) → verdictOutcome v ≡ verdictOutcome w → v ≡ w) × ((p q : Parsed) → parsedOutcome p ≡ parsedOutcome q → p ≡ q)
 outcome-one-to-one = (one-to-one verdicts, one-to-one readings)
 
--- What the reader tells of a record, in the documents' words (document 02, E4). Of a record of each kind: when it is accepted, and refusals 3 to 5; and
--- refusal 2.
+-- What the reader tells of a record, in the documents' words (document 02, E4). Of a record of each kind: when it is accepted, and refusals 3 to 5; that no
+-- other is accepted; and refusal 2.
 pub kind-accepts : (k : Kind) → Accepts (kinds.layout k)
 kind-accepts = kinds.accepts
 
 pub kind-refuses : (k : Kind) → Refuses (kinds.layout k)
 kind-refuses = kinds.refuses
 
-pub other-kind : (s : List ℕ) → recordAnswer s ≡ refusal 2 0 ↔ Whole s × (bytesAt s 2 2 ≡ 1 → ⊥) × (bytesAt s 2 2 ≡ 2 → ⊥)
-other-kind = kinds.refused-kind
+pub either-kind : (s : List ℕ) → IsAccepted s → OfKind (kinds.layout One) s ⊎ OfKind (kinds.layout Two) s
+either-kind = kinds.either-kind
+
+pub refused-kind : (s : List ℕ) → recordAnswer s ≡ refusal 2 0 ↔ OfOtherKind s
+refused-kind = kinds.refused-kind
 
 -- Records of the same grid have the same board, whatever their kinds.
 pub one-form : (s t : List ℕ) → SameGrid s t → boardOf s ≡ boardOf t

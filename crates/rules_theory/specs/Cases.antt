@@ -33,12 +33,12 @@ readerCases =
     record { bytes = openRecord 2 2 1 46; says = refusal 3 0 } ∷
     []
 
--- kinds 0, 3 and 256 are refused; in kind 2, sides 25 and 45 are accepted; a length of 6 + N is refused; codes 0x1000 and 0x102C are clues, 0x102D and
--- 0x5000 are none, and 0x0001 in the second cell is refused beside 1; the bytes `10 00` are 0x0010, which is none
+-- kinds 0, 4 and 256 are refused; in kind 2, sides 25 and 45 are accepted; a length of 6 + N is refused; codes 0x1000 and 0x102C are allowed, 0x102D and
+-- 0x5000 are not, and 0x0001 in the second cell is refused beside 1; the bytes `10 00` are 0x0010, which is not allowed
 abbrev pub kindCases : List ReaderCase
 kindCases =
     record { bytes = recordOf 0 1 1 (0 ∷ []); says = refusal 2 0 } ∷
-    record { bytes = recordOf 3 1 1 (0 ∷ []); says = refusal 2 0 } ∷
+    record { bytes = recordOf 4 1 1 (0 ∷ []); says = refusal 2 0 } ∷
     record { bytes = 7 ∷ 0 ∷ 0 ∷ 1 ∷ 1 ∷ 1 ∷ 0 ∷ []; says = refusal 2 0 } ∷
     record { bytes = openRecord 2 2 25 1; says = answer 25 1 2 } ∷
     record { bytes = openRecord 2 2 1 45; says = answer 1 45 2 } ∷

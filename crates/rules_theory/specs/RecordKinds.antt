@@ -18,8 +18,8 @@ pub record Layout : Type 0 where
   pub side : ℕ
   -- the bytes of a cell
   pub bytes : ℕ
-  -- the codes of one direction: 16 where the lower four bits of a code are the number, 4,096 where the lower twelve are
-  pub codes : ℕ
+  -- what a direction is multiplied by in a code: 16 where the lower four bits are the number, 4,096 where the lower twelve are
+  pub unit : ℕ
   -- the largest number
   pub number : ℕ
 
@@ -45,7 +45,7 @@ module _ (l : Layout) where
   -- 0 is open; a clue has its direction, 1 to 4, in the upper bits and its number in the lower
   pub data CodeIs : ℕ → Cell → Type 0 where
     is-open : {c : ℕ} → c ≡ 0 → CodeIs c Open
-    is-clue : {c : ℕ} (d n : ℕ) → 1 ≤ d → d ≤ 4 → n ≤ l .number → c ≡ d * l .codes + n → CodeIs c (Clue (directionOf d) n)
+    is-clue : {c : ℕ} (d n : ℕ) → 1 ≤ d → d ≤ 4 → n ≤ l .number → c ≡ d * l .unit + n → CodeIs c (Clue (directionOf d) n)
 
   module _ (s : List ℕ) where
     -- whole, with the kind in bytes 2 and 3
@@ -59,8 +59,8 @@ module _ (l : Layout) where
       pub columns : (1 ≤ getD s 5 0) × (getD s 5 0 ≤ l .side)
 
     -- six bytes, and those of N cells
-    abbrev pub Long : Type 0
-    Long = length s ≡ 6 + l .bytes * cellCount s
+    abbrev pub RightLength : Type 0
+    RightLength = length s ≡ 6 + l .bytes * cellCount s
 
     -- the code of cell x
     abbrev pub codeAt : ℕ → ℕ
@@ -71,17 +71,24 @@ module _ (l : Layout) where
     NoCell x = (c : Cell) → CodeIs (codeAt x) c → ⊥
 
   -- of a record of this kind: it is accepted exactly if its sides, its length and its cells' codes are allowed;
-  -- then the reader tells rows, columns and kind, and its cells are those of the codes
+  -- then the reader tells rows, columns and kind, and its N cells are those of the codes
   pub record Accepts : Type 0 where
-    pub accepted : (s : List ℕ) → OfKind s → IsAccepted s ↔ Sided s × Long s × ((x : ℕ) → x < cellCount s → (c : Cell) × CodeIs (codeAt s x) c)
+    pub accepted : (s : List ℕ) → OfKind s → IsAccepted s ↔ Sided s × RightLength s × ((x : ℕ) → x < cellCount s → (c : Cell) × CodeIs (codeAt s x) c)
     pub tells : (s : List ℕ) → OfKind s → IsAccepted s → recordAnswer s ≡ answer (getD s 4 0) (getD s 5 0) (l .kind)
+    pub all : (s : List ℕ) → OfKind s → IsAccepted s → length (puzzle (gridOf s) s .cells) ≡ cellCount s
     pub cells : (s : List ℕ) → OfKind s → IsAccepted s → (x : ℕ) → x < cellCount s → CodeIs (codeAt s x) (getD (puzzle (gridOf s) s .cells) x Open)
 
   -- else it is refused: for a side; for its length; for the first cell whose code is not allowed
   pub record Refuses : Type 0 where
     pub side : (s : List ℕ) → OfKind s → recordAnswer s ≡ refusal 3 0 ↔ (Sided s → ⊥)
-    pub size : (s : List ℕ) → OfKind s → recordAnswer s ≡ refusal 4 0 ↔ Sided s × (Long s → ⊥)
-    pub cell : (s : List ℕ) → OfKind s → (x : ℕ) → recordAnswer s ≡ refusal 5 x ↔ Sided s × Long s × LeastWith (NoCell s) (cellCount s) x
+    pub size : (s : List ℕ) → OfKind s → recordAnswer s ≡ refusal 4 0 ↔ Sided s × (RightLength s → ⊥)
+    pub cell : (s : List ℕ) → OfKind s → (x : ℕ) → recordAnswer s ≡ refusal 5 x ↔ Sided s × RightLength s × LeastWith (NoCell s) (cellCount s) x
+
+-- whole, with another kind than 1 or 2
+pub record OfOtherKind (s : List ℕ) : Type 0 where
+  pub whole : Whole s
+  pub not-one : bytesAt s 2 2 ≡ 1 → ⊥
+  pub not-two : bytesAt s 2 2 ≡ 2 → ⊥
 
 -- two records of the same grid, whatever their kinds: the same sides and the same cells
 pub record SameGrid (s t : List ℕ) : Type 0 where

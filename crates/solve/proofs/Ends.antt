@@ -137,7 +137,7 @@ module _ {s : List ℕ} {r : Solved} {drawing : List ℕ} (w : Solves s r drawin
           let is-drawn : take (size (gridOf s)) drawing ≡ cells s = ap (take (size (gridOf s))) drawn ∙ take-at (cells s) _ (size (gridOf s)) (cells-long s) in
           ends q k (ap (λ (g : Grid). drawingText (g .columns) (take (size g) drawing)) is ∙ ap (drawingText (gridOf s .columns)) is-drawn) p
 
--- what the program prints fits 4,096 bytes
+-- what the program prints fits 65,536 bytes
 pub solution-fits : (s : List ℕ) → length (printedSolution s) ≤ 65536
 solution-fits s = printed-fits s _ 65536 (omega arith) (λ e. by (searched (boardOf s) .ending) (accepted-fits s (unrefused s e .0) .sides .few))
   where

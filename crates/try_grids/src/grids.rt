@@ -35,3 +35,14 @@ pub(crate) fn numbered(rows: usize, columns: usize, base: u64, number: u64) -> [
     }
     record
 }
+
+// The open 45×45 record of kind 2: 6 + 2 × 2,025 bytes.
+pub(crate) fn sheet() -> [u8; 4056] {
+    let mut record = [0u8; 4056];
+    record[0] = 0xd8;
+    record[1] = 0x0f;
+    record[2] = 2;
+    record[4] = 45;
+    record[5] = 45;
+    record
+}

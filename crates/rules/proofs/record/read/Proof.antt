@@ -12,7 +12,7 @@ use Rattle.answers.proofs.Rows.{Left, left-all, left-next, left-turn, left-done
 use Rattle.rules.specs.declared.KindField.the-variants.{Is as IsKind}
 use Rattle.rules.specs.declared.Grid.{Grid}
 use Rattle.rules.specs.Record.{readKind, cellBytes, word, gridOf, size, isSide, Sides, recordRows, gridAnswer}
-use Rattle.rules.proofs.Records.{sides-small, bytes-few, short-record, other-length, right-length, other-kind, right-kind, grid-is}
+use Rattle.rules.proofs.Records.{sides-small, bytes-few, short-record, other-length, right-length, wrong-kind, right-kind, grid-is}
 use Rattle.rules.proofs.Records.{wrong-rows, wrong-columns, right-sides, other-size, right-size, cells-sought}
 use Rattle.rules.proofs.record.read.Statement.{statement}
 use Rattle.rules.proofs.record.read.Tie as tie
@@ -115,7 +115,7 @@ returns-3 : tie.Need-returns-3
 returns-3 c =
     let r = c .before .before in
     left-turn (past1 r)
-    (other-kind (s2 r) (sym (c .enum-told .given .1) ∙ r .read-kind .ensures ∙ ap readKind (r .before .word-at2 .ensures)))
+    (wrong-kind (s2 r) (sym (c .enum-told .given .1) ∙ r .read-kind .ensures ∙ ap readKind (r .before .word-at2 .ensures)))
 
 shared-slice-read-rows : tie.Need-shared-slice-read-rows
 shared-slice-read-rows c = search needs

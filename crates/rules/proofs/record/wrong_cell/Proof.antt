@@ -4,15 +4,15 @@ use borrow.Author.Needs.{needs}
 use native.Mathlib.Omega.{arith}
 use mathlib.Core.Path.{_≡_, sym, _∙_, ap}
 use Rattle.answers.proofs.First.{Seeking, seek-start, seek-on, seek-found, seek-none}
-use Rattle.rules.specs.Record.{notAllowed, wrongCell}
+use Rattle.rules.specs.Record.{readCell, notAllowed, wrongCell}
 use Rattle.rules.proofs.record.wrong_cell.Statement.{statement}
 use Rattle.rules.proofs.record.wrong_cell.Tie as tie
 
 abbrev Inv-loop : tie.InvT-loop
-Inv-loop g «record» n x₀ x = Seeking (wrongCell g «record») n x
+Inv-loop g «record» n kind x₀ x = Seeking (wrongCell g «record») n x
 
 abbrev μ-loop : tie.MeasureT-loop
-μ-loop g «record» n x₀ x = n - x
+μ-loop g «record» n kind x₀ x = n - x
 
 size-requires : tie.Need-size-requires Inv-loop μ-loop
 size-requires c κs = search needs
@@ -20,8 +20,8 @@ size-requires c κs = search needs
 loop-holds : tie.Need-loop-holds Inv-loop μ-loop
 loop-holds c = seek-start
 
-read-cell-requires : tie.Need-read-cell-requires Inv-loop μ-loop
-read-cell-requires c κs =
+code-requires : tie.Need-code-requires Inv-loop μ-loop
+code-requires c κs =
     let z = c .before .before in
     (z .before .before .pre, omega (arith, c .loop-test .taken, z .size .ensures))
 
@@ -31,7 +31,9 @@ not-allowed-requires c κs = search needs
 -- what was asked of the cell
 is-wrong : (c : tie.After-not-allowed Inv-loop μ-loop) → let z = c .before .before .before .before .before .before in
     wrongCell (z .args .g) (z .args .«record» .now) (c .before .before .before .loop .x) ≡ c .not-allowed .result
-is-wrong c = sym (c .not-allowed .ensures ∙ ap notAllowed (c .before .read-cell .ensures))
+is-wrong c =
+    let z = c .before .before .before .before .before .before in
+    sym (c .not-allowed .ensures ∙ ap (λ n. notAllowed (readCell (z .args .g .kind) n)) (c .before .code .ensures))
 
 returns : tie.Need-returns Inv-loop μ-loop
 returns c =
@@ -61,7 +63,7 @@ wrong-cell-spec =
     μ-loop
     size-requires
     loop-holds
-    read-cell-requires
+    code-requires
     not-allowed-requires
     returns
     add-x

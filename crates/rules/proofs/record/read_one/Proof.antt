@@ -1,13 +1,26 @@
--- `rules::record::read_byte` meets its contract. Assumes nothing.
+-- `rules::record::read_one` meets its contract. Assumes nothing.
 use native.Mathlib.Omega.{arith}
 use mathlib.Core.Path.{_≡_}
+use borrow.Author.Needs.{needs}
 use Rattle.rules.specs.declared.Kind.the-variants.{One}
 use Rattle.rules.proofs.Records.{clue-within, no-direction, past-codes}
-use Rattle.rules.proofs.record.read_byte.Statement.{statement}
-use Rattle.rules.proofs.record.read_byte.Tie as tie
+use Rattle.rules.proofs.record.read_one.Statement.{statement}
+use Rattle.rules.proofs.record.read_one.Tie as tie
+
+cast-t7 : tie.Need-cast-t7
+cast-t7 c = search needs
+
+cast-t11 : tie.Need-cast-t11
+cast-t11 c = search needs
+
+cast-t15 : tie.Need-cast-t15
+cast-t15 c = search needs
+
+cast-t19 : tie.Need-cast-t19
+cast-t19 c = search needs
 
 returns : tie.Need-returns
-returns c = let t : c .before .args .b ≡ 0 = c .match .keys1 in rw t
+returns c = let t : c .before .args .c ≡ 0 = c .match .keys1 in rw t
 
 returns-2 : tie.Need-returns-2
 returns-2 c = clue-within One _ 1 (omega arith) (omega arith) (omega arith) (omega arith)
@@ -27,6 +40,6 @@ returns-6 c = no-direction One _ (c .before .match .rest .1) (c .if1 .taken)
 returns-7 : tie.Need-returns-7
 returns-7 c = past-codes One _ (c .if5 .left)
 
-pub read-byte-spec : {M : Type 1} → statement M
-read-byte-spec =
-    tie.close (tie.spec returns returns-2 returns-3 returns-4 returns-5 returns-6 returns-7)
+pub read-one-spec : {M : Type 1} → statement M
+read-one-spec =
+    tie.close (tie.spec cast-t7 cast-t11 cast-t15 cast-t19 returns returns-2 returns-3 returns-4 returns-5 returns-6 returns-7)

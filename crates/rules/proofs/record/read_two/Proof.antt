@@ -1,11 +1,11 @@
--- `rules::record::read_word` meets its contract. Assumes nothing.
+-- `rules::record::read_two` meets its contract. Assumes nothing.
 use native.Mathlib.Omega.{arith}
 use mathlib.Core.Path.{_≡_}
 use borrow.Author.Needs.{needs}
 use Rattle.rules.specs.declared.Kind.the-variants.{Two}
 use Rattle.rules.proofs.Records.{clue-within, no-direction, large-number, past-codes}
-use Rattle.rules.proofs.record.read_word.Statement.{statement}
-use Rattle.rules.proofs.record.read_word.Tie as tie
+use Rattle.rules.proofs.record.read_two.Statement.{statement}
+use Rattle.rules.proofs.record.read_two.Tie as tie
 
 cast-t7 : tie.Need-cast-t7
 cast-t7 c = search needs
@@ -20,7 +20,7 @@ cast-t19 : tie.Need-cast-t19
 cast-t19 c = search needs
 
 returns : tie.Need-returns
-returns c = let t : c .before .args .w ≡ 0 = c .match .keys1 in rw t
+returns c = let t : c .before .args .c ≡ 0 = c .match .keys1 in rw t
 
 returns-2 : tie.Need-returns-2
 returns-2 c = clue-within Two _ 1 (omega arith) (omega arith) (omega arith) (omega arith)
@@ -49,8 +49,8 @@ returns-9 c = large-number Two _ 3 (c .before .if6 .left) (c .if7 .taken)
 returns-10 : tie.Need-returns-10
 returns-10 c = past-codes Two _ (c .if8 .left)
 
-pub read-word-spec : {M : Type 1} → statement M
-read-word-spec =
+pub read-two-spec : {M : Type 1} → statement M
+read-two-spec =
     tie.close
     (tie.spec
     cast-t7
