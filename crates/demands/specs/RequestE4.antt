@@ -1,6 +1,6 @@
 -- Document 02, E4, "Larger sheets, larger numbers", as one statement, in its order and words; what is in quotation marks is the request's.
 -- What a record of a kind is, and what the reader tells of it, is said in rules_theory/specs/RecordKinds.antt, over the five numbers that set a kind apart.
--- The reader is `rules::record::read`; by its contract it hands out `recordAnswer`, which tells an accepted record's kind as its third value.
+-- The reader is `rules::record::read`; by its contract the outcome of what it hands out is `recordAnswer`, which has the kind as its third value.
 use Prim.Native.Nat.{ℕ, _≤_, _<_, _^_}
 use lib.IntN.{ℤ}
 use lib.ListN.{length}

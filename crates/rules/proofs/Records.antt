@@ -81,14 +81,13 @@ no-code k c z no-clue = by (read-as k c)
     by (as-clue d n low high m e) = absurd (no-clue d n low high m e)
     by as-none = refl
 
--- a number with no direction, one that is too large, and all after the last clue
+-- a number with no direction, one that is too large (in kind 1 none is), and all after the last clue
 pub no-direction : (k : Kind) (c : ℕ) → (c ≡ 0 → ⊥) → c < directionUnit k → NotAllowed ≡ readCell k c
 no-direction One c z h = no-code One c z (λ d n low high m e. omega arith)
 no-direction Two c z h = no-code Two c z (λ d n low high m e. omega arith)
 
-pub large-number : (k : Kind) (c b : ℕ) → b * directionUnit k + mostNumber k < c → c < (b + 1) * directionUnit k → NotAllowed ≡ readCell k c
-large-number One c b over under = no-code One c (λ z. omega arith) (λ d n low high m e. omega arith)
-large-number Two c b over under = no-code Two c (λ z. omega arith) (λ d n low high m e. omega arith)
+pub large-number : (c b : ℕ) → b * 0x1000 + 44 < c → c < (b + 1) * 0x1000 → NotAllowed ≡ readCell Two c
+large-number c b over under = no-code Two c (λ z. omega arith) (λ d n low high m e. omega arith)
 
 pub past-codes : (k : Kind) (c : ℕ) → 4 * directionUnit k + mostNumber k < c → NotAllowed ≡ readCell k c
 past-codes One c h = no-code One c (λ z. omega arith) (λ d n low high m e. omega arith)
@@ -196,7 +195,7 @@ module _ (s : List ℕ) (acc : IsAccepted s) where
   pub accepted-columns : gridOf s .columns ≤ 45
   accepted-columns = side-between (gridOf s .kind) _ (accepted-sides .1) .1
 
-  -- and it is as long as they say
+  -- it is as long as they say, and its codes are allowed
   pub accepted-fits : RecordFits (gridOf s) s
   accepted-fits =
       let (c1, (c2, (c3, (c4, c)))) = accepted-clear in
@@ -209,7 +208,7 @@ module _ (s : List ℕ) (acc : IsAccepted s) where
   pub accepted-laws : Laws (boardOf s)
   accepted-laws = laws (puzzle (gridOf s) s) (puzzle-filled (gridOf s) s)
 
--- The causes of rows 1 to 4, by the code's tests
+-- The causes of rows 1 to 5, by the code's tests
 module _ (s : List ℕ) where
   pub short-record : length s < 6 → some 0 ≡ cause (wrongLength s)
   short-record h = ap cause (sym (or-left _ _ (lt-ltb _ _ h)))

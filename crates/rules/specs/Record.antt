@@ -142,7 +142,7 @@ pub record RecordSized (g : Grid) (s : List ℕ) : Type 0 where
   pub sides : Sides g
   pub long : length s ≡ 6 + cellBytes (g .kind) * size g
 
--- all of whose codes are allowed,
+-- and whose codes are allowed as well, which is what all code above the reader asks for,
 pub record RecordFits (g : Grid) (s : List ℕ) : Type 0 where
   pub sides : Sides g
   pub long : length s ≡ 6 + cellBytes (g .kind) * size g

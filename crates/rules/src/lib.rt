@@ -33,7 +33,7 @@ pub enum KindField {
 // The most cells that a grid has: 45 times 45.
 pub const MOST_CELLS: usize = 2025;
 
-// The parsed grid: its kind, which no crate above this one sees, and its sides. The cells stay in the record.
+// The parsed grid: its kind, which code above this crate does not see, and its sides. The cells stay in the record.
 pub struct Grid {
     kind: Kind,
     pub rows: usize,

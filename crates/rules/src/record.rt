@@ -1,4 +1,4 @@
-// The reader of a grid record: document 01's "The grid record", and document 02's E4. Nothing above it knows of kinds.
+// The reader of a grid record: document 01's "The grid record", and document 02's E4. No code above it looks at a kind.
 ghost use mathlib.Core.Path.{_≡_};
 ghost use Prim.Native.Nat.{_+_, _<_};
 ghost use lib.ListN.{length, getD};
@@ -86,7 +86,7 @@ impl Grid {
         }
     }
 
-    // The cell numbered x.
+    // The cell numbered x. The record's codes are allowed, so the branch for one that is not is not reached.
     pub fn cell(self, record: &[u8], x: usize) -> Cell
         requires { ⌜ RecordFits self (now «record») ⌝ }
         requires { ⌜ x < size self ⌝ }
@@ -100,7 +100,8 @@ impl Grid {
         cell
     }
 
-    // Is the cell numbered x open? All its bytes are 0 then. This is asked most, so it goes without a branch on the kind.
+    // Is the cell numbered x open? It is exactly if its first byte and its last, which in kind 1 are one, are 0. The kind tells only
+    // where they are: this is asked most, and reading the code costs more.
     pub fn is_open(self, record: &[u8], x: usize) -> bool
         requires { ⌜ RecordFits self (now «record») ⌝ }
         requires { ⌜ x < size self ⌝ }

@@ -38,13 +38,13 @@ returns-6 : tie.Need-returns-6
 returns-6 c = no-direction Two _ (c .before .match .rest .1) (c .if1 .taken)
 
 returns-7 : tie.Need-returns-7
-returns-7 c = large-number Two _ 1 (c .before .if2 .left) (c .if3 .taken)
+returns-7 c = large-number _ 1 (c .before .if2 .left) (c .if3 .taken)
 
 returns-8 : tie.Need-returns-8
-returns-8 c = large-number Two _ 2 (c .before .if4 .left) (c .if5 .taken)
+returns-8 c = large-number _ 2 (c .before .if4 .left) (c .if5 .taken)
 
 returns-9 : tie.Need-returns-9
-returns-9 c = large-number Two _ 3 (c .before .if6 .left) (c .if7 .taken)
+returns-9 c = large-number _ 3 (c .before .if6 .left) (c .if7 .taken)
 
 returns-10 : tie.Need-returns-10
 returns-10 c = past-codes Two _ (c .if8 .left)
