@@ -50,8 +50,8 @@ pub record RequestE4 : Type 0 where
       → (decoderAnswer s values lent ≡ decoderAnswer t values lent) × (decoderLeaves s values lent ≡ decoderLeaves t values lent)
   -- "with the arguments about clauses made for the larger limits."
   -- (The bounds on which the encoder's code and the arguments rest are those of 45 times 45 cells and numbers to 44. Every accepted grid keeps them: V is one
-  -- that search and writer take, the list is far shorter than 2^64 and gets no 16 for that V. The demands speak of every accepted grid.)
+  -- that search and writer take, the list has fewer than 2^30 elements and gets no 16 for that V. The demands speak of every accepted grid.)
   pub larger-limits : (s : List ℕ) → IsAccepted s → BoundedBoard (boardOf s)
   pub few-variables : (s : List ℕ) → IsAccepted s → variableCount (boardOf s) ≤ mostVariables
-  pub short-list : (s : List ℕ) → IsAccepted s → length (clauseList (boardOf s)) < 2 ^ 40
+  pub short-list : (s : List ℕ) → IsAccepted s → length (clauseList (boardOf s)) < 2 ^ 30
   pub list-taken : (s : List ℕ) → IsAccepted s → wrongList (variableCount (boardOf s)) (clauseList (boardOf s)) ≡ none
