@@ -18,7 +18,7 @@ use encoder_numbers::tables::sizes_below;
 use judge_cells::cells::is_open;
 use rules::Direction;
 use rules::Grid;
-use rules::board::opposite;
+use rules_board::opposite;
 
 // 1 where a link is drawn from the open cell x, else 0.
 fn link_bit(

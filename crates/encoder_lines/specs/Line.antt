@@ -7,7 +7,7 @@ use mathlib.Core.List.{List, [], _∷_, _++_, map}
 use Rattle.rules.specs.declared.Cell.the-variants.{Open}
 use Rattle.rules.specs.declared.Direction.{Direction}
 use Rattle.rules.specs.declared.Grid.{Grid}
-use Rattle.rules.specs.declared.board.End.{End}
+use Rattle.rules_board.specs.declared.End.{End}
 use Rattle.rules.specs.Record.{Puzzle, puzzle}
 use Rattle.rules.specs.Board.{openAt, line, clueOf, gridBoard}
 use Rattle.answers.specs.Lists.{upTo, each, joined}
@@ -47,7 +47,7 @@ countStepEach row n (z ∷ zs) = joined (countStepParts row z n) ++ countStepEac
 abbrev pub blacksOf : Grid → List ℕ → Direction → ℕ → List ℕ
 blacksOf g s d x = map (blackOf (gridBoard g s)) (line (puzzle g s) d x)
 
--- where that line ends, as `rules::board::line_end` answers
+-- where that line ends, as `rules_board::line_end` answers
 pub record LineEnd (p : Puzzle) (d : Direction) (x : ℕ) (end : End) : Type 0 where
   pub cell : end .cell ≡ getD (line p d x) 0 x
   pub cells : end .cells ≡ length (line p d x)

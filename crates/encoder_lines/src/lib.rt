@@ -22,10 +22,10 @@ use encoder_shapes::unit;
 use rules::Cell;
 use rules::Direction;
 use rules::Grid;
-use rules::board::End;
-use rules::board::go;
-use rules::board::line_end;
-use rules::board::opposite;
+use rules_board::End;
+use rules_board::go;
+use rules_board::line_end;
+use rules_board::opposite;
 
 // [−T(j,t) T(j+1,t)], for the n counts t from 0 on.
 fn count_step_clue(list: &mut [i32], at: usize, row: usize, next: usize, n: usize) -> usize

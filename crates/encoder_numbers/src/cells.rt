@@ -16,7 +16,7 @@ use answers::Place;
 use judge_cells::cells::is_open;
 use rules::Direction;
 use rules::Grid;
-use rules::board::opposite;
+use rules_board::opposite;
 
 // The number of a cell's Z; 0 for a clue.
 pub fn black_number(g: Grid, record: &[u8], sizes: Sizes, table: &[usize], x: usize) -> usize

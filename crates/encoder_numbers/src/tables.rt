@@ -16,8 +16,8 @@ use judge_cells::cells::is_open;
 use rules::Cell;
 use rules::Direction;
 use rules::Grid;
-use rules::board::line_end;
-use rules::board::neighbour;
+use rules_board::line_end;
+use rules_board::neighbour;
 
 // The neighbour in that direction, if there is one and it is open.
 pub fn open_neighbour(g: Grid, record: &[u8], x: usize, d: Direction) -> Place

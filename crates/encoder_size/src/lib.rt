@@ -23,10 +23,10 @@ use judge_cells::cells::is_open;
 use rules::Cell;
 use rules::Direction;
 use rules::Grid;
-use rules::board::End;
-use rules::board::go;
-use rules::board::line_end;
-use rules::board::opposite;
+use rules_board::End;
+use rules_board::go;
+use rules_board::line_end;
+use rules_board::opposite;
 
 // Some clauses, and their elements with the closing zeros.
 pub struct Amount {

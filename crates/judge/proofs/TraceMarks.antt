@@ -20,7 +20,7 @@ use Rattle.rules.specs.Drawing.{byteLink, linkAt}
 use Rattle.rules.specs.Walk.{State, go, onto, step, onward, around, loopCells, among}
 use Rattle.judge.specs.WalkMarks.{onesAt, leftAfter, unseenAt}
 use Rattle.rules.specs.Judge.{whiteAt, offLoopAt}
-use Rattle.rules.proofs.Steps.{gone-on}
+use Rattle.rules_board.proofs.Steps.{gone-on}
 
 -- to mark what is left of the walk gives the whole
 pub record Tracing (g : Grid) (ds : List ℕ) (s : ℕ) (seen₀ seen : List ℕ) (x : ℕ) (d : Direction) (left : ℕ) : Type 0 where

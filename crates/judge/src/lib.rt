@@ -23,9 +23,9 @@ use rules::Parsed;
 use rules::RuleRefusal;
 use rules::RuleVerdict;
 use rules::Verdict;
-use rules::board::go;
-use rules::board::opposite;
 use rules::record::read;
+use rules_board::go;
+use rules_board::opposite;
 
 // The steps left after one that leads to y: none if the walk is back at s.
 fn left_after(y: usize, s: usize, left: usize) -> usize

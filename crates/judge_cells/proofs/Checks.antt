@@ -25,7 +25,7 @@ use Rattle.judge_cells.specs.declared.Test.the-variants.{DrawingByte, To
 use Rattle.judge_cells.specs.Tests.{unmetCell, unmetAt, testAt, firstOf}
 use Rattle.rules.proofs.Boards.{Filled}
 use Rattle.rules.proofs.Records.{puzzle-filled}
-use Rattle.rules.proofs.Steps.{stays-on}
+use Rattle.rules_board.proofs.Steps.{stays-on}
 
 -- bytes of a drawing
 pub clue-or-not : (o : Bool) → o ≡ badByte o 0x20

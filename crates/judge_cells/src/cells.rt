@@ -18,11 +18,11 @@ use answers::Place;
 use rules::Cell;
 use rules::Direction;
 use rules::Grid;
-use rules::board::End;
-use rules::board::go;
-use rules::board::line_end;
-use rules::board::neighbour;
-use rules::board::opposite;
+use rules_board::End;
+use rules_board::go;
+use rules_board::line_end;
+use rules_board::neighbour;
+use rules_board::opposite;
 
 // Is the cell open?
 pub fn is_open(g: Grid, record: &[u8], x: usize) -> bool

@@ -84,5 +84,4 @@ pub enum Verdict {
 }
 
 pub mod record; // the reader of a grid record
-pub mod board; // steps from cell to cell
 pub mod outcome; // the outcomes in document 01's numbers

@@ -2,7 +2,7 @@
 use borrow.Author.Needs.{needs}
 use native.Mathlib.Omega.{arith}
 use Rattle.judge.proofs.TraceMarks.{Tracing, trace-start, trace-on, trace-end, left-less}
-use Rattle.rules.proofs.Steps.{gone-on}
+use Rattle.rules_board.proofs.Steps.{gone-on}
 use Rattle.judge.proofs.trace.Statement.{statement}
 use Rattle.judge.proofs.trace.Tie as tie
 

@@ -1,11 +1,11 @@
--- `rules::board::go` meets its contract. Assumes nothing.
+-- `rules_board::go` meets its contract. Assumes nothing.
 use Prim.Native.Nat.{ℕ}
 use mathlib.Core.Path.{ap}
 use mathlib.Core.Option.{Option, Option·getD}
 use Rattle.answers.proofs.First.{found-at, found-none}
 use borrow.Author.Needs.{needs}
-use Rattle.rules.proofs.board.go.Statement.{statement}
-use Rattle.rules.proofs.board.go.Tie as tie
+use Rattle.rules_board.proofs.go.Statement.{statement}
+use Rattle.rules_board.proofs.go.Tie as tie
 
 neighbour-requires : tie.Need-neighbour-requires
 neighbour-requires c κs = search needs

@@ -2,13 +2,13 @@
 ghost use mathlib.Core.Path.{_≡_};
 ghost use lib.ListN.{length, getD};
 ghost use Rattle.answers.specs.First.{placed};
 ghost use Rattle.rules.specs.Directions.{opposite};
 ghost use Rattle.rules.specs.Record.{OnBoard, puzzle};
 ghost use Rattle.rules.specs.Board.{neighbour, line};
 ghost use Rattle.rules.specs.Walk.{go};
-use super::Direction;
-use super::Grid;
 use answers::Place;
+use rules::Direction;
+use rules::Grid;
 
 pub fn opposite(d: Direction) -> Direction
     ensures { λ r. ⌜ r ≡ opposite d ⌝ }

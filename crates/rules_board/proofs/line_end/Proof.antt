@@ -1,10 +1,10 @@
--- `rules::board::line_end` meets its contract. Assumes nothing.
+-- `rules_board::line_end` meets its contract. Assumes nothing.
 use Rattle.answers.proofs.First.{found-at, found-none}
 use borrow.Author.Needs.{needs}
 use Rattle.rules.proofs.Boards.{far}
-use Rattle.rules.proofs.Steps.{Outgoing, out-start, out-end, out-count, out-less, out-on}
-use Rattle.rules.proofs.board.line_end.Statement.{statement}
-use Rattle.rules.proofs.board.line_end.Tie as tie
+use Rattle.rules_board.proofs.Steps.{Outgoing, out-start, out-end, out-count, out-less, out-on}
+use Rattle.rules_board.proofs.line_end.Statement.{statement}
+use Rattle.rules_board.proofs.line_end.Tie as tie
 
 abbrev Inv-loop : tie.InvT-loop
 Inv-loop g «record» x d y₀ cells₀ y cells = Outgoing g d x y cells

@@ -1,12 +1,12 @@
--- `rules::board::neighbour` meets its contract. Assumes nothing.
+-- `rules_board::neighbour` meets its contract. Assumes nothing.
 use Prim.Native.Nat.{_%_, _≤_, _<_}
 use native.Mathlib.Omega.{arith}
 use borrow.Author.Tests.{lt-ltb, le-ltb, le-leb, lt-leb}
 use Rattle.rules.specs.declared.Direction.the-variants.{North, East, South, West}
-use Rattle.rules.proofs.Steps.{leads-to, leads-nowhere, column-small, not-first}
+use Rattle.rules_board.proofs.Steps.{leads-to, leads-nowhere, column-small, not-first}
 use borrow.Author.Needs.{needs}
-use Rattle.rules.proofs.board.neighbour.Statement.{statement}
-use Rattle.rules.proofs.board.neighbour.Tie as tie
+use Rattle.rules_board.proofs.neighbour.Statement.{statement}
+use Rattle.rules_board.proofs.neighbour.Tie as tie
 
 enum-told : tie.Need-enum-told
 enum-told c = search needs
