@@ -85,7 +85,7 @@ module _ {g : Grid} {s values table : List ℕ} {sizes : Sizes} (p : Valued g s 
     pub link-false : (getD values (n - 1) 0 ≡ 1 → ⊥) → w (E x d) ≡ false
     link-false = value-false (E x d) link-at
 
-  -- no link towards the edge or a clue
+  -- no link towards the edge or a cell that is not open
   pub link-nowhere : (x : ℕ) (d : Direction) → none ≡ openNeighbour b d x → 0 ≡ bit (drawnLink b w x d)
   link-nowhere x d e = by (b .next d x) refl e
     where
@@ -100,7 +100,7 @@ module _ {g : Grid} {s values table : List ℕ} {sizes : Sizes} (p : Valued g s 
           link-some b w x y d (sym q) (none-out (some y) q e)
           (off _ (λ t. Option·some-ne-none y (sym (e ∙ ap (λ t. cond t (some y) none) (proper (E y (opposite d)) t .0)))))
 
--- the bytes of a clue and of an open cell
+-- the bytes of a cell that is not open and of an open one
 module _ (b : Board) (w : Variable → Bool) (x : ℕ) where
   abbrev byte : Bool → Bool → ℕ
   byte o black = drawnByte o black (drawnLink b w x)

@@ -62,7 +62,7 @@ fn link_sum(g: Grid, record: &[u8], values: &[u8], sizes: Sizes, table: &[usize]
     north + east * 2 + south * 4 + west * 8
 }
 
-// The byte of a cell: black and the links add up; a clue is 0x20.
+// The byte of a cell: black and the links add up; a cell that is not open is 0x20.
 fn byte_at(g: Grid, record: &[u8], values: &[u8], sizes: Sizes, table: &[usize], x: usize) -> u8
     requires { ⌜ Valued g (now «record») (now values) sizes (now table) ⌝ }
     requires { ⌜ x < size g ⌝ }

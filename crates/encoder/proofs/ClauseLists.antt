@@ -7,6 +7,7 @@ use lib.ListN.{length, length-append}
 use mathlib.Core.Path.{_≡_, refl, sym, _∙_, ap}
 use mathlib.Core.Bool.{Bool, true, false, cond}
 use mathlib.Core.List.{List, [], _∷_, _++_, map, map-map, append-nil}
+use Rattle.rules.specs.Directions.{bit}
 use Rattle.rules.specs.Board.{Clue, Board}
 use Rattle.rules.proofs.Boards.{Laws}
 use Rattle.answers.specs.Lists.{from, upTo, each, joined, keepStep, keep}
@@ -56,24 +57,22 @@ module _ (b : Board) (x : ℕ) where
   pub at-shut : {A : Type 0} (f : ℕ → List A) → b .isOpen x ≡ false → atCell b f x ≡ []
   at-shut f h = ap (λ t. cond t (f x) []) h
 
-  -- the rank and the first E number of each cell, as local arrays hold them
-  rank-next : {t : Bool} → b .isOpen x ≡ t → rank b (x + 1) ≡ rank b x + length (keepStep t x [])
-  rank-next {t} h = ap length (lower-next ∙ ap (λ t. lower b x ++ keepStep t x []) h) ∙ length-append (lower b x) (keepStep t x [])
+  -- the rank and the first E number of the next cell
+  pub rank-next : rank b (x + 1) ≡ rank b x + bit (b .isOpen x)
+  rank-next = ap length lower-next ∙ length-append (lower b x) _ ∙ ap (λ n. rank b x + n) (by (b .isOpen x))
+    where
+      by : (t : Bool) → length (keepStep t x []) ≡ bit t
+      by true = refl
+      by false = refl
 
   pub rank-open : b .isOpen x ≡ true → rank b (x + 1) ≡ rank b x + 1
-  rank-open h = rank-next h
+  rank-open h = rank-next ∙ ap (λ t. rank b x + bit t) h
 
   pub rank-shut : b .isOpen x ≡ false → rank b (x + 1) ≡ rank b x
-  rank-shut h = rank-next h ∙ omega arith
+  rank-shut h = rank-next ∙ ap (λ t. rank b x + bit t) h ∙ omega arith
 
-  links-next : linksBelow b (x + 1) ≡ linksBelow b x + length (atCell b (outgoing b) x)
+  pub links-next : linksBelow b (x + 1) ≡ linksBelow b x + length (atCell b (outgoing b) x)
   links-next = ap length (each-cell (outgoing b)) ∙ length-append (each (lower b x) (outgoing b)) (atCell b (outgoing b) x)
-
-  pub links-open : b .isOpen x ≡ true → linksBelow b (x + 1) ≡ linksBelow b x + length (outgoing b x)
-  links-open h = links-next ∙ ap (λ l. linksBelow b x + length l) (at-open (outgoing b) h)
-
-  pub links-shut : b .isOpen x ≡ false → linksBelow b (x + 1) ≡ linksBelow b x
-  links-shut h = links-next ∙ ap (λ l. linksBelow b x + length l) (at-shut (outgoing b) h) ∙ omega arith
 
 -- the open cells before x, cell by cell
 pub lower-each : (b : Board) {A : Type 0} (F : ℕ → List A) (x : ℕ) → each (lower b x) F ≡ each (upTo x) (atCell b F)

@@ -89,15 +89,15 @@ module _ (b : Board) where
   pub touching-sized : (x : ℕ) → Sized b (touchingAt b x) (after x) (after x * 3)
   touching-sized x = sized-map (touch x) 2 (λ y. refl) (neighbours b x eastSouth)
 
-  -- 2. Clue lines, for a number n: past a clue, past an open cell
+  -- 2. Clue lines, for a number n: past a cell that is not open, past an open one
   module _ (a n j c : ℕ) where
     pairs-sized : Sized b (pairs (countsAt a n (suc j))) (pairCount (suc n)) (pairCount (suc n) * 3)
     pairs-sized =
         let l : length (countsAt a n (suc j)) ≡ suc n = length-map (upTo (suc n)) _ ∙ length-from 0 (suc n) in
         sized-is (ap pairCount l) (ap (λ k. pairCount k * 3) l) (sized-pairs (countsAt a n (suc j)))
 
-    past-clue : Sized b (each (upTo (suc n)) (countStep false a n j c)) (suc n) (suc n * 3)
-    past-clue =
+    past-shut : Sized b (each (upTo (suc n)) (countStep false a n j c)) (suc n) (suc n * 3)
+    past-shut =
         let l = length-from 0 (suc n) in
         sized-is (omega arith) (omega arith) (sized-each (countStep false a n j c) {n = 1} {e = 3} (upTo (suc n)) (λ t m. sized-one _ refl))
 
@@ -119,9 +119,9 @@ module _ (b : Board) where
         below-n : (t : ℕ) → t ∈ upTo n → Sized b (step t) 2 8
         below-n t m = let h = of-upTo n m in rw (ne-eqb t n (omega arith)) (two t false refl)
 
-    pub cell-clue : (isOpen : ℕ → Bool) → isOpen c ≡ false
+    pub cell-shut : (isOpen : ℕ → Bool) → isOpen c ≡ false
         → Sized b (cellClauses isOpen a n j c) (suc n + pairCount (suc n)) (suc n * 3 + pairCount (suc n) * 3)
-    cell-clue isOpen h = rw h (sized-is (omega arith) (omega arith) (sized-append past-clue (sized-append pairs-sized sized-none)))
+    cell-shut isOpen h = rw h (sized-is (omega arith) (omega arith) (sized-append past-shut (sized-append pairs-sized sized-none)))
 
     pub cell-open : (isOpen : ℕ → Bool) → isOpen c ≡ true
         → Sized b (cellClauses isOpen a n j c) (suc n * 2 + pairCount (suc n)) (n * 8 + 7 + pairCount (suc n) * 3)

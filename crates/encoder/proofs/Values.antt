@@ -22,7 +22,7 @@ place-in v (u ∷ us) h = by (same v u) h (place-in v us)
     by (yes e) h go = List·Memᴰ·head e
     by (no n) h go = List·Memᴰ·tail (go (omega arith))
 
--- so E towards a clue or off the board, which the decoder reads as 0, is not drawn
+-- so E towards a cell that is not open or off the board, which the decoder reads as 0, is not drawn
 pub value-known : (b : Board) (values : List ℕ) → length values ≡ variableCount b → (v : Variable) → valueOf b values v ≡ true → Known b v
 value-known b values e v h = of-variables b v (place-in v (variables b) (by (decLt (place v (variables b)) (length values))))
   where

@@ -59,7 +59,7 @@ abbrev pub oneMore : Bool → ℕ → ℕ → ℕ → ℕ → Clause
 oneMore true a j t c = notBoth (T a j t) (Z c)
 oneMore false a j t c = minus (T a j t) ∷ minus (Z c) ∷ plus (T a (suc j) (suc t)) ∷ []
 
--- if c is a clue [−T(j,t) T(j+1,t)], if open [−T(j,t) Zc T(j+1,t)] followed by one more
+-- if c is not open [−T(j,t) T(j+1,t)], if open [−T(j,t) Zc T(j+1,t)] followed by one more
 abbrev pub countStep : Bool → ℕ → ℕ → ℕ → ℕ → ℕ → List Clause
 countStep false a n j c t = (minus (T a j t) ∷ plus (T a (suc j) t) ∷ []) ∷ []
 countStep true a n j c t = (minus (T a j t) ∷ plus (Z c) ∷ plus (T a (suc j) t) ∷ []) ∷ oneMore (eqb t n) a j t c ∷ []

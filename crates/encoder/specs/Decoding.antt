@@ -29,7 +29,7 @@ valueOf b values v = eqb (getD values (place v (variables b)) 0) 1
 abbrev pub drawnLink : Board → (Variable → Bool) → ℕ → Direction → Bool
 drawnLink b w x d = w (E x d) || there (λ y. w (E y (opposite d))) (b .next d x)
 
--- the parts of a byte add up: black 0x10, and the links; a clue is 0x20
+-- the parts of a byte add up: black 0x10, and the links; a cell that is not open is 0x20
 abbrev pub drawnByte : Bool → Bool → (Direction → Bool) → ℕ
 drawnByte true black link = bit black * 0x10 + linkSum link
 drawnByte false black link = 0x20

@@ -48,7 +48,7 @@ lower b x = keep (b .isOpen) (upTo x)
 abbrev pub rank : Board → ℕ → ℕ
 rank b x = length (lower b x)
 
--- what f says of a cell: nothing of a clue
+-- what f says of a cell: nothing of one that is not open
 abbrev pub atCell : {A : Type 0} → Board → (ℕ → List A) → ℕ → List A
 atCell b f x = cond (b .isOpen x) (f x) []
 

@@ -1,4 +1,4 @@
--- The families cell by cell: what an open cell and a clue give, and what all of them give. Assumes nothing.
+-- The families cell by cell: what a cell gives, open or not, and what all of them give. Assumes nothing.
 use Prim.Native.Nat.{ℕ, _+_, _≤_, _<_}
 use native.Mathlib.Omega.{arith}
 use lib.IntN.{pos}

@@ -37,7 +37,7 @@ fn open_cell(family: Family, list: &mut [i32], at: usize, f: usize, x: CellNumbe
     }
 }
 
-// What a family says of a cell: nothing of a clue.
+// What a family says of a cell: nothing of one that is not open.
 fn cell(
     family: Family,
     list: &mut [i32],

@@ -22,14 +22,14 @@ use Rattle.encoder.specs.Bounds.{NotBeyond}
 use Rattle.encoder_shapes.specs.Limits.{WithinLimits, PartsWithinLimits}
 use Rattle.encoder_shapes.specs.Shapes.{notBoth, impliesEither}
 use Rattle.encoder_shapes.proofs.Written.{in-parts, begun, part-needs, limits-left, limits-right, no-small, limits-recast}
-use Rattle.encoder_lines.specs.Line.{countStepClue, countStepBelow, countStepRow, countStepParts, countStepEach}
+use Rattle.encoder_lines.specs.Line.{countStepShut, countStepBelow, countStepRow, countStepParts, countStepEach}
 
 -- a row that can be written begins at a variable's number
 row-few : (row z n : ℕ) {at : ℕ} → WithinLimits at (joined (countStepParts row z n)) → row ≤ mostVariables
 row-few row z n w = by z (part-needs (begun [] (in-parts (countStepParts row z n) w)))
   where
     by : (z : ℕ) {at : ℕ} → WithinLimits at (countStepRow z row (row + (n + 1)) n) → row ≤ mostVariables
-    by zero w = let v = limits-recast (ap (countStepClue row (row + (n + 1))) (add-one n)) w in omega (arith, no-small (row + 0) (v .literals .0))
+    by zero w = let v = limits-recast (ap (countStepShut row (row + (n + 1))) (add-one n)) w in omega (arith, no-small (row + 0) (v .literals .0))
     by (suc z) w =
         let next = row + (n + 1) in
         let last = joined (impliesEither (row + n) (suc z) (next + n) ∷ notBoth (row + n) (suc z) ∷ []) in

@@ -18,7 +18,7 @@ use Rattle.encoder.proofs.ClauseLists.{each-next, each-shift, pairs-each, list-
 use Rattle.encoder_shapes.specs.Shapes.{unit, unitNot as unitNot#, notBoth as notPair, implies, impliesEither, bothImply, eachUnitNot, eachNotBoth, pairsWith}
 use Rattle.encoder_shapes.specs.Shapes.{atMostOne}
 use Rattle.encoder_numbers.specs.Numbered.{blackOf}
-use Rattle.encoder_lines.specs.Line.{countStepClue, countStepBoth, countStepBelow, countStepOpen, countStepRow, countStepParts, countStepEach}
+use Rattle.encoder_lines.specs.Line.{countStepShut, countStepBoth, countStepBelow, countStepOpen, countStepRow, countStepParts, countStepEach}
 use Rattle.encoder_lines.specs.Line.{clueNumbers}
 
 -- a clue c of a board, cs the clues before it
@@ -58,8 +58,8 @@ module _ (b : Board) (law : Laws b) (c : Clue) (cs : List Clue) (m : At (b .clue
     there : (t : ℕ) → t ≤ n → t# (suc j) t ≡ next + t
     there t k = row-on (suc j) t h k ∙ ap (λ r. r + t) (row-next j h)
 
-    count-step-clue : listOf b (each (upTo (suc n)) (countStep false a n j x)) ≡ countStepClue row next (n + 1)
-    count-step-clue =
+    count-step-shut : listOf b (each (upTo (suc n)) (countStep false a n j x)) ≡ countStepShut row next (n + 1)
+    count-step-shut =
         list-each b (countStep false a n j x) (upTo (suc n))
         ∙ each-shift (λ t. listOf b (countStep false a n j x t)) (λ t. implies (row + t) (next + t)) 0 0 (suc n)
         (λ t k. (λ i. implies (here (0 + t) (omega arith) i) (there (0 + t) (omega arith) i)))
@@ -97,7 +97,7 @@ module _ (b : Board) (law : Laws b) (c : Clue) (cs : List Clue) (m : At (b .clue
       where
         by : (o : Bool) → listOf b (each (upTo (suc n)) (countStep o a n j x)) ≡ countStepRow (cond o (number b (Z x)) 0) row next n
         by true = count-step-open
-        by false = count-step-clue
+        by false = count-step-shut
 
     -- each pair of the next row
     next-pairs : listOf b (pairs (countsAt a n (suc j))) ≡ atMostOne next (n + 1)

@@ -15,9 +15,9 @@ use Rattle.encoder.specs.Clauses.{Clause, clueClauses}
 use Rattle.encoder_numbers.specs.Numbered.{blackOf}
 use Rattle.encoder_shapes.specs.Shapes.{unit, notBoth, implies, impliesEither, bothImply, eachUnitNot, atMostOne}
 
--- past a clue: [−T(j,t) T(j+1,t)], for the counts t below n
-abbrev pub countStepClue : ℕ → ℕ → ℕ → List ℤ
-countStepClue row next n = each (upTo n) (λ t. implies (row + t) (next + t))
+-- past a cell that is not open: [−T(j,t) T(j+1,t)], for the counts t below n
+abbrev pub countStepShut : ℕ → ℕ → ℕ → List ℤ
+countStepShut row next n = each (upTo n) (λ t. implies (row + t) (next + t))
 
 -- past an open cell: [−T(j,t) Zc T(j+1,t)] [−T(j,t) −Zc T(j+1,t+1)] for t below n, at last [−T(j,n) Zc T(j+1,n)] [−T(j,n) −Zc]
 abbrev pub countStepBoth : ℕ → ℕ → ℕ → List (List ℤ)
@@ -29,9 +29,9 @@ countStepBelow row next z n = each (upTo n) (λ t. joined (countStepBoth (row + 
 abbrev pub countStepOpen : ℕ → ℕ → ℕ → ℕ → List (List ℤ)
 countStepOpen row next z n = countStepBelow row next z n ∷ impliesEither (row + n) z (next + n) ∷ notBoth (row + n) z ∷ []
 
--- past a cell: z is the number of its Z, 0 for a clue
+-- past a cell: z is the number of its Z, 0 if it is not open
 abbrev pub countStepRow : ℕ → ℕ → ℕ → ℕ → List ℤ
-countStepRow zero row next n = countStepClue row next (n + 1)
+countStepRow zero row next n = countStepShut row next (n + 1)
 countStepRow (suc z) row next n = joined (countStepOpen row next (suc z) n)
 
 -- then each pair of the next row
@@ -43,7 +43,7 @@ abbrev pub countStepEach : ℕ → ℕ → List ℕ → List ℤ
 countStepEach row n [] = []
 countStepEach row n (z ∷ zs) = joined (countStepParts row z n) ++ countStepEach (row + (n + 1)) n zs
 
--- the numbers of the Z variables along the line that leaves x, 0 for a clue
+-- the numbers of the Z variables along the line that leaves x, 0 for a cell that is not open
 abbrev pub blacksOf : Grid → List ℕ → Direction → ℕ → List ℕ
 blacksOf g s d x = map (blackOf (gridBoard g s)) (line (puzzle g s) d x)
 

@@ -7,7 +7,7 @@ ghost use Rattle.answers.specs.Lists.{joined};
 ghost use Rattle.encoder.specs.Clauses.{clueLines, listOf};
 ghost use Rattle.encoder_shapes.specs.Limits.{WithinLimits, PartsWithinLimits};
 ghost use Rattle.encoder_numbers.specs.Tables.{Tables};
-ghost use Rattle.encoder_lines.specs.Line.{countStepClue, countStepBoth, countStepBelow, countStepOpen, countStepRow, countStepParts, countStepEach};
+ghost use Rattle.encoder_lines.specs.Line.{countStepShut, countStepBoth, countStepBelow, countStepOpen, countStepRow, countStepParts, countStepEach};
 ghost use Rattle.encoder_lines.specs.Line.{blacksOf, LineEnd, clueNumbers, clueAt};
 use encoder_numbers::Sizes;
 use encoder_numbers::cells::black_number;
@@ -27,10 +27,10 @@ use rules_board::go;
 use rules_board::line_end;
 use rules_board::opposite;
 
-// [−T(j,t) T(j+1,t)], for the n counts t from 0 on.
-fn count_step_clue(list: &mut [i32], at: usize, row: usize, next: usize, n: usize) -> usize
-    requires { ⌜ WithinLimits at (countStepClue row next n) ⌝ }
-    ensures { λ r. ⌜ Wrote (now (list .entry)) at (countStepClue row next n) (now (list .exit)) r ⌝ }
+// Past a cell that is not open: [−T(j,t) T(j+1,t)], for the n counts t from 0 on.
+fn count_step_shut(list: &mut [i32], at: usize, row: usize, next: usize, n: usize) -> usize
+    requires { ⌜ WithinLimits at (countStepShut row next n) ⌝ }
+    ensures { λ r. ⌜ Wrote (now (list .entry)) at (countStepShut row next n) (now (list .exit)) r ⌝ }
 {
     let mut i = at;
     let mut k = 0;
@@ -88,14 +88,14 @@ fn count_step_open(
     not_both(list, i, row + n, z)
 }
 
-// t = 0 to n, past a cell whose Z is z, or past a clue if z is 0.
+// t = 0 to n, past a cell whose Z is z, or past one that is not open if z is 0.
 fn count_step_row(list: &mut [i32], at: usize, z: usize, row: usize, next: usize, n: usize) -> usize
     requires { ⌜ WithinLimits at (countStepRow z row next n) ⌝ }
     requires { ⌜ n < 256 ⌝ }
     ensures { λ r. ⌜ Wrote (now (list .entry)) at (countStepRow z row next n) (now (list .exit)) r ⌝ }
 {
     if z == 0 {
-        return count_step_clue(list, at, row, next, n + 1);
+        return count_step_shut(list, at, row, next, n + 1);
     }
     count_step_open(list, at, row, next, z, n)
 }

@@ -15,20 +15,21 @@ use Rattle.rules.specs.declared.Cell.{Cell}
 use Rattle.rules.specs.declared.Cell.the-variants.{Open, Clue as Clued}
 use Rattle.rules.specs.declared.Grid.{Grid}
 use Rattle.rules.specs.Record.{Puzzle, size, puzzle, mostCells, RecordFits}
+use Rattle.rules.specs.Directions.{bit}
 use Rattle.rules.specs.Board.{Clue, Board, openCell, line, clueOf, cluesFrom, gridBoard}
 use Rattle.rules.proofs.Records.{numberOf, puzzle-filled, number-small}
 use Rattle.answers.specs.Lists.{upTo, each}
 use Rattle.encoder.specs.Variables.{directions, openCount, ifOpen, ifThere, neighbours, out, outgoing, linkVariables, clueCounts, counts, variableCount, lower}
-use Rattle.encoder.specs.Variables.{rank, linksBelow, earlier}
+use Rattle.encoder.specs.Variables.{rank, linksBelow, earlier, atCell}
 use Rattle.answers.proofs.Elements.{each-append, length-from, length-each-most, keep-most, map-most}
 use Rattle.encoder.proofs.Places.{clue-long, total}
 use Rattle.encoder.proofs.Clues.{clues-next}
 use Rattle.encoder.proofs.Lines.{line-short}
 use Rattle.encoder.proofs.Bounds.{neighbours-most}
-use Rattle.encoder.proofs.ClauseLists.{rank-open, rank-shut, links-open, links-shut}
+use Rattle.encoder.proofs.ClauseLists.{at-open, at-shut, rank-next, links-next}
 use Rattle.judge_cells.proofs.Checks.{is-opened}
 use Rattle.encoder_numbers.specs.declared.Sizes.{Sizes}
-use Rattle.encoder_numbers.specs.Tables.{countsBelow, sizesBelow, sizesOf, ifOpenCell, openNeighbour}
+use Rattle.encoder_numbers.specs.Tables.{cellCounts, countsBelow, sizesAt, sizesBelow, sizesOf, ifOpenCell, openNeighbour}
 
 -- 1. Open cells and links
 
@@ -98,24 +99,20 @@ module _ (b : Board) (x : ℕ) where
 
 -- 2. T variables
 
--- those of a cell
-abbrev pub countsOf : Puzzle → ℕ → ℕ
-countsOf p x = length (each (clueOf p x (getD (p .cells) x Open)) clueCounts)
-
-pub counts-on : (p : Puzzle) (x : ℕ) → x < length (p .cells) → countsBelow p (x + 1) ≡ countsBelow p x + countsOf p x
+pub counts-on : (p : Puzzle) (x : ℕ) → x < length (p .cells) → countsBelow p (x + 1) ≡ countsBelow p x + cellCounts p x
 counts-on p x h =
     let cs = cluesFrom p 0 (take x (p .cells)) in
     let ds = clueOf p x (getD (p .cells) x Open) in
     ap (λ l. length (each l clueCounts)) (clues-next p x h) ∙ ap length (each-append clueCounts cs ds) ∙ length-append (each cs clueCounts) (each ds clueCounts)
 
 pub clue-counts : (p : Puzzle) (x : ℕ) {c : Cell} {d : Direction} {n l : ℕ} → c ≡ Clued d n → c ≡ getD (p .cells) x Open → l ≡ length (line p d x)
-    → (l + 1) * (n + 1) ≡ countsOf p x
+    → (l + 1) * (n + 1) ≡ cellCounts p x
 clue-counts p x {c} {d} {n} {l} e h q =
     let k : Clue = record { cell = x; number = n; line = line p d x } in
     (λ i. (add-one l ∙ ap suc q) i * add-one n i)
     ∙ sym (ap (λ c. length (each (clueOf p x c) clueCounts)) (sym h ∙ e) ∙ ap length (append-nil (clueCounts k)) ∙ clue-long k)
 
-pub no-counts : (p : Puzzle) (x : ℕ) {c : Cell} → c ≡ Open → c ≡ getD (p .cells) x Open → 0 ≡ countsOf p x
+pub no-counts : (p : Puzzle) (x : ℕ) {c : Cell} → c ≡ Open → c ≡ getD (p .cells) x Open → 0 ≡ cellCounts p x
 no-counts p x e h = ap (λ c. length (each (clueOf p x c) clueCounts)) (sym e ∙ h)
 
 -- no line is longer than there are cells
@@ -127,10 +124,10 @@ line-few {g} {s} {x} h l d =
     omega arith
 
 -- the T variables of a cell
-pub counts-few : {g : Grid} {s : List ℕ} {x : ℕ} → RecordFits g s → x < size g → countsOf (puzzle g s) x ≤ 2 ^ 17
+pub counts-few : {g : Grid} {s : List ℕ} {x : ℕ} → RecordFits g s → x < size g → cellCounts (puzzle g s) x ≤ 2 ^ 17
 counts-few {g} {s} {x} h l = by (getD (puzzle g s .cells) x Open) refl
   where
-    by : (c : Cell) → getD (puzzle g s .cells) x Open ≡ c → countsOf (puzzle g s) x ≤ 2 ^ 17
+    by : (c : Cell) → getD (puzzle g s .cells) x Open ≡ c → cellCounts (puzzle g s) x ≤ 2 ^ 17
     by Open e = let z = no-counts (puzzle g s) x refl (sym e) in omega arith
     by (Clued d n) e =
         let z = clue-counts (puzzle g s) x refl (sym e) refl in
@@ -145,7 +142,7 @@ below-few h zero l = omega arith
 below-few {g} {s} h (suc x) l =
     let f = puzzle-filled g s in
     let k = below-few h x (omega arith) in
-    let e : countsBelow (puzzle g s) (suc x) ≡ countsBelow (puzzle g s) x + countsOf (puzzle g s) x = ap (countsBelow (puzzle g s)) (sym (add-one x))
+    let e : countsBelow (puzzle g s) (suc x) ≡ countsBelow (puzzle g s) x + cellCounts (puzzle g s) x = ap (countsBelow (puzzle g s)) (sym (add-one x))
     ∙ counts-on (puzzle g s) x (omega arith) in
     omega (arith, counts-few {x = x} h l)
 
@@ -153,42 +150,37 @@ pub counts-are : {g : Grid} {s : List ℕ} → RecordFits g s → countsBelow (p
 counts-are {g} {s} h =
     let f = puzzle-filled g s in ap (λ cs. length (each (cluesFrom (puzzle g s) 0 cs) clueCounts)) (take-all (size g) (puzzle g s .cells) (omega arith))
 
--- 3. The sizes of the cells before x, one cell more, and their bounds
+-- 3. The sizes of a cell and of the cells before it, and their bounds
 
-module _ {g : Grid} {s : List ℕ} (h : RecordFits g s) {x : ℕ} (l : x < size g) {z : Sizes} (e : z ≡ sizesBelow g s x) {c : Cell}
-    (q : c ≡ getD (puzzle g s .cells) x Open) where
-  counts-next : countsBelow (puzzle g s) (x + 1) ≡ countsBelow (puzzle g s) x + countsOf (puzzle g s) x
-  counts-next = let f = puzzle-filled g s in counts-on (puzzle g s) x (omega arith)
+module _ {g : Grid} {s : List ℕ} (h : RecordFits g s) {x : ℕ} (l : x < size g) where
+  -- the cell is open, or it is not and has some T variables
+  module _ {c : Cell} (q : c ≡ getD (puzzle g s .cells) x Open) where
+    is-open : {t : Bool} → openCell c ≡ t → gridBoard g s .isOpen x ≡ t
+    is-open e = sym (is-opened h l q) ∙ e
 
-  opens-is : z .opens ≡ rank (gridBoard g s) x
-  opens-is = ap (λ (z : Sizes). z .opens) e
+    pub open-sizes : {n : ℕ} → c ≡ Open → n ≡ length (neighbours (gridBoard g s) x directions)
+        → _≡_ {A = Sizes} (record { opens = 1; links = n; counts = 0 }) (sizesAt g s x)
+    open-sizes {n} k m =
+        let b = gridBoard g s in
+        let o = is-open (ap openCell k) in
+        let i : n ≡ length (atCell b (outgoing b) x) = m ∙ sym (ap length (at-open b x (outgoing b) o) ∙ length-map (neighbours b x directions) (out x)) in
+        (λ t. record { opens = bit (sym o t); links = i t; counts = no-counts (puzzle g s) x k q t })
 
-  links-is : z .links ≡ linksBelow (gridBoard g s) x
-  links-is = ap (λ (z : Sizes). z .links) e
+    pub shut-sizes : {n : ℕ} → openCell c ≡ false → n ≡ cellCounts (puzzle g s) x
+        → _≡_ {A = Sizes} (record { opens = 0; links = 0; counts = n }) (sizesAt g s x)
+    shut-sizes k m =
+        let b = gridBoard g s in
+        let o = is-open k in
+        (λ t. record { opens = bit (sym o t); links = length (sym (at-shut b x (outgoing b) o) t); counts = m t })
 
-  counts-is : z .counts ≡ countsBelow (puzzle g s) x
-  counts-is = ap (λ (z : Sizes). z .counts) e
-
-  pub sizes-open : {n : ℕ} → c ≡ Open → n ≡ length (neighbours (gridBoard g s) x directions)
-      → _≡_ {A = Sizes} (record { opens = z .opens + 1; links = z .links + n; counts = z .counts }) (sizesBelow g s (x + 1))
-  sizes-open {n} k m =
+  pub sizes-next : {z y : Sizes} → z ≡ sizesBelow g s x → y ≡ sizesAt g s x
+      → _≡_ {A = Sizes} (record { opens = z .opens + y .opens; links = z .links + y .links; counts = z .counts + y .counts }) (sizesBelow g s (x + 1))
+  sizes-next e q =
       let b = gridBoard g s in
-      let o : b .isOpen x ≡ true = sym (is-opened h l q) ∙ ap openCell k in
-      let i : z .opens + 1 ≡ rank b (x + 1) = ap (λ n. n + 1) opens-is ∙ sym (rank-open b x o) in
-      let j : z .links + n ≡ linksBelow b (x + 1) = (λ t. links-is t + m t)
-      ∙ sym (links-open b x o ∙ ap (λ n. linksBelow b x + n) (length-map (neighbours b x directions) (out x))) in
-      let u : z .counts ≡ countsBelow (puzzle g s) (x + 1) = (let f = no-counts (puzzle g s) x k q in omega (arith, counts-next, counts-is)) in
-      (λ t. record { opens = i t; links = j t; counts = u t })
-
-  pub sizes-clue : {d : Direction} {n k : ℕ} → c ≡ Clued d n → k ≡ length (line (puzzle g s) d x)
-      → _≡_ {A = Sizes} (record { opens = z .opens; links = z .links; counts = z .counts + (k + 1) * (n + 1) }) (sizesBelow g s (x + 1))
-  sizes-clue {d} {n} {k} w m =
-      let b = gridBoard g s in
-      let o : b .isOpen x ≡ false = sym (is-opened h l q) ∙ ap openCell w in
-      let i : z .opens ≡ rank b (x + 1) = opens-is ∙ sym (rank-shut b x o) in
-      let j : z .links ≡ linksBelow b (x + 1) = links-is ∙ sym (links-shut b x o) in
-      let u : z .counts + (k + 1) * (n + 1) ≡ countsBelow (puzzle g s) (x + 1) = (λ t. counts-is t + clue-counts (puzzle g s) x w q m t) ∙ sym counts-next in
-      (λ t. record { opens = i t; links = j t; counts = u t })
+      let f = puzzle-filled g s in
+      let sum : Sizes → Sizes → Sizes = (λ z y. record { opens = z .opens + y .opens; links = z .links + y .links; counts = z .counts + y .counts }) in
+      (λ t. sum (e t) (q t))
+      ∙ sym (λ t. record { opens = rank-next b x t; links = links-next b x t; counts = counts-on (puzzle g s) x (omega arith) t })
 
 -- whatever the grid, nothing that is counted overflows
 pub record Few (z : Sizes) : Type 0 where

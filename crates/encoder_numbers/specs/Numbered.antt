@@ -10,7 +10,7 @@ use Rattle.encoder.specs.Clauses.{back}
 use Rattle.encoder_numbers.specs.declared.NeighbourNumbers.{NeighbourNumbers}
 use Rattle.encoder_numbers.specs.declared.CellNumbers.{CellNumbers}
 
--- the number of a cell's Z, 0 for a clue
+-- the number of a cell's Z, 0 if it is not open
 abbrev pub blackOf : Board → ℕ → ℕ
 blackOf b x = cond (b .isOpen x) (number b (Z x)) 0
 

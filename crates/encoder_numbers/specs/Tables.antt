@@ -6,16 +6,26 @@ use mathlib.Core.Bool.{true, cond}
 use mathlib.Core.Option.{Option, none, some}
 use mathlib.Core.List.{List, [], _∷_}
 use Rattle.rules.specs.declared.Direction.{Direction}
+use Rattle.rules.specs.declared.Cell.the-variants.{Open}
 use Rattle.rules.specs.declared.Grid.{Grid}
 use Rattle.rules.specs.Record.{Puzzle, size, puzzle, mostCells, RecordFits}
-use Rattle.rules.specs.Board.{Board, cluesFrom, gridBoard}
+use Rattle.rules.specs.Directions.{bit}
+use Rattle.rules.specs.Board.{Board, clueOf, cluesFrom, gridBoard}
 use Rattle.answers.specs.Lists.{upTo, each}
-use Rattle.encoder.specs.Variables.{openCount, linkVariables, clueCounts, rank, linksBelow}
+use Rattle.encoder.specs.Variables.{openCount, outgoing, linkVariables, clueCounts, rank, linksBelow, atCell}
 use Rattle.encoder_numbers.specs.declared.Sizes.{Sizes}
 
--- the number of T variables of the first x cells
+-- the number of T variables of cell x, and of the first x cells
+abbrev pub cellCounts : Puzzle → ℕ → ℕ
+cellCounts p x = length (each (clueOf p x (getD (p .cells) x Open)) clueCounts)
+
 abbrev pub countsBelow : Puzzle → ℕ → ℕ
 countsBelow p x = length (each (cluesFrom p 0 (take x (p .cells))) clueCounts)
+
+-- the sizes of cell x
+abbrev pub sizesAt : Grid → List ℕ → ℕ → Sizes
+sizesAt g s x =
+    let b = gridBoard g s in record { opens = bit (b .isOpen x); links = length (atCell b (outgoing b) x); counts = cellCounts (puzzle g s) x }
 
 -- the sizes of the cells before x: the number of open cells is the rank of x, if it is open
 abbrev pub sizesBelow : Grid → List ℕ → ℕ → Sizes

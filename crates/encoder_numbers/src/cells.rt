@@ -18,7 +18,7 @@ use rules::Direction;
 use rules::Grid;
 use rules_board::opposite;
 
-// The number of a cell's Z; 0 for a clue.
+// The number of a cell's Z; 0 if it is not open.
 pub fn black_number(g: Grid, record: &[u8], sizes: Sizes, table: &[usize], x: usize) -> usize
     requires { ⌜ Tables g (now «record») sizes (now table) ⌝ }
     requires { ⌜ x < size g ⌝ }

@@ -9,7 +9,7 @@ ghost use Rattle.answers.specs.Lent.{filled, Wrote};
 ghost use Rattle.rules.specs.Record.{size, RecordFits};
 ghost use Rattle.rules.specs.Board.{gridBoard};
 ghost use Rattle.encoder.specs.Variables.{directions, neighbours, variableCount, earlier};
-ghost use Rattle.encoder_numbers.specs.Tables.{sizesBelow, sizesOf, rowOf, tableOf, Tables, openNeighbour};
+ghost use Rattle.encoder_numbers.specs.Tables.{sizesAt, sizesBelow, sizesOf, rowOf, tableOf, Tables, openNeighbour};
 use super::Sizes;
 use answers::Place;
 use judge_cells::cells::is_open;
@@ -83,28 +83,49 @@ pub fn neighbour_count(g: Grid, record: &[u8], x: usize) -> usize
     before + west
 }
 
-// The sizes of the cells before x, and x: an open cell has its E variables, a clue (L + 1) times (n + 1) T variables.
+// So many open cells, E variables and T variables.
+fn sizes(opens: usize, links: usize, counts: usize) -> Sizes
+    ensures { λ r. ⌜ r ≡ record { opens = opens; links = links; counts = counts } ⌝ }
+{
+    Sizes {
+        opens,
+        links,
+        counts,
+    }
+}
+
+// The sizes of a cell: an open cell has its E variables, a clue (L + 1) times (n + 1) T variables.
+fn sizes_at(g: Grid, record: &[u8], x: usize) -> Sizes
+    requires { ⌜ RecordFits g (now «record») ⌝ }
+    requires { ⌜ x < size g ⌝ }
+    ensures { λ r. ⌜ r ≡ sizesAt g (now («record» .entry)) x ⌝ }
+{
+    let c = g.cell(record, x);
+    match c {
+        Cell::Open => {
+            let links = neighbour_count(g, record, x);
+            sizes(1, links, 0)
+        }
+        Cell::Clue(d, n) => {
+            let end = line_end(g, record, x, d);
+            let cells = end.cells;
+            sizes(0, 0, (cells + 1) * (n as usize + 1))
+        }
+    }
+}
+
+// The sizes of the cells before x, and x.
 fn with_cell(g: Grid, record: &[u8], below: Sizes, x: usize) -> Sizes
     requires { ⌜ RecordFits g (now «record») ⌝ }
     requires { ⌜ (x < size g) × (below ≡ sizesBelow g (now «record») x) ⌝ }
     ensures { λ r. ⌜ r ≡ sizesBelow g (now («record» .entry)) (x + 1) ⌝ }
 {
-    let c = g.cell(record, x);
-    let Cell::Clue(d, n) = c else {
-        let links = neighbour_count(g, record, x);
-        return Sizes {
-            opens: below.opens + 1,
-            links: below.links + links,
-            counts: below.counts,
-        };
-    };
-    let end = line_end(g, record, x, d);
-    let cells = end.cells;
-    Sizes {
-        opens: below.opens,
-        links: below.links,
-        counts: below.counts + (cells + 1) * (n as usize + 1),
-    }
+    let more = sizes_at(g, record, x);
+    sizes(
+        below.opens + more.opens,
+        below.links + more.links,
+        below.counts + more.counts,
+    )
 }
 
 // Writes the three numbers of a cell; returns the place after them.

@@ -107,20 +107,20 @@ module _ {g : Grid} {s : List ℕ} {x : ℕ} (h : RecordFits g s) (inside : x < 
 
     clue-amounts : Amounts b (cellFamilies g s x) (clueAmount n opens (length cells - opens))
     clue-amounts =
-        let clues = length cells - opens in
+        let shut = length cells - opens in
         let l = line-few h inside d in
         let m = many-most (b .isOpen) cells in
-        let z : opens + clues ≡ length cells = omega arith in
+        let z : opens + shut ≡ length cells = omega arith in
         let one = add-one n in
-        let A : (opens + clues) * pairCount (n + 1) ≡ length cells * pairCount (suc n) = (λ t. z t * pairCount (one t)) in
-        let B = ap (λ k. clues * k) one in
+        let A : (opens + shut) * pairCount (n + 1) ≡ length cells * pairCount (suc n) = (λ t. z t * pairCount (one t)) in
+        let B = ap (λ k. shut * k) one in
         let p = pairs-most (n + 1) 256 (omega arith) in
-        let P : (opens + clues) * pairCount (n + 1) ≤ mostCells * 32640 = mul-le-mul {n₂ = mostCells} {m₂ = 32640} (omega arith) (omega arith) in
-        let Q : clues * (n + 1) ≤ mostCells * 256 = mul-le-mul {n₂ = mostCells} {m₂ = 256} (omega arith) (omega arith) in
+        let P : (opens + shut) * pairCount (n + 1) ≤ mostCells * 32640 = mul-le-mul {n₂ = mostCells} {m₂ = 32640} (omega arith) (omega arith) in
+        let Q : shut * (n + 1) ≤ mostCells * 256 = mul-le-mul {n₂ = mostCells} {m₂ = 256} (omega arith) (omega arith) in
         let R : opens * (n * 2 + 1) ≤ mostCells * 512 = mul-le-mul {n₂ = mostCells} {m₂ = 512} (omega arith) (omega arith) in
         let none = sized-none b in
-        let one = clue-sized b x n cells (b .isOpen) (line-sized b (b .isOpen) x n 0 cells clues (omega arith)) in
-        let a : Amount = clueAmount n opens clues in
+        let one = clue-sized b x n cells (b .isOpen) (line-sized b (b .isOpen) x n 0 cells shut (omega arith)) in
+        let a : Amount = clueAmount n opens shut in
         record {
           sized = subst (λ cs. Sized b cs (a .clauses) (a .elements)) clue-families (sized-is b (omega arith) (omega arith)
               (sized-append b none (sized-append b (sized-append b one none) (sized-append b none (sized-append b none none)))));

@@ -1,4 +1,4 @@
--- The clauses of a clue's line, by the open cells and the clues on it. Assumes nothing.
+-- The clauses of a clue's line, by the cells on it that are open and those that are not. Assumes nothing.
 use Prim.Native.Nat.{ℕ, zero, suc, _+_, _*_, _-_, _/_, _≤_}
 use native.Mathlib.Omega.{arith}
 use native.Mathlib.Nat.{suc-mul, mul-le-mul}
@@ -10,7 +10,7 @@ use Rattle.answers.specs.Lists.{tally, howMany}
 use Rattle.answers.proofs.Lists.{many-most}
 use Rattle.rules.specs.Board.{Board}
 use Rattle.encoder.specs.Clauses.{lineClauses, pairCount, Sized}
-use Rattle.encoder.proofs.Counts.{pair-count, sized-none, sized-append, sized-is, cell-clue, cell-open}
+use Rattle.encoder.proofs.Counts.{pair-count, sized-none, sized-append, sized-is, cell-shut, cell-open}
 
 pub pairs-half : (n : ℕ) → n * (n - 1) / 2 ≡ pairCount n
 pairs-half n = omega (arith, pair-count n)
@@ -18,7 +18,7 @@ pairs-half n = omega (arith, pair-count n)
 pub pairs-most : (n m : ℕ) → n ≤ m → pairCount n * 2 ≤ m * (m - 1)
 pairs-most n m h = let i : n * (n - 1) ≤ m * (m - 1) = mul-le-mul h (omega arith) in omega (arith, pair-count n)
 
--- q is the number of clues
+-- q is the number of cells that are not open
 module _ (b : Board) (isOpen : ℕ → Bool) (a n : ℕ) where
   abbrev twos : ℕ → ℕ → ℕ → ℕ
   twos l q o = l * pairCount (suc n) + q * suc n + o
@@ -41,4 +41,4 @@ module _ (b : Board) (isOpen : ℕ → Bool) (a n : ℕ) where
       by false h (suc q) e go =
           sized-is b (omega (arith, suc-mul (length cs) (pairCount (suc n)), suc-mul q (suc n)))
           (omega (arith, suc-mul (length cs) (pairCount (suc n)), suc-mul q (suc n)))
-          (sized-append b (cell-clue b a n j c isOpen h) (go q (omega arith)))
+          (sized-append b (cell-shut b a n j c isOpen h) (go q (omega arith)))

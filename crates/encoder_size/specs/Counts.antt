@@ -23,9 +23,9 @@ amountOf ones twos threes more = record { clauses = ones + twos + threes; elemen
 abbrev pub openAmount : ℕ → ℕ → ℕ → ℕ → ℕ → Amount
 openAmount f rank around after east = amountOf 4 ((after + around + pairCount around + f + 1) * 2 + rank) (around * (f - 1)) (around * 2 + east + f)
 
--- a clue with number n, with the open cells on its line and the clues on it
+-- a clue with number n, with the cells on its line that are open and those that are not
 abbrev pub clueAmount : ℕ → ℕ → ℕ → Amount
-clueAmount n opens clues = amountOf (n + 2) ((opens + clues) * pairCount (n + 1) + clues * (n + 1) + opens) (opens * (n * 2 + 1)) 0
+clueAmount n opens shut = amountOf (n + 2) ((opens + shut) * pairCount (n + 1) + shut * (n + 1) + opens) (opens * (n * 2 + 1)) 0
 
 -- what the families say of a cell: family 2 of a clue, the others of an open cell
 abbrev pub cellFamilies : Grid → List ℕ → ℕ → List Clause

@@ -83,13 +83,13 @@ fn open_amount(f: usize, lower: usize, neighbours: usize, after: usize, east: us
     of_lengths(4, twos, times(neighbours, f - 1), neighbours * 2 + east + f)
 }
 
-// A clue with number n, with the open cells and the clues on its line.
-fn clue_amount(n: usize, opens: usize, clues: usize) -> Amount
-    requires { ⌜ (n < 256) × (opens ≤ mostCells) × (clues ≤ mostCells) ⌝ }
-    ensures { λ r. ⌜ r ≡ clueAmount n opens clues ⌝ }
+// A clue with number n, with the cells on its line that are open and those that are not.
+fn clue_amount(n: usize, opens: usize, shut: usize) -> Amount
+    requires { ⌜ (n < 256) × (opens ≤ mostCells) × (shut ≤ mostCells) ⌝ }
+    ensures { λ r. ⌜ r ≡ clueAmount n opens shut ⌝ }
 {
     let pairs = pair_count(n + 1);
-    let twos = times(opens + clues, pairs) + times(clues, n + 1) + opens;
+    let twos = times(opens + shut, pairs) + times(shut, n + 1) + opens;
     of_lengths(n + 2, twos, times(opens, n * 2 + 1), 0)
 }
 

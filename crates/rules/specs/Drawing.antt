@@ -73,7 +73,7 @@ blackAt ds x = eqb (getD ds x 0) 0x10
 abbrev pub drawingAt : List ℕ → Drawing
 drawingAt ds = record { black = blackAt ds; link = linkAt ds }
 
--- a clue is 0x20; an open cell is black, 0x10, or white, a sum of links
+-- a cell that is not open is 0x20; an open cell is black, 0x10, or white, a sum of links
 abbrev pub Allowed : Bool → ℕ → Type 0
 Allowed true v = (v ≡ 0x10) ⊎ ((p : Direction → Bool) × (v ≡ linkSum p))
 Allowed false v = v ≡ 0x20

@@ -1,15 +1,15 @@
 -- `encoder_lines::count_step_row` meets its contract. Assumes nothing.
-use Rattle.encoder_lines.proofs.Rows.{row-clue, row-open, wrote-clue, wrote-open}
+use Rattle.encoder_lines.proofs.Rows.{row-shut, row-open, wrote-shut, wrote-open}
 use borrow.Author.Needs.{needs}
 use Rattle.encoder_lines.proofs.count_step_row.Statement.{statement}
 use Rattle.encoder_lines.proofs.count_step_row.Tie as tie
 
-add-count-step-clue : tie.Need-add-count-step-clue
-add-count-step-clue c = search needs
+add-count-step-shut : tie.Need-add-count-step-shut
+add-count-step-shut c = search needs
 
-count-step-clue-requires : tie.Need-count-step-clue-requires
-count-step-clue-requires c κs =
-    let s = c .before .before in row-clue (s .args .z) (s .args .row) (s .args .next) (s .args .n) (c .before .if1 .taken) (s .pre .0)
+count-step-shut-requires : tie.Need-count-step-shut-requires
+count-step-shut-requires c κs =
+    let s = c .before .before in row-shut (s .args .z) (s .args .row) (s .args .next) (s .args .n) (c .before .if1 .taken) (s .pre .0)
 
 same-length : tie.Need-same-length
 same-length c = search needs
@@ -17,7 +17,7 @@ same-length c = search needs
 returns : tie.Need-returns
 returns c =
     let s = c .before .before .before .before in
-    wrote-clue (s .args .z) (s .args .row) (s .args .next) (s .args .n) (c .before .before .before .if1 .taken) (c .before .count-step-clue .ensures)
+    wrote-shut (s .args .z) (s .args .row) (s .args .next) (s .args .n) (c .before .before .before .if1 .taken) (c .before .count-step-shut .ensures)
 
 count-step-open-requires : tie.Need-count-step-open-requires
 count-step-open-requires c κs =
@@ -32,4 +32,4 @@ returns-2 c =
     wrote-open (s .args .z) (s .args .row) (s .args .next) (s .args .n) (c .before .before .before .if1 .left) (c .before .count-step-open .ensures)
 
 pub count-step-row-spec : {M : Type 1} → statement M
-count-step-row-spec = tie.close (tie.spec add-count-step-clue count-step-clue-requires same-length returns count-step-open-requires same-length-2 returns-2)
+count-step-row-spec = tie.close (tie.spec add-count-step-shut count-step-shut-requires same-length returns count-step-open-requires same-length-2 returns-2)

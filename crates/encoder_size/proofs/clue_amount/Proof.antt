@@ -54,7 +54,7 @@ returns c = (
     (c .before .times3 .ensures .0 t) 0)
     ∙
     (λ t.
-    amountOf (a .n + 2) ((a .opens + a .clues) * c .before .before .before .before .pair-count .ensures .0 t + a .clues * (a .n + 1) + a .opens)
+    amountOf (a .n + 2) ((a .opens + a .shut) * c .before .before .before .before .pair-count .ensures .0 t + a .shut * (a .n + 1) + a .opens)
     (a .opens * (a .n * 2 + 1)) 0)
     )
 

@@ -1,11 +1,11 @@
--- `encoder_lines::count_step_clue` meets its contract. Assumes nothing.
+-- `encoder_lines::count_step_shut` meets its contract. Assumes nothing.
 use native.Mathlib.Omega.{arith}
 use borrow.Author.Needs.{needs}
 use Prim.Native.Nat.{_+_, _-_}
 use Rattle.encoder_shapes.specs.Shapes.{implies}
 use Rattle.encoder_shapes.proofs.Written.{Writing, write-start, write-needs, write-on, write-end, write-kept, no-small}
-use Rattle.encoder_lines.proofs.count_step_clue.Statement.{statement}
-use Rattle.encoder_lines.proofs.count_step_clue.Tie as tie
+use Rattle.encoder_lines.proofs.count_step_shut.Statement.{statement}
+use Rattle.encoder_lines.proofs.count_step_shut.Tie as tie
 
 abbrev Inv-loop : tie.InvT-loop
 Inv-loop list₀ at row next n i₀ k₀ list i k = Writing list₀ at (λ k. implies (row + k) (next + k)) n list i k
@@ -42,5 +42,5 @@ same-length c = write-kept (c .before .loop .inv)
 returns : tie.Need-returns Inv-loop μ-loop
 returns c = write-end (c .before .loop .inv) (c .loop-test .left)
 
-pub count-step-clue-spec : {M : Type 1} → statement M
-count-step-clue-spec = tie.close (tie.spec Inv-loop μ-loop loop-holds add-implies add-implies-2 implies-requires add-k loop-less loop-again same-length returns)
+pub count-step-shut-spec : {M : Type 1} → statement M
+count-step-shut-spec = tie.close (tie.spec Inv-loop μ-loop loop-holds add-implies add-implies-2 implies-requires add-k loop-less loop-again same-length returns)

@@ -1,0 +1,90 @@
+-- `encoder_numbers::tables::sizes_at` meets its contract. Assumes nothing.
+use Prim.Native.Nat.{_+_, _*_}
+use native.Mathlib.Omega.{arith}
+use mathlib.Core.Path.{_≡_, sym, _∙_, ap}
+use Rattle.rules.specs.Record.{puzzle}
+use Rattle.rules.specs.Board.{openCell}
+use Rattle.encoder_numbers.specs.Tables.{cellCounts}
+use Rattle.encoder_numbers.proofs.Numbers.{open-sizes, shut-sizes, clue-counts, counts-few, line-few}
+use borrow.Author.Needs.{needs}
+use Rattle.encoder_numbers.proofs.tables.sizes_at.Statement.{statement}
+use Rattle.encoder_numbers.proofs.tables.sizes_at.Tie as tie
+
+-- the start, from an open cell and from a clue
+abbrev s1 : tie.After-neighbour-count → tie.Start
+s1 c = c .before .before .before .before .before
+
+abbrev s2 : tie.After-line-end → tie.Start
+s2 c = c .before .before .before .before .before .before
+
+-- the T variables of a clue
+counted : (c : tie.After-line-end) → let s = s2 c in
+    (c .line-end .result .cells + 1) * (c .before .before .c .given .0 .1 .0 + 1) ≡ cellCounts (puzzle (s .args .g) (s .args .«record» .now)) (s .args .x)
+counted c =
+    let s = s2 c in
+    clue-counts (puzzle (s .args .g) (s .args .«record» .now)) (s .args .x) (c .before .before .c .given .1) (c .before .before .before .before .cell .ensures)
+    (c .line-end .ensures .1)
+
+cell-requires : tie.Need-cell-requires
+cell-requires c κs = search needs
+
+enum-told : tie.Need-enum-told
+enum-told c = search needs
+
+neighbour-count-requires : tie.Need-neighbour-count-requires
+neighbour-count-requires c κs = search needs
+
+sizes-requires : tie.Need-sizes-requires
+sizes-requires c κs = search needs
+
+enum-known-c : tie.Need-enum-known-c
+enum-known-c c = search needs
+
+line-end-requires : tie.Need-line-end-requires
+line-end-requires c κs = search needs
+
+add-sizes : tie.Need-add-sizes
+add-sizes c =
+    let s = s2 c in omega (arith, c .line-end .ensures .1, line-few (s .pre .0) (s .pre .1) (c .before .before .c .given .0 .0))
+
+cast-sizes : tie.Need-cast-sizes
+cast-sizes c = search needs
+
+add-sizes-2 : tie.Need-add-sizes-2
+add-sizes-2 c = search needs
+
+mul-sizes : tie.Need-mul-sizes
+mul-sizes c = let s = s2 c in omega (arith, counted c, counts-few (s .pre .0) (s .pre .1))
+
+sizes-requires-2 : tie.Need-sizes-requires-2
+sizes-requires-2 c κs = search needs
+
+returns : tie.Need-returns
+returns c =
+    let k = c .before in
+    c .sizes .ensures ∙ open-sizes (s1 k .pre .0) (s1 k .pre .1) (k .before .before .before .cell .ensures) (k .before .enum-told .given .1)
+    (k .neighbour-count .ensures)
+
+returns-2 : tie.Need-returns-2
+returns-2 c =
+    let k = c .before in
+    let q = k .before .before .before .before .cell .ensures in
+    c .sizes2 .ensures ∙ shut-sizes (s2 k .pre .0) (s2 k .pre .1) q (ap openCell (k .before .before .c .given .1)) (counted k)
+
+pub sizes-at-spec : {M : Type 1} → statement M
+sizes-at-spec =
+    tie.close
+    (tie.spec
+    cell-requires
+    enum-told
+    neighbour-count-requires
+    sizes-requires
+    enum-known-c
+    line-end-requires
+    add-sizes
+    cast-sizes
+    add-sizes-2
+    mul-sizes
+    sizes-requires-2
+    returns
+    returns-2)
