@@ -25,16 +25,18 @@
  * The contents of a buffer may be anything: the call is answered or refused.
  *
  * A grid record: bytes 0-1 its length, 2-3 its kind, 1 or 2, byte 4 rows, byte 5 columns, then the codes of the
- * N = rows * columns cells, row by row. Numbers of two bytes are little-endian. Cells are numbered from 0.
+ * N = rows * columns cells, row by row. Numbers of two bytes are little-endian. Cells are numbered from 0. A cell is open,
+ * a clue or shaded. An open cell is black or on the loop, the others are neither; a shaded cell says nothing.
  *
- * - Kind 1: sides 1 to 24, a code has one byte: 0x00 open, or a clue, 0x10 to 0x4F, whose upper four bits are its
- *   direction (1 north, 2 east, 3 south, 4 west) and whose lower four bits are its number. The length is 6 + N.
- * - Kind 2: sides 1 to 45, a code has two bytes: 0x0000 open, or a clue, whose upper four bits are its direction (1 to 4)
- *   and whose lower twelve bits are its number, 0 to 44. The length is 6 + 2 * N.
+ * - Kind 1: sides 1 to 24, a code has one byte: 0x00 open, 0x50 shaded, or a clue, 0x10 to 0x4F, whose upper four bits are
+ *   its direction (1 north, 2 east, 3 south, 4 west) and whose lower four bits are its number. The length is 6 + N.
+ * - Kind 2: sides 1 to 45, a code has two bytes: 0x0000 open, 0x5000 shaded, or a clue, whose upper four bits are its
+ *   direction (1 to 4) and whose lower twelve bits are its number, 0 to 44. The length is 6 + 2 * N.
  *
  * A function that takes a record takes either kind. Accepted records of the same grid get the same answers and refusals.
  *
- * A drawing has N bytes: 0x20 a clue, 0x10 black, else white with the sum of its links (1 north, 2 east, 4 south, 8 west).
+ * A drawing has N bytes: 0x20 a clue or a shaded cell, 0x10 black, else white with the sum of its links (1 north, 2 east,
+ * 4 south, 8 west).
  *
  * A clause list: literals as signed numbers, variables from 1, minus for "not"; 0 closes a clause. V is the number of
  * variables, at most YAJILIN_MOST_VARIABLES.
@@ -63,7 +65,8 @@ enum yajilin_refusal {
     YAJILIN_DRAWING_LENGTH = 7,  /* drawing not N bytes: 0 */
     YAJILIN_VALUE_COUNT = 8,     /* values not V bytes: 0 */
     YAJILIN_VALUE = 9,           /* a value not 0 or 1: the first such variable */
-    YAJILIN_DRAWING_BYTE = 10,   /* over 0x20, 0x11 to 0x1F, or 0x20 and clue not together: the first such cell */
+    YAJILIN_DRAWING_BYTE = 10,   /* over 0x20, 0x11 to 0x1F, 0x20 at an open cell, or another byte at a clue or a shaded
+                                    cell: the first such cell */
     YAJILIN_TOUCHING = 11,       /* black beside black to its east or south: the first such cell */
     YAJILIN_CLUE_NOT_MET = 12,   /* the line of a clue hasn't its number of black cells: the first such clue's cell */
     YAJILIN_LINK_UNMATCHED = 13, /* a link unmatched or off the board: the first cell with one */

@@ -1,7 +1,8 @@
 //! Grid records: open ones, and ones dealt with a solution.
 
 pub const BLACK: u8 = 0x10;
-pub const CLUE: u8 = 0x20;
+/// A clue or a shaded cell.
+pub const NOT_OPEN: u8 = 0x20;
 
 /// North, east, south, west.
 pub const LINK: [u8; 4] = [1, 2, 4, 8];
@@ -37,6 +38,14 @@ impl Sides {
     }
 }
 
+#[derive(Clone, Copy)]
+enum Cell {
+    Open,
+    /// A direction and a number.
+    Clue(usize, usize),
+    Shaded,
+}
+
 /// A record's kind, and what it sets.
 #[derive(Clone, Copy)]
 pub struct Kind {
@@ -46,11 +55,13 @@ pub struct Kind {
     /// The lower bits of a clue's code, which are its number.
     pub number_bits: u32,
     pub most_number: u16,
+    /// The code of a shaded cell.
+    pub shaded: u16,
 }
 
 pub const KINDS: [Kind; 2] = [
-    Kind { number: 1, most_side: 24, cell_bytes: 1, number_bits: 4, most_number: 15 },
-    Kind { number: 2, most_side: 45, cell_bytes: 2, number_bits: 12, most_number: 44 },
+    Kind { number: 1, most_side: 24, cell_bytes: 1, number_bits: 4, most_number: 15, shaded: 0x50 },
+    Kind { number: 2, most_side: 45, cell_bytes: 2, number_bits: 12, most_number: 44, shaded: 0x5000 },
 ];
 
 impl Kind {
@@ -59,22 +70,29 @@ impl Kind {
         KINDS[(side > KINDS[0].most_side as usize) as usize]
     }
 
-    /// The record of a grid whose clues are directions and numbers.
-    fn record_of(self, sides: Sides, cells: &[Option<(usize, usize)>]) -> Vec<u8> {
+    fn code(self, cell: Cell) -> usize {
+        match cell {
+            Cell::Open => 0,
+            Cell::Clue(d, number) => (d + 1) << self.number_bits | number,
+            Cell::Shaded => self.shaded as usize,
+        }
+    }
+
+    /// The record of a grid.
+    fn record_of(self, sides: Sides, cells: &[Cell]) -> Vec<u8> {
         let length = (6 + self.cell_bytes * cells.len()) as u16;
         let mut record = length.to_le_bytes().to_vec();
         record.extend(self.number.to_le_bytes());
         record.extend([sides.rows as u8, sides.columns as u8]);
-        for cell in cells {
-            let code = cell.map_or(0, |(d, number)| (d + 1) << self.number_bits | number);
-            record.extend(&code.to_le_bytes()[..self.cell_bytes]);
+        for &cell in cells {
+            record.extend(&self.code(cell).to_le_bytes()[..self.cell_bytes]);
         }
         record
     }
 }
 
 pub fn open(side: usize) -> Vec<u8> {
-    Kind::with_side(side).record_of(Sides { rows: side, columns: side }, &vec![None; side * side])
+    Kind::with_side(side).record_of(Sides { rows: side, columns: side }, &vec![Cell::Open; side * side])
 }
 
 /// Numbers that are the same in every run (SplitMix64).
@@ -158,22 +176,36 @@ pub fn dealt(side: usize, seed: u64) -> (Vec<u8>, Vec<u8>) {
 
 /// The same in a record of some kind.
 pub fn dealt_in(kind: Kind, side: usize, seed: u64) -> (Vec<u8>, Vec<u8>) {
+    let (cells, drawing) = dealt_cells(side, seed);
+    (kind.record_of(Sides { rows: side, columns: side }, &cells), drawing)
+}
+
+/// The same, but every other clue, from the first on, is shaded in its place. No solution is lost by that.
+pub fn dealt_shaded_in(kind: Kind, side: usize, seed: u64) -> (Vec<u8>, Vec<u8>) {
+    let (mut cells, drawing) = dealt_cells(side, seed);
+    for cell in cells.iter_mut().filter(|c| matches!(c, Cell::Clue(..))).step_by(2) {
+        *cell = Cell::Shaded;
+    }
+    (kind.record_of(Sides { rows: side, columns: side }, &cells), drawing)
+}
+
+fn dealt_cells(side: usize, seed: u64) -> (Vec<Cell>, Vec<u8>) {
     let sides = Sides { rows: side, columns: side };
     let mut dice = Dice(seed);
     let mut drawing = Region::grown(side - 1, side * side * 7 / 10, &mut dice).outline(sides);
     for x in dice.shuffled(sides.size()) {
         if drawing[x] == 0 {
             let beside_black = (0..4).any(|d| sides.neighbour(x, d).is_some_and(|y| drawing[y] == BLACK));
-            drawing[x] = if beside_black || dice.below(3) == 0 { CLUE } else { BLACK };
+            drawing[x] = if beside_black || dice.below(3) == 0 { NOT_OPEN } else { BLACK };
         }
     }
-    let mut cells = vec![None; sides.size()];
+    let mut cells = vec![Cell::Open; sides.size()];
     for x in 0..sides.size() {
-        if drawing[x] == CLUE {
+        if drawing[x] == NOT_OPEN {
             let d = dice.below(4);
             let black = sides.line(x, d).filter(|&y| drawing[y] == BLACK).count();
-            cells[x] = Some((d, black));
+            cells[x] = Cell::Clue(d, black);
         }
     }
-    (kind.record_of(sides, &cells), drawing)
+    (cells, drawing)
 }

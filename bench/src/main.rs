@@ -249,11 +249,16 @@ fn same_judged(what: &str, record: &[u8], drawing: &[u8]) -> u64 {
     number
 }
 
-/// A small grid in either kind of record: the same clauses. And each record with one byte changed, at every place: library and plain
-/// Rust refuse it alike, or judge and encode it alike.
+/// A small grid with clues alone, and one with a shaded cell on a clue's line.
 fn compare_kinds() {
+    compare_records(grid::KINDS.map(|kind| grid::dealt_in(kind, 4, 1)));
+    compare_records(grid::KINDS.map(|kind| grid::dealt_shaded_in(kind, 4, 3)));
+}
+
+/// A grid in either kind of record, with a drawing: the same clauses. And each record with one byte changed, at every place: library
+/// and plain Rust refuse it alike, or judge and encode it alike.
+fn compare_records(dealt: [(Vec<u8>, Vec<u8>); 2]) {
     let what = "record, one byte changed";
-    let dealt = grid::KINDS.map(|kind| grid::dealt_in(kind, 4, 1));
     let [one, two] = dealt.each_ref().map(|(record, _)| clauses_of(what, record));
     same(what, &(one.variables, one.list), &(two.variables, two.list));
     for (mut record, drawing) in dealt {

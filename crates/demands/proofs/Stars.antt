@@ -39,18 +39,18 @@ use Rattle.solver.proofs.Begun.{begun-taken, next-hands, then-none, lists-solut
 use Rattle.demands.specs.Stars.{GridStar, TextIs, searchOf, GridHolds, grid, refused, list, Holds, gridCase, gridStars, stars}
 
 -- lists that were computed whole, case by case
-at-each : {A B : Type 0} (f g : A → B) (cs : List A) → map f cs ≡ map g cs → All (λ c. f c ≡ g c) cs
+pub at-each : {A B : Type 0} (f g : A → B) (cs : List A) → map f cs ≡ map g cs → All (λ c. f c ≡ g c) cs
 at-each f g [] e = tt
 at-each f g (c ∷ cs) e = (ap (λ l. getD l 0 (f c)) e, at-each f g cs (ap (drop 1) e))
 
 -- what is computed of a grid, and what it is to come to
-record Facts : Type 0 where
+pub record Facts : Type 0 where
   number : ℕ
   variables : ℕ
   clauses : List ℤ
   says : Outcome
 
-abbrev computes : GridStar → Facts
+abbrev pub computes : GridStar → Facts
 computes g =
     record {
       number = recordAnswer (g .grid .bytes) .number;
@@ -59,7 +59,7 @@ computes g =
       says = lists.fromEmpty (searchOf g);
     }
 
-abbrev claims : GridStar → Facts
+abbrev pub claims : GridStar → Facts
 claims g = record { number = 0; variables = g .grid .outcome .second; clauses = g .grid .list; says = g .says }
 
 computed : map computes gridStars ≡ map claims gridStars
@@ -68,7 +68,7 @@ unfolding firstFrom outward same variables place clauses clauseList trailOf vari
 computed = refl
 
 -- 2×2 open: after "found" comes "none"
-ends-none : following 32 (gridCase 4 .list) 1000000 (run 32 (gridCase 4 .list) 1000000 [] .trail) .ending ≡ None
+pub ends-none : following 32 (gridCase 4 .list) 1000000 (run 32 (gridCase 4 .list) 1000000 [] .trail) .ending ≡ None
 unfolding firstFrom variableValue everyLiteral firstClause forcedAt failedClause forcedPlace lowestUnassigned undo step run following
 ends-none = refl
 
@@ -112,12 +112,12 @@ module _ (g : GridStar) (e : computes g ≡ claims g) (encoded : grids.encodes (
         printed = text;
       }
 
-  none-holds : {n u : ℕ} → g .says ≡ answer 2 n u → [] ≡ g .solutions → GridHolds g
+  pub none-holds : {n u : ℕ} → g .says ≡ answer 2 n u → [] ≡ g .solutions → GridHolds g
   none-holds h q =
       let answered = taken-answered Searching (begun g) 1000000 .0 (begun-taken (g .grid .bytes) (begun g) begun-on) in
       holds q (lists-solutions (g .grid .bytes) (begun g) begun-on [] (none 1000000 (answered, ap (λ (t : Outcome). t .first) (says ∙ h))))
 
-  one-holds : {ds : List ℕ} → g .says .first ≡ 1 → ds ∷ [] ≡ g .solutions → judgeAnswer (g .grid .bytes) ds ≡ saysYes
+  pub one-holds : {ds : List ℕ} → g .says .first ≡ 1 → ds ∷ [] ≡ g .solutions → judgeAnswer (g .grid .bytes) ds ≡ saysYes
       → following (g .grid .outcome .second) (g .grid .list) 1000000 (run (g .grid .outcome .second) (g .grid .list) 1000000 [] .trail) .ending ≡ None
       → GridHolds g
   unfolding trailOf

@@ -10,9 +10,9 @@ use mathlib.Core.Option.{none, some}
 use mathlib.Core.List.{List}
 use Rattle.answers.specs.Lists.{tally, howMany}
 use Rattle.rules.specs.declared.Direction.{Direction}
-use Rattle.rules.specs.declared.Cell.the-variants.{Open, Clue as Clued}
+use Rattle.rules.specs.declared.Cell.the-variants.{Clue as Clued}
 use Rattle.rules.specs.Directions.{opposite}
-use Rattle.rules.specs.Record.{Puzzle, puzzle, gridOf, size, IsAccepted}
+use Rattle.rules.specs.Record.{Puzzle, puzzle, gridCell, gridOf, size, IsAccepted}
 use Rattle.rules.specs.Board.{neighbour, line, boardOf}
 use Rattle.rules.specs.Drawing.{blacksNearest, blackAt}
 use Rattle.encoder.specs.Variables.{T}
@@ -30,7 +30,7 @@ pub record RequestE3 : Type 0 where
   -- (Of an assignment that satisfies a grid's clauses and the drawing that it decodes to, and a clue in cell x with its direction and number: T(j,t),
   -- the text's count, holds exactly if the judge's count after j cells is t.)
   pub side-by-side : (s : List ℕ) → IsAccepted s → (a : List Bool) → Satisfying s a → (ds : List ℕ) → DecodesTo s a ds
-      → (x : ℕ) (d : Direction) (n : ℕ) → x < size (gridOf s) → getD (puzzle (gridOf s) s .cells) x Open ≡ Clued d n
+      → (x : ℕ) (d : Direction) (n : ℕ) → x < size (gridOf s) → gridCell s x ≡ Clued d n
       → (j t : ℕ) → j ≤ length (line (puzzle (gridOf s) s) d x) → t ≤ n
       → valuation (boardOf s) a (T x j t) ≡ true ↔ blacksNearest (blackAt ds) (line (puzzle (gridOf s) s) d x) j ≡ t
   -- "it is proved that after j cells, for each j from 0 to the line's length, its count is the number of black cells among the j nearest the edge."

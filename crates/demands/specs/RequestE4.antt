@@ -1,5 +1,5 @@
 -- Document 02, E4, "Larger sheets, larger numbers", as one statement, in its order and words; what is in quotation marks is the request's.
--- What a record of a kind is, and what the reader tells of it, is said in rules_theory/specs/RecordKinds.antt, over the five numbers that set a kind apart.
+-- What a record of a kind is, and what the reader tells of it, is said in rules_theory/specs/RecordKinds.antt, over the six numbers that set a kind apart.
 -- The reader is `rules::record::read`; by its contract the outcome of what it hands out is `recordAnswer`, which has the kind as its third value.
 use Prim.Native.Nat.{ℕ, _≤_, _<_, _^_}
 use lib.IntN.{ℤ}
@@ -20,13 +20,13 @@ use Rattle.encoder.specs.Bounds.{BoundedBoard}
 use Rattle.encoder.specs.Encoding.{encoderAnswer, encoderLeaves}
 use Rattle.encoder.specs.Decoding.{decoderAnswer, decoderLeaves}
 
--- sides to 24, one byte a cell, lower four bits the number, 0 to 15
+-- sides to 24, one byte a cell, lower four bits the number, 0 to 15; and E5's shaded cell
 abbrev pub kindOne : Layout
-kindOne = record { kind = 1; side = 24; bytes = 1; unit = 0x10; number = 15 }
+kindOne = record { kind = 1; side = 24; bytes = 1; unit = 0x10; number = 15; shaded = 0x50 }
 
--- sides to 45, two bytes a cell, lower twelve bits the number, 0 to 44
+-- sides to 45, two bytes a cell, lower twelve bits the number, 0 to 44; and E5's shaded cell
 abbrev pub kindTwo : Layout
-kindTwo = record { kind = 2; side = 45; bytes = 2; unit = 0x1000; number = 44 }
+kindTwo = record { kind = 2; side = 45; bytes = 2; unit = 0x1000; number = 44; shaded = 0x5000 }
 
 pub record RequestE4 : Type 0 where
   -- "Wall sheets reach 45 cells a side, and a number may pass 15. Kind 2 has sides 1 to 45 and two bytes a cell, little-endian: upper four bits the direction

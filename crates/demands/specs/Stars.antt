@@ -68,7 +68,7 @@ gridStars =
     record { grid = gridCase 4; solutions = (0x06 ∷ 0x0C ∷ 0x03 ∷ 0x09 ∷ []) ∷ []; says = answer 1 33 32; text = none } ∷
     []
 
--- the starred cases: these grids; cells 0x0F and 0x50 refused, sides 0 and 25 refused, and beside them 0 and 46 of kind 2; the lists
+-- the starred cases: these grids; cells 0x0F and 0x51 refused (document 01 has 0x50), sides 0 and 25 refused, and beside them 0 and 46 of kind 2; the lists
 -- `1 1 0`, V = 1: found at step 2, `1 -1 0`, V = 1: found at step 2, `0`, V = 0: none at step 1, and the empty list, V = 0: found at step 1
 abbrev pub stars : List Star
 stars = map grid gridStars ++ (map refused records.readerCases ++ map list lists.cases)

@@ -3,20 +3,16 @@ use Prim.Native.Nat.{ℕ, zero, suc, _+_, _<_}
 use native.Mathlib.Omega.{arith}
 use native.Mathlib.Numerals.{add-one}
 use lib.ListN.{length, getD, take}
-use mathlib.Core.Path.{_≡_, refl, sym, _∙_, ap}
-use mathlib.Core.List.{List, [], _∷_, _++_, append-assoc, append-nil, List·Memᴰ·head, Memᴰ·append-right}
-use Rattle.answers.specs.Lists.{_∈_}
+use mathlib.Core.Path.{_≡_, sym, _∙_, ap}
+use mathlib.Core.List.{List, [], _∷_, _++_, append-assoc, append-nil}
 use Rattle.rules.specs.declared.Direction.{Direction}
 use Rattle.rules.specs.declared.Cell.{Cell}
 use Rattle.rules.specs.declared.Cell.the-variants.{Open, Clue as Clued}
 use Rattle.rules.specs.Record.{Puzzle}
-use Rattle.rules.specs.Board.{Clue, line, clueOf, cluesFrom}
+use Rattle.rules.specs.Board.{clueIn, clueOf, cluesFrom}
 use Rattle.encoder.proofs.Places.{At, at-head, at-right}
 
 module _ (p : Puzzle) where
-  abbrev clue : ℕ → Direction → ℕ → Clue
-  clue x d n = record { cell = x; number = n; line = line p d x }
-
   -- the clues of the first x cells, and one cell more
   next-from : (cs : List Cell) (y x : ℕ) → x < length cs → cluesFrom p y (take (suc x) cs) ≡ cluesFrom p y (take x cs) ++ clueOf p (y + x) (getD cs x Open)
   next-from [] y x h = absurd (omega arith)
@@ -35,15 +31,11 @@ module _ (p : Puzzle) where
 
   -- a clue in cell x: those of the first x cells stand before it
   at-from : (cs : List Cell) (y x : ℕ) → x < length cs → {d : Direction} {n : ℕ} → getD cs x Open ≡ Clued d n
-      → At (cluesFrom p y cs) (clue (y + x) d n) (cluesFrom p y (take x cs))
+      → At (cluesFrom p y cs) (clueIn p (y + x) d n) (cluesFrom p y (take x cs))
   at-from [] y x h e = absurd (omega arith)
-  at-from (c ∷ cs) y zero h {d} {n} e = let z : y + 0 ≡ y = omega arith in rw (z, e) (at-head (clue y d n) (cluesFrom p (suc y) cs))
+  at-from (c ∷ cs) y zero h {d} {n} e = let z : y + 0 ≡ y = omega arith in rw (z, e) (at-head (clueIn p y d n) (cluesFrom p (suc y) cs))
   at-from (c ∷ cs) y (suc x) h e = let z : y + suc x ≡ suc y + x = omega arith in rw z (at-right (clueOf p y c) (at-from cs (suc y) x (omega arith) e))
 
   pub at-clue : (x : ℕ) → x < length (p .cells) → {d : Direction} {n : ℕ} → getD (p .cells) x Open ≡ Clued d n
-      → At (cluesFrom p 0 (p .cells)) (record { cell = x; number = n; line = line p d x }) (cluesFrom p 0 (take x (p .cells)))
+      → At (cluesFrom p 0 (p .cells)) (clueIn p x d n) (cluesFrom p 0 (take x (p .cells)))
   at-clue x h e = let z : 0 + x ≡ x = omega arith in rw z at (at-from (p .cells) 0 x h e)
-
-  pub clue-in : (x : ℕ) → x < length (p .cells) → {d : Direction} {n : ℕ} → getD (p .cells) x Open ≡ Clued d n
-      → record { cell = x; number = n; line = line p d x } ∈ cluesFrom p 0 (p .cells)
-  clue-in x h e = let m = at-clue x h e in rw (m .is) (Memᴰ·append-right (cluesFrom p 0 (take x (p .cells))) (List·Memᴰ·head refl))

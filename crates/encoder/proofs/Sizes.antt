@@ -6,7 +6,7 @@ use lib.ListN.{length}
 use mathlib.Core.List.{List, [], _∷_}
 use Rattle.answers.specs.Lists.{All}
 use Rattle.rules.specs.declared.Cell.{Cell}
-use Rattle.rules.specs.declared.Cell.the-variants.{Open, Clue as Clued}
+use Rattle.rules.specs.declared.Cell.the-variants.{Open, Clue as Clued, Shaded}
 use Rattle.rules.specs.Record.{Puzzle, gridOf, size, puzzle, IsAccepted}
 use Rattle.rules.specs.Board.{Clue, cluesFrom, board, boardOf}
 use Rattle.rules.proofs.Boards.{Filled}
@@ -18,12 +18,14 @@ module _ (p : Puzzle) (rows : p .grid .rows ≤ 45) (columns : p .grid .columns 
   clues-few : (x : ℕ) (cs : List Cell) → length (cluesFrom p x cs) ≤ length cs
   clues-few x [] = omega arith
   clues-few x (Open ∷ cs) = let h = clues-few (suc x) cs in omega arith
+  clues-few x (Shaded ∷ cs) = let h = clues-few (suc x) cs in omega arith
   clues-few x (Clued d n ∷ cs) = let h = clues-few (suc x) cs in omega arith
 
   clues-short : (x : ℕ) (cs : List Cell) → x + length cs ≤ size (p .grid) → All (λ c. numberOf c ≤ 44) cs
       → All (λ (c : Clue). (length (c .line) ≤ 44) × (c .number ≤ 44)) (cluesFrom p x cs)
   clues-short x [] h k = tt
   clues-short x (Open ∷ cs) h k = clues-short (suc x) cs (omega arith) (k .1)
+  clues-short x (Shaded ∷ cs) h k = clues-short (suc x) cs (omega arith) (k .1)
   clues-short x (Clued d n ∷ cs) h k =
       let l = line-short p 45 rows columns d x (omega arith) in ((omega arith, k .0), clues-short (suc x) cs (omega arith) (k .1))
 

@@ -38,8 +38,10 @@ module _ (g : Grid) (s : List ℕ) (d : Direction) (x n : ℕ) {cells : ℕ} (e 
 
 module _ {g : Grid} {s : List ℕ} (h : RecordFits g s) (x : ℕ) (l : x < size g) {c : Cell} (e : c ≡ getD (puzzle g s .cells) x Open) where
   -- no clue, or a clue
-  pub clue-none : c ≡ Open → [] ≡ listOf (gridBoard g s) (clueAt (puzzle g s) x)
-  clue-none q = ap (λ c. listOf (gridBoard g s) (each (clueOf (puzzle g s) x c) (clueClauses (gridBoard g s .isOpen)))) (sym q ∙ e)
+  pub clue-none : clueOf (puzzle g s) x c ≡ [] → [] ≡ listOf (gridBoard g s) (clueAt (puzzle g s) x)
+  clue-none q =
+      let F = clueClauses (gridBoard g s .isOpen) in
+      ap (λ cs. listOf (gridBoard g s) (each cs F)) (sym q) ∙ ap (λ c. listOf (gridBoard g s) (each (clueOf (puzzle g s) x c) F)) e
 
   pub clue-some : {d : Direction} {n first : ℕ} → c ≡ Clued d n → first ≡ firstCount g s x
       → listOf (gridBoard g s) (clueAt (puzzle g s) x) ≡ joined (clueNumbers first n (blacksOf g s d x))

@@ -12,7 +12,7 @@ use mathlib.Core.List.{List, [], _∷_, _++_, append-nil}
 use Rattle.rules.specs.declared.Direction.{Direction}
 use Rattle.rules.specs.declared.Direction.the-variants.{North as north, East as east, South as south, West as west}
 use Rattle.rules.specs.declared.Cell.{Cell}
-use Rattle.rules.specs.declared.Cell.the-variants.{Open, Clue as Clued}
+use Rattle.rules.specs.declared.Cell.the-variants.{Open, Clue as Clued, Shaded}
 use Rattle.rules.specs.declared.Grid.{Grid}
 use Rattle.rules.specs.Record.{Puzzle, size, puzzle, mostCells, RecordFits}
 use Rattle.rules.specs.Directions.{bit}
@@ -112,8 +112,9 @@ clue-counts p x {c} {d} {n} {l} e h q =
     (λ i. (add-one l ∙ ap suc q) i * add-one n i)
     ∙ sym (ap (λ c. length (each (clueOf p x c) clueCounts)) (sym h ∙ e) ∙ ap length (append-nil (clueCounts k)) ∙ clue-long k)
 
-pub no-counts : (p : Puzzle) (x : ℕ) {c : Cell} → c ≡ Open → c ≡ getD (p .cells) x Open → 0 ≡ cellCounts p x
-no-counts p x e h = ap (λ c. length (each (clueOf p x c) clueCounts)) (sym e ∙ h)
+-- (a cell that is no clue has none)
+pub no-counts : (p : Puzzle) (x : ℕ) {c : Cell} → clueOf p x c ≡ [] → c ≡ getD (p .cells) x Open → 0 ≡ cellCounts p x
+no-counts p x e h = ap (λ cs. length (each cs clueCounts)) (sym e) ∙ ap (λ c. length (each (clueOf p x c) clueCounts)) h
 
 -- no line is longer than there are cells
 pub line-few : {g : Grid} {s : List ℕ} {x : ℕ} → RecordFits g s → x < size g → (d : Direction) → length (line (puzzle g s) d x) ≤ mostCells
@@ -129,6 +130,7 @@ counts-few {g} {s} {x} h l = by (getD (puzzle g s .cells) x Open) refl
   where
     by : (c : Cell) → getD (puzzle g s .cells) x Open ≡ c → cellCounts (puzzle g s) x ≤ 2 ^ 17
     by Open e = let z = no-counts (puzzle g s) x refl (sym e) in omega arith
+    by Shaded e = let z = no-counts (puzzle g s) x refl (sym e) in omega arith
     by (Clued d n) e =
         let z = clue-counts (puzzle g s) x refl (sym e) refl in
         let m : n ≤ 44 = omega (arith, number-small g s x l, ap numberOf e) in
@@ -164,7 +166,7 @@ module _ {g : Grid} {s : List ℕ} (h : RecordFits g s) {x : ℕ} (l : x < size 
         let b = gridBoard g s in
         let o = is-open (ap openCell k) in
         let i : n ≡ length (atCell b (outgoing b) x) = m ∙ sym (ap length (at-open b x (outgoing b) o) ∙ length-map (neighbours b x directions) (out x)) in
-        (λ t. record { opens = bit (sym o t); links = i t; counts = no-counts (puzzle g s) x k q t })
+        (λ t. record { opens = bit (sym o t); links = i t; counts = no-counts (puzzle g s) x (ap (clueOf (puzzle g s) x) k) q t })
 
     pub shut-sizes : {n : ℕ} → openCell c ≡ false → n ≡ cellCounts (puzzle g s) x
         → _≡_ {A = Sizes} (record { opens = 0; links = 0; counts = n }) (sizesAt g s x)

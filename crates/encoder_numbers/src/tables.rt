@@ -94,7 +94,7 @@ fn sizes(opens: usize, links: usize, counts: usize) -> Sizes
     }
 }
 
-// The sizes of a cell: an open cell has its E variables, a clue (L + 1) times (n + 1) T variables.
+// The sizes of a cell: an open cell has its E variables, a clue (L + 1) times (n + 1) T variables, a shaded cell none.
 fn sizes_at(g: Grid, record: &[u8], x: usize) -> Sizes
     requires { ⌜ RecordFits g (now «record») ⌝ }
     requires { ⌜ x < size g ⌝ }
@@ -111,6 +111,7 @@ fn sizes_at(g: Grid, record: &[u8], x: usize) -> Sizes
             let cells = end.cells;
             sizes(0, 0, (cells + 1) * (n as usize + 1))
         }
+        Cell::Shaded => sizes(0, 0, 0),
     }
 }
 

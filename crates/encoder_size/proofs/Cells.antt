@@ -1,4 +1,4 @@
--- The clauses of a cell in all families, open or a clue. Assumes nothing.
+-- The clauses of a cell in all families: open, shaded or a clue. Assumes nothing.
 use Prim.Native.Nat.{ℕ, suc, _+_, _*_, _-_, _≤_, _<_}
 use native.Mathlib.Omega.{arith}
 use native.Mathlib.Nat.{mul-assoc, mul-le-mul}
@@ -7,16 +7,17 @@ use lib.ListN.{length, getD}
 use mathlib.Core.Path.{_≡_, refl, sym, _∙_, ap, subst}
 use mathlib.Core.Bool.{true, false}
 use mathlib.Core.List.{List, [], _∷_, _++_}
-use Rattle.answers.specs.Lists.{howMany, each, joined}
+use Rattle.answers.specs.Lists.{howMany, each}
 use Rattle.answers.proofs.Lists.{many-most}
 use Rattle.rules.specs.declared.Direction.{Direction}
 use Rattle.rules.specs.declared.Direction.the-variants.{East as east, South as south}
-use Rattle.rules.specs.declared.Cell.the-variants.{Open, Clue as Clued}
+use Rattle.rules.specs.declared.Cell.{Cell}
+use Rattle.rules.specs.declared.Cell.the-variants.{Open, Clue as Clued, Shaded}
 use Rattle.rules.specs.declared.Grid.{Grid}
 use Rattle.rules.specs.Record.{size, puzzle, mostCells, RecordFits}
 use Rattle.rules.specs.Board.{Board, openCell, line, clueOf, gridBoard}
 use Rattle.encoder.specs.Variables.{directions, openCount, neighbours, lower, rank, atCell}
-use Rattle.encoder.specs.Clauses.{Clause, eastSouth, fromOne, touchingAt, clueParts, clueClauses, linksAt, startAt, distanceAt, pairCount, Sized}
+use Rattle.encoder.specs.Clauses.{Clause, eastSouth, fromOne, touchingAt, clueClauses, linksAt, startAt, distanceAt, pairCount, Sized}
 use Rattle.encoder.proofs.Bounds.{neighbours-most}
 use Rattle.encoder.proofs.ClauseLists.{at-open, at-shut}
 use Rattle.encoder.proofs.Counts.{sized-none, sized-append, sized-is, around, after, touching-sized, clue-sized, links-sized, start-sized}
@@ -26,7 +27,7 @@ use Rattle.encoder_numbers.proofs.Numbers.{line-few, rank-few, links-sum}
 use Rattle.encoder_numbers.proofs.Neighbours.{some-open}
 use Rattle.encoder_lines.specs.Line.{clueAt}
 use Rattle.encoder_size.specs.declared.Amount.{Amount}
-use Rattle.encoder_size.specs.Counts.{openAmount, clueAmount, cellFamilies, Amounts}
+use Rattle.encoder_size.specs.Counts.{amountOf, openAmount, clueAmount, cellFamilies, Amounts}
 use Rattle.encoder_size.proofs.Lines.{pairs-most, line-sized}
 
 module _ {g : Grid} {s : List ℕ} {x : ℕ} (h : RecordFits g s) (inside : x < size g) where
@@ -88,22 +89,26 @@ module _ {g : Grid} {s : List ℕ} {x : ℕ} (h : RecordFits g s) (inside : x < 
       pub open-counted : {r : Amount} → r ≡ openAmount f lower m (t + u) t → Amounts b (cellFamilies g s x) r
       open-counted q = subst (Amounts b (cellFamilies g s x)) (sym (q ∙ (λ i. openAmount (F i) (R i) (M i) (two-sides i) (T i)))) open-amounts
 
+  -- of a cell that is not open: the clauses of its clue, if it is one
+  shut-families : {c : Cell} → getD (puzzle g s .cells) x Open ≡ c → openCell c ≡ false
+      → [] ++ (each (clueOf (puzzle g s) x c) (clueClauses (b .isOpen)) ++ ([] ++ ([] ++ []))) ≡ cellFamilies g s x
+  shut-families e k =
+      let shut = sym (is-opened h inside refl) ∙ ap openCell e ∙ k in
+      let none : (F : ℕ → List Clause) → [] ≡ atCell b F x = (λ F. sym (at-shut b x F shut)) in
+      let own = ap (λ c. each (clueOf (puzzle g s) x c) (clueClauses (b .isOpen))) (sym e) in
+      (λ t. none (touchingAt b) t ++ (own t ++ (none (linksAt b) t ++ (none (startAt b) t ++ none (distanceAt b) t))))
+
+  pub shaded-counted : {r : Amount} → getD (puzzle g s .cells) x Open ≡ Shaded → r ≡ amountOf 0 0 0 0 → Amounts b (cellFamilies g s x) r
+  shaded-counted e q =
+      subst (Amounts b (cellFamilies g s x)) (sym q)
+      (record { sized = subst (λ cs. Sized b cs 0 0) (shut-families e refl) (sized-none b); few = omega arith; short = omega arith })
+
   module _ {d : Direction} {n : ℕ} (e : getD (puzzle g s .cells) x Open ≡ Clued d n) (small : n < 256) where
     abbrev cells : List ℕ
     cells = line (puzzle g s) d x
 
     abbrev opens : ℕ
     opens = howMany (b .isOpen) cells
-
-    shut : b .isOpen x ≡ false
-    shut = sym (is-opened h inside refl) ∙ ap openCell e
-
-    clue-families : [] ++ ((joined (clueParts (b .isOpen) x n cells) ++ []) ++ ([] ++ ([] ++ []))) ≡ cellFamilies g s x
-    clue-families =
-        let none : (F : ℕ → List Clause) → [] ≡ atCell b F x = (λ F. sym (at-shut b x F shut)) in
-        let p = puzzle g s in
-        let some : joined (clueParts (b .isOpen) x n cells) ++ [] ≡ clueAt p x = ap (λ c. each (clueOf p x c) (clueClauses (b .isOpen))) (sym e) in
-        (λ t. none (touchingAt b) t ++ (some t ++ (none (linksAt b) t ++ (none (startAt b) t ++ none (distanceAt b) t))))
 
     clue-amounts : Amounts b (cellFamilies g s x) (clueAmount n opens (length cells - opens))
     clue-amounts =
@@ -122,7 +127,7 @@ module _ {g : Grid} {s : List ℕ} {x : ℕ} (h : RecordFits g s) (inside : x < 
         let one = clue-sized b x n cells (b .isOpen) (line-sized b (b .isOpen) x n 0 cells shut (omega arith)) in
         let a : Amount = clueAmount n opens shut in
         record {
-          sized = subst (λ cs. Sized b cs (a .clauses) (a .elements)) clue-families (sized-is b (omega arith) (omega arith)
+          sized = subst (λ cs. Sized b cs (a .clauses) (a .elements)) (shut-families e refl) (sized-is b (omega arith) (omega arith)
               (sized-append b none (sized-append b (sized-append b one none) (sized-append b none (sized-append b none none)))));
           few = omega arith;
           short = omega arith;

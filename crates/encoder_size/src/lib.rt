@@ -150,7 +150,7 @@ fn at_clue(g: Grid, record: &[u8], x: usize, d: Direction, n: usize) -> Amount
     clue_amount(n, opens, cells - opens)
 }
 
-// The clauses of a cell.
+// The clauses of a cell; a shaded cell has none.
 fn at_cell(g: Grid, record: &[u8], f: usize, lower: usize, x: usize) -> Amount
     requires { ⌜ RecordFits g (now «record») ⌝ }
     requires { ⌜ x < size g ⌝ }
@@ -158,10 +158,11 @@ fn at_cell(g: Grid, record: &[u8], f: usize, lower: usize, x: usize) -> Amount
     ensures { λ r. ⌜ Amounts (gridBoard g (now («record» .entry))) (cellFamilies g (now («record» .entry)) x) r ⌝ }
 {
     let c = g.cell(record, x);
-    let Cell::Clue(d, n) = c else {
-        return at_open(g, record, f, lower, x);
-    };
-    at_clue(g, record, x, d, n as usize)
+    match c {
+        Cell::Open => at_open(g, record, f, lower, x),
+        Cell::Clue(d, n) => at_clue(g, record, x, d, n as usize),
+        Cell::Shaded => of_lengths(0, 0, 0, 0),
+    }
 }
 
 // All clauses: those of the cells, and [all S].

@@ -14,8 +14,8 @@ use Rattle.answers.specs.First.{firstWhere, LeastWith}
 use Rattle.answers.specs.Lists.{All, _∈_}
 use Rattle.answers.proofs.First.{first-with}
 use Rattle.rules.specs.declared.Direction.{Direction}
-use Rattle.rules.specs.declared.Cell.the-variants.{Open, Clue as Clued}
-use Rattle.rules.specs.Record.{Puzzle, puzzle, gridOf, size, IsAccepted}
+use Rattle.rules.specs.declared.Cell.the-variants.{Clue as Clued}
+use Rattle.rules.specs.Record.{Puzzle, puzzle, gridCell, gridOf, size, IsAccepted}
 use Rattle.rules.specs.Board.{Board, line, board, boardOf}
 use Rattle.rules.specs.Drawing.{blacksNearest, blackAt, SolutionBytes}
 use Rattle.rules.proofs.Boards.{Laws, Filled}
@@ -26,7 +26,7 @@ use Rattle.encoder.specs.Variables.{T, variableCount}
 use Rattle.encoder.specs.Clauses.{clauses, clauseList}
 use Rattle.encoder.specs.Decoding.{drawn, numbered, wrongValue, FirstWrongValue, Satisfying, DecodesTo}
 use Rattle.encoder.specs.Bounds.{BoundedBoard}
-use Rattle.encoder.proofs.Clues.{clue-in}
+use Rattle.rules_theory.proofs.Clues.{in-clues}
 use Rattle.encoder.proofs.Bounds as bounds
 use Rattle.encoder.proofs.Sizes as sizes
 use Rattle.encoder_theory.specs.Valuations.{valuation}
@@ -84,13 +84,15 @@ clause-count = bounds.clause-count
 -- clue
 -- in cell x with its direction and number: T(j,t) holds exactly if the judge, counting its line from the edge, has t black cells after j cells.
 pub side-by-side : (s : List ℕ) → IsAccepted s → (a : List Bool) → Satisfying s a → (ds : List ℕ) → DecodesTo s a ds
-    → (x : ℕ) (d : Direction) (n : ℕ) → x < size (gridOf s) → getD (puzzle (gridOf s) s .cells) x Open ≡ Clued d n → (j t : ℕ)
+    → (x : ℕ) (d : Direction) (n : ℕ) → x < size (gridOf s) → gridCell s x ≡ Clued d n → (j t : ℕ)
     → j ≤ length (line (puzzle (gridOf s) s) d x) → t ≤ n
     → valuation (boardOf s) a (T x j t) ≡ true ↔ blacksNearest (blackAt ds) (line (puzzle (gridOf s) s) d x) j ≡ t
 side-by-side s acc a h ds dec x d n inside is j t l k = (λ p. eqb-true _ t (sym e ∙ p), λ p. e ∙ eq-eqb _ t p)
   where
     clue : record { cell = x; number = n; line = line (puzzle (gridOf s) s) d x } ∈ boardOf s .clues
-    clue = let f = puzzle-filled (gridOf s) s in clue-in (puzzle (gridOf s) s) x (omega arith) is
+    clue =
+        let f = puzzle-filled (gridOf s) s in
+        in-clues (puzzle (gridOf s) s) _ (record { direction = d; within = omega arith; read = is; along = refl })
 
     e : valuation (boardOf s) a (T x j t) ≡ eqb (blacksNearest (blackAt ds) (line (puzzle (gridOf s) s) d x) j) t
     e =

@@ -1,5 +1,5 @@
 -- The judge's tests of a cell, by the code's branches. Assumes nothing.
-use Prim.Native.Nat.{ℕ, zero, suc, _+_, _≤_, _<_}
+use Prim.Native.Nat.{ℕ, suc, _+_, _≤_, _<_}
 use native.Mathlib.Omega.{arith}
 use lib.Dec.{eqb}
 use lib.ListN.{length, getD}
@@ -13,24 +13,24 @@ use Rattle.answers.specs.First.{found, firstFrom, firstWhere}
 use Rattle.rules.specs.declared.Direction.{Direction}
 use Rattle.rules.specs.declared.Direction.the-variants.{North as north, East as east, South as south, West as west}
 use Rattle.rules.specs.declared.Cell.{Cell}
-use Rattle.rules.specs.declared.Cell.the-variants.{Open, Clue as Clued}
+use Rattle.rules.specs.declared.Cell.the-variants.{Open, Clue as Clued, Shaded}
 use Rattle.rules.specs.declared.Grid.{Grid}
 use Rattle.rules.specs.Directions.{opposite, bit}
 use Rattle.rules.specs.Record.{Puzzle, size, OnBoard, RecordFits, DrawingFits, puzzle}
-use Rattle.rules.specs.Board.{Board, neighbour, openCell, openAt, line, clueOf, cluesFrom, board, gridBoard}
+use Rattle.rules.specs.Board.{Board, neighbour, openCell, line, clueOf, cluesFrom, board, gridBoard}
 use Rattle.rules.specs.Drawing.{weight, linkAt, blackAt}
 use Rattle.rules.specs.Judge.{badByte, there, touchesAt, unmatchedLink, unlessMet, unmetClue}
 use Rattle.judge_cells.specs.declared.Test.{Test}
 use Rattle.judge_cells.specs.declared.Test.the-variants.{DrawingByte, Touching, ClueNotMet, LinkUnmatched, NotTwoLinks, White}
 use Rattle.judge_cells.specs.Tests.{unmetCell, unmetAt, testAt, firstOf}
-use Rattle.rules.proofs.Boards.{Filled}
+use Rattle.rules.proofs.Boards.{Filled, open-at}
 use Rattle.rules.proofs.Records.{puzzle-filled}
 use Rattle.rules_board.proofs.Steps.{stays-on}
 
 -- bytes of a drawing
-pub clue-or-not : (o : Bool) → o ≡ badByte o 0x20
-clue-or-not true = refl
-clue-or-not false = refl
+pub open-or-not : (o : Bool) → o ≡ badByte o 0x20
+open-or-not true = refl
+open-or-not false = refl
 
 pub low-byte : (o : Bool) (v : ℕ) → v ≤ 0x10 → not o ≡ badByte o v
 low-byte true v h = simp (le-ltb 0x20 v (omega arith), lt-leb 0x11 v (omega arith), ne-eqb v 0x20 (λ e. omega arith))
@@ -43,11 +43,6 @@ pub over-byte : (o : Bool) (v : ℕ) → 0x20 < v → true ≡ badByte o v
 over-byte o v h = simp (lt-ltb 0x20 v h)
 
 -- a cell that was read tells whether it is open
-open-at : (cs : List Cell) (x : ℕ) → x < length cs → openCell (getD cs x Open) ≡ openAt cs x
-open-at [] x h = absurd (omega arith)
-open-at (c ∷ cs) zero h = refl
-open-at (c ∷ cs) (suc x) h = open-at cs x (omega arith)
-
 module _ {g : Grid} {s : List ℕ} {x : ℕ} (h : RecordFits g s) (inside : x < size g) where
   pub is-opened : {c : Cell} → c ≡ getD (puzzle g s .cells) x Open → openCell c ≡ gridBoard g s .isOpen x
   is-opened e = let l = puzzle-filled g s in ap openCell e ∙ open-at (puzzle g s .cells) x (omega arith)
@@ -103,6 +98,7 @@ module _ (p : Puzzle) (ds : List ℕ) where
           → found (unmetCell p (blackAt ds) a c) a (firstFrom (unmetAt p ds) (suc a) (length cs)) ≡ unmetClue (blackAt ds)
           (clueOf p a c ++ cluesFrom p (suc a) cs)
       by Open ih = ih
+      by Shaded ih = ih
       by (Clued d n) ih = turned (eqb (howMany (blackAt ds) (line p d a)) n) _ ∙ ap (unlessMet (eqb (howMany (blackAt ds) (line p d a)) n) a) ih
 
   unmet-first : Filled p → firstWhere (unmetAt p ds) (size (p .grid)) ≡ unmetClue (blackAt ds) (cluesFrom p 0 (p .cells))

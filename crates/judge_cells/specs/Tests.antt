@@ -8,7 +8,7 @@ use mathlib.Core.List.{List}
 use Rattle.answers.specs.First.{firstWhere}
 use Rattle.answers.specs.Lists.{howMany}
 use Rattle.rules.specs.declared.Cell.{Cell}
-use Rattle.rules.specs.declared.Cell.the-variants.{Open, Clue}
+use Rattle.rules.specs.declared.Cell.the-variants.{Open, Clue, Shaded}
 use Rattle.rules.specs.Record.{Puzzle}
 use Rattle.rules.specs.Board.{Board, line, board}
 use Rattle.rules.specs.Drawing.{blackAt}
@@ -20,6 +20,7 @@ use Rattle.judge_cells.specs.declared.Test.the-variants.{DrawingByte, To
 abbrev pub unmetCell : Puzzle → (ℕ → Bool) → ℕ → Cell → Bool
 unmetCell p black x Open = false
 unmetCell p black x (Clue d n) = not (eqb (howMany black (line p d x)) n)
+unmetCell p black x Shaded = false
 
 abbrev pub unmetAt : Puzzle → List ℕ → ℕ → Bool
 unmetAt p ds x = unmetCell p (blackAt ds) x (getD (p .cells) x Open)

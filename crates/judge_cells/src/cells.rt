@@ -33,7 +33,8 @@ pub fn is_open(g: Grid, record: &[u8], x: usize) -> bool
     g.is_open(record, x)
 }
 
-// A byte that its cell doesn't allow: over 0x20, 0x11 to 0x1F, or 0x20 and clue not together.
+// A byte that its cell doesn't allow: over 0x20, 0x11 to 0x1F, 0x20 at an open cell, or another byte at one that
+// is not open.
 fn bad_byte(open: bool, v: u8) -> bool
     ensures { λ r. ⌜ r ≡ badByte «open» v ⌝ }
 {

@@ -15,12 +15,12 @@ use Rattle.answers.proofs.Bools.{clash, and-both, both-and}
 use Rattle.rules.specs.declared.Direction.{Direction}
 use Rattle.rules.specs.declared.Direction.the-variants.{North as north, East as east, South as south, West as west}
 use Rattle.rules.specs.declared.Cell.{Cell}
-use Rattle.rules.specs.declared.Cell.the-variants.{Open, Clue as Clued}
+use Rattle.rules.specs.declared.Cell.the-variants.{Open, Clue as Clued, Shaded}
 use Rattle.rules.specs.declared.Grid.{Grid}
 use Rattle.answers.specs.Lists.{All, _∈_, ApartBy}
 use Rattle.rules.specs.Directions.{opposite}
 use Rattle.rules.specs.Record.{Puzzle, size}
-use Rattle.rules.specs.Board.{Clue, Board, when, inside, target, neighbour, openAt, beyond, outward, line, cluesFrom, board}
+use Rattle.rules.specs.Board.{Clue, Board, when, inside, target, neighbour, openCell, openAt, beyond, outward, line, clueIn, cluesFrom, board}
 
 -- where a neighbour in direction d lies in the numbering of the cells
 abbrev pub Ahead : Direction → ℕ → ℕ → Type 0
@@ -262,14 +262,21 @@ order-apart : (cs : List Clue) → InOrder cs → ApartBy (λ (c : Clue). c .cel
 order-apart [] h = tt
 order-apart (c ∷ cs) (h, t) = (λ k m e. let l = h k m in omega arith, order-apart cs t)
 
+-- a cell of the list tells whether it is open
+pub open-at : (cs : List Cell) (x : ℕ) → x < length cs → openCell (getD cs x Open) ≡ openAt cs x
+open-at [] x h = absurd (omega arith)
+open-at (c ∷ cs) zero h = refl
+open-at (c ∷ cs) (suc x) h = open-at cs x (omega arith)
+
 module _ (p : Puzzle) where
   -- the clues from x on lie at x or after it
   clue-after : (cs : List Cell) (x : ℕ) (c : Clue) → c ∈ cluesFrom p x cs → x ≤ c .cell
   clue-after [] x c m = absurd (List·Memᴰ·not-nil m)
   clue-after (Open ∷ cs) x c m = let h : suc x ≤ c .cell = clue-after cs (suc x) c m in omega arith
+  clue-after (Shaded ∷ cs) x c m = let h : suc x ≤ c .cell = clue-after cs (suc x) c m in omega arith
   clue-after (Clued d n ∷ cs) x c m = by (List·Memᴰ·cases-cons m) (clue-after cs (suc x) c)
     where
-      by : (c ≡ record { cell = x; number = n; line = line p d x }) ⊎ (c ∈ cluesFrom p (suc x) cs) → (c ∈ cluesFrom p (suc x) cs → suc x ≤ c .cell)
+      by : (c ≡ clueIn p x d n) ⊎ (c ∈ cluesFrom p (suc x) cs) → (c ∈ cluesFrom p (suc x) cs → suc x ≤ c .cell)
           → x ≤ c .cell
       by (inl e) go = let h : c .cell ≡ x = ap (λ (k : Clue). k .cell) e in omega arith
       by (inr k) go = let h : suc x ≤ c .cell = go k in omega arith
@@ -277,6 +284,7 @@ module _ (p : Puzzle) where
   clue-order : (cs : List Cell) (x : ℕ) → InOrder (cluesFrom p x cs)
   clue-order [] x = tt
   clue-order (Open ∷ cs) x = clue-order cs (suc x)
+  clue-order (Shaded ∷ cs) x = clue-order cs (suc x)
   clue-order (Clued d n ∷ cs) x = (clue-after cs (suc x), clue-order cs (suc x))
 
   pub clues-in-order : InOrder (board p .clues)
@@ -289,6 +297,7 @@ module _ (p : Puzzle) where
       → All (λ (c : Clue). (c .cell < size (p .grid)) × All (λ y. y < size (p .grid)) (c .line)) (cluesFrom p x cs)
   clue-stays [] x h = tt
   clue-stays (Open ∷ cs) x h = clue-stays cs (suc x) (omega arith)
+  clue-stays (Shaded ∷ cs) x h = clue-stays cs (suc x) (omega arith)
   clue-stays (Clued d n ∷ cs) x h =
       let l : x < size (p .grid) = omega arith in
       ((l, line-stays (p .grid) d (size (p .grid)) x [] l tt), clue-stays cs (suc x) (omega arith))

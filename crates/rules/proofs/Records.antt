@@ -7,8 +7,9 @@ use lib.ListN.{length, getD}
 use borrow.Author.Tests.{eqb-true, leb-true, lt-ltb, le-ltb, eq-eqb, ne-eqb, le-leb, not-false}
 use mathlib.Core.Path.{_≡_, refl, sym, _∙_, ap, subst}
 use mathlib.Core.Bool.{Bool, true, false, not, cond}
+use mathlib.Core.Logic.{inl, inr}
 use mathlib.Core.Option.{none, some}
-use mathlib.Core.List.{List, _++_}
+use mathlib.Core.List.{List, [], _∷_, _++_}
 use Rattle.answers.proofs.First.{first-none}
 use Rattle.answers.proofs.Bools.{clash, and-both, or-left, or-right, or-neither}
 use Rattle.answers.proofs.Rows.{Clear, answered-clear, clear-answered, no-cause, still-refused, refusals-append}
@@ -18,8 +19,11 @@ use Rattle.answers.specs.Lists.{All, upTo}
 use Rattle.answers.specs.declared.Outcome.{Outcome}
 use Rattle.answers.specs.First.{firstWhere}
 use Rattle.answers.specs.Outcome.{Row, cause, firstRefusal}
+use types.Run.{OneOf}
+use denote.Enum.Declared.{tagOf}
 use Rattle.rules.specs.declared.Cell.{Cell}
-use Rattle.rules.specs.declared.Cell.the-variants.{Open, Clue}
+use Rattle.rules.proofs.Cell.{the-type}
+use Rattle.rules.specs.declared.Cell.the-variants.{Open, Clue, Shaded}
 use Rattle.rules.specs.declared.CellCode.{CellCode}
 use Rattle.rules.specs.declared.CellCode.the-variants.{Is, NotAllowed}
 use Rattle.rules.specs.declared.Kind.{Kind}
@@ -33,9 +37,9 @@ use Rattle.rules.specs.Board.{openCell, boardOf}
 use Rattle.rules.proofs.Boards.{Laws, Filled, laws}
 use Rattle.rules.proofs.Outcomes.{record-numbers, gridTold, grid-told}
 use Rattle.rules.specs.Record.{readKind, kindOf, kindNotAllowed, mostSide, cellBytes, mostNumber, directionUnit, directionOf, isDirection, isClue}
-use Rattle.rules.specs.Record.{readCell, cellOf, notAllowed, word, gridOf, size, cellCode, cellAt, puzzle, isSide, Sides, RecordSized, RecordFits}
-use Rattle.rules.specs.Record.{wrongLength, wrongKind, wrongSide, wrongSize, wrongCell, recordRows, gridAnswer, recordAnswer, IsAccepted}
-use Rattle.rules.specs.Record.{recordRefusalOutcome, parsedOutcome}
+use Rattle.rules.specs.Record.{shadedCode, readCell, cellOf, notAllowed, word, gridOf, size, cellCode, cellAt, puzzle, isSide}
+use Rattle.rules.specs.Record.{Sides, RecordSized, RecordFits, wrongLength, wrongKind, wrongSide, wrongSize, wrongCell, recordRows, gridAnswer}
+use Rattle.rules.specs.Record.{recordAnswer, IsAccepted, recordRefusalOutcome, parsedOutcome}
 
 -- The codes of cells, once for every direction and kind
 
@@ -58,40 +62,48 @@ clue-within Two c d low high from to = clue-code Two c d _ low high (omega arith
 pub data ReadAs (k : Kind) (c : ℕ) : CellCode → Type 0 where
   as-open : c ≡ 0 → ReadAs k c (Is Open)
   as-clue : (d n : ℕ) → 1 ≤ d → d ≤ 4 → n ≤ mostNumber k → c ≡ d * directionUnit k + n → ReadAs k c (Is (Clue (directionOf d) n))
+  as-shaded : c ≡ shadedCode k → ReadAs k c (Is Shaded)
   as-none : ReadAs k c NotAllowed
 
 pub read-as : (k : Kind) (c : ℕ) → ReadAs k c (readCell k c)
-read-as k c = by (eqb c 0) refl (isClue k c) refl
+read-as k c = by (eqb c 0) refl (isClue k c) refl (eqb c (shadedCode k)) refl
   where
-    by : (s : Bool) → eqb c 0 ≡ s → (t : Bool) → isClue k c ≡ t
-        → ReadAs k c (cond s (Is Open) (cond t (Is (Clue (directionOf (c / directionUnit k)) (c % directionUnit k))) NotAllowed))
-    by true z t e = as-open (eqb-true c 0 z)
-    by false z true e =
+    by : (s : Bool) → eqb c 0 ≡ s → (t : Bool) → isClue k c ≡ t → (u : Bool) → eqb c (shadedCode k) ≡ u
+        → ReadAs k c (cond s (Is Open) (cond t (Is (Clue (directionOf (c / directionUnit k)) (c % directionUnit k))) (cond u (Is Shaded) NotAllowed)))
+    by true z t e u f = as-open (eqb-true c 0 z)
+    by false z true e u f =
         let (d, m) = and-both (isDirection (c / directionUnit k)) _ e in
         let (low, high) = and-both (leb 1 (c / directionUnit k)) _ d in
         as-clue _ _ (leb-true _ _ low) (leb-true _ _ high) (leb-true _ _ m) (sym (div-add-mod' c (directionUnit k)))
-    by false z false e = as-none
+    by false z false e true f = as-shaded (eqb-true _ _ f)
+    by false z false e false f = as-none
 
--- what is neither 0 nor a clue's code is not allowed:
-no-code : (k : Kind) (c : ℕ) → (c ≡ 0 → ⊥) → ((d n : ℕ) → 1 ≤ d → d ≤ 4 → n ≤ mostNumber k → c ≡ d * directionUnit k + n → ⊥) → NotAllowed ≡ readCell k c
-no-code k c z no-clue = by (read-as k c)
+pub shaded-code : (k : Kind) (c : ℕ) → c ≡ shadedCode k → Is Shaded ≡ readCell k c
+shaded-code One c e = rw e
+shaded-code Two c e = rw e
+
+-- what is neither 0 nor the code of a clue or a shaded cell is not allowed:
+no-code : (k : Kind) (c : ℕ) → (c ≡ 0 → ⊥) → ((d n : ℕ) → 1 ≤ d → d ≤ 4 → n ≤ mostNumber k → c ≡ d * directionUnit k + n → ⊥) → (c ≡ shadedCode k → ⊥)
+    → NotAllowed ≡ readCell k c
+no-code k c z no-clue not-shaded = by (read-as k c)
   where
     by : {r : CellCode} → ReadAs k c r → NotAllowed ≡ r
     by (as-open e) = absurd (z e)
     by (as-clue d n low high m e) = absurd (no-clue d n low high m e)
+    by (as-shaded e) = absurd (not-shaded e)
     by as-none = refl
 
--- a number with no direction, one that is too large (in kind 1 none is), and all after the last clue
+-- a number with no direction, one that is too large (in kind 1 none is), and all after the last clue but a shaded cell's
 pub no-direction : (k : Kind) (c : ℕ) → (c ≡ 0 → ⊥) → c < directionUnit k → NotAllowed ≡ readCell k c
-no-direction One c z h = no-code One c z (λ d n low high m e. omega arith)
-no-direction Two c z h = no-code Two c z (λ d n low high m e. omega arith)
+no-direction One c z h = no-code One c z (λ d n low high m e. omega arith) (λ e. omega arith)
+no-direction Two c z h = no-code Two c z (λ d n low high m e. omega arith) (λ e. omega arith)
 
 pub large-number : (c b : ℕ) → b * 0x1000 + 44 < c → c < (b + 1) * 0x1000 → NotAllowed ≡ readCell Two c
-large-number c b over under = no-code Two c (λ z. omega arith) (λ d n low high m e. omega arith)
+large-number c b over under = no-code Two c (λ z. omega arith) (λ d n low high m e. omega arith) (λ e. omega arith)
 
-pub past-codes : (k : Kind) (c : ℕ) → 4 * directionUnit k + mostNumber k < c → NotAllowed ≡ readCell k c
-past-codes One c h = no-code One c (λ z. omega arith) (λ d n low high m e. omega arith)
-past-codes Two c h = no-code Two c (λ z. omega arith) (λ d n low high m e. omega arith)
+pub past-clues : (k : Kind) (c : ℕ) → 4 * directionUnit k + mostNumber k < c → (c ≡ shadedCode k → ⊥) → NotAllowed ≡ readCell k c
+past-clues One c h = no-code One c (λ z. omega arith) (λ d n low high m e. omega arith)
+past-clues Two c h = no-code Two c (λ z. omega arith) (λ d n low high m e. omega arith)
 
 -- the cell numbered x is that of its code
 pub cell-at : (g : Grid) (s : List ℕ) (x : ℕ) → x < size g → cellAt (g .kind) s x ≡ getD (puzzle g s .cells) x Open
@@ -112,6 +124,10 @@ clue-not-zero : (k : Kind) {c : ℕ} (d n : ℕ) → 1 ≤ d → c ≡ d * direc
 clue-not-zero One d n low e z = omega arith
 clue-not-zero Two d n low e z = omega arith
 
+shaded-not-zero : (k : Kind) {c : ℕ} → c ≡ shadedCode k → c ≡ 0 → ⊥
+shaded-not-zero One e z = omega arith
+shaded-not-zero Two e z = omega arith
+
 -- of the codes that are allowed only an open cell's has the sum 0
 pub open-sum : (k : Kind) (s : List ℕ) (x : ℕ) → notAllowed (readCell k (cellCode k s x)) ≡ false → eqb (endsSum k s x) 0 ≡ openCell (cellAt k s x)
 open-sum k s x = by (read-as k (cellCode k s x))
@@ -119,16 +135,25 @@ open-sum k s x = by (read-as k (cellCode k s x))
     by : {r : CellCode} → ReadAs k (cellCode k s x) r → notAllowed r ≡ false → eqb (endsSum k s x) 0 ≡ openCell (cellOf r)
     by (as-open e) h = eq-eqb _ 0 (sum-zero k s x .0 e)
     by (as-clue d n low high m e) h = ne-eqb _ 0 (λ z. clue-not-zero k d n low e (sum-zero k s x .1 z))
+    by (as-shaded e) h = ne-eqb _ 0 (λ z. shaded-not-zero k e (sum-zero k s x .1 z))
     by as-none h = clash refl h
+
+-- where a cell is not found to be a clue, it is open or shaded
+pub else-clue : (P : Cell → Type 0) → P Open → P Shaded → (c : Cell) → OneOf (0 ∷ 2 ∷ []) (tagOf the-type c) → P c
+else-clue P o s Open h = o
+else-clue P o s (Clue d n) (inl e) = absurd (omega arith)
+else-clue P o s (Clue d n) (inr e) = absurd (omega arith)
+else-clue P o s Shaded h = s
 
 -- a grid has as many cells as its sides say
 pub puzzle-filled : (g : Grid) (s : List ℕ) → Filled (puzzle g s)
 puzzle-filled g s = made-long (cellAt (g .kind) s) (size g)
 
--- the number of a clue; none is above 44
+-- the number of a clue, 0 for another cell; none is above 44
 abbrev pub numberOf : Cell → ℕ
 numberOf Open = 0
 numberOf (Clue d n) = n
+numberOf Shaded = 0
 
 number-bound : (k : Kind) → mostNumber k ≤ 44
 number-bound One = omega arith
@@ -140,6 +165,7 @@ code-number k c = by (read-as k c)
     by : {r : CellCode} → ReadAs k c r → numberOf (cellOf r) ≤ 44
     by (as-open e) = omega arith
     by (as-clue d n low high m e) = omega (arith, number-bound k)
+    by (as-shaded e) = omega arith
     by as-none = omega arith
 
 pub numbers-small : (g : Grid) (s : List ℕ) → All (λ c. numberOf c ≤ 44) (puzzle g s .cells)

@@ -7,7 +7,7 @@ use mathlib.Core.List.{List, [], _∷_, _++_}
 use Rattle.rules.specs.declared.Direction.{Direction}
 use Rattle.rules.specs.declared.Direction.the-variants.{North as north, East as east, South as south, West as west}
 use Rattle.rules.specs.declared.Cell.{Cell}
-use Rattle.rules.specs.declared.Cell.the-variants.{Open, Clue as Clued}
+use Rattle.rules.specs.declared.Cell.the-variants.{Open, Clue as Clued, Shaded}
 use Rattle.rules.specs.declared.Grid.{Grid}
 use Rattle.rules.specs.Record.{Puzzle, puzzle, gridOf, size}
 
@@ -48,6 +48,7 @@ neighbour g d x = when (ltb x (size g) && inside g d x) (target g d x)
 abbrev pub openCell : Cell → Bool
 openCell Open = true
 openCell (Clued d n) = false
+openCell Shaded = false
 
 -- no cell beyond the list is open
 abbrev pub openAt : List Cell → ℕ → Bool
@@ -68,9 +69,14 @@ outward g d (suc fuel) x seen = beyond (neighbour g d x) seen (λ y. outward g d
 abbrev pub line : Puzzle → Direction → ℕ → List ℕ
 line p d x = outward (p .grid) d (size (p .grid)) x []
 
+-- the clue in cell x with that direction and number
+abbrev pub clueIn : Puzzle → ℕ → Direction → ℕ → Clue
+clueIn p x d n = record { cell = x; number = n; line = line p d x }
+
 abbrev pub clueOf : Puzzle → ℕ → Cell → List Clue
 clueOf p x Open = []
-clueOf p x (Clued d n) = record { cell = x; number = n; line = line p d x } ∷ []
+clueOf p x (Clued d n) = clueIn p x d n ∷ []
+clueOf p x Shaded = []
 
 -- the clues among the cells from x on, in cell order
 abbrev pub cluesFrom : Puzzle → ℕ → List Cell → List Clue

@@ -25,7 +25,7 @@ use Rattle.rules.specs.Board.{Clue, Board, boardOf}
 use Rattle.rules.specs.Drawing.{white, linkAt, blackAt}
 use Rattle.rules.specs.Walk.{loopCells, among}
 
--- 0x20 at an open cell, or another byte at one that is not open
+-- 0x20 and "clue or shaded" not together: 0x20 at an open cell, or another byte at one that is not open
 abbrev pub notTogether : Bool → ℕ → Bool
 notTogether true v = eqb v 0x20
 notTogether false v = not (eqb v 0x20)

@@ -1,4 +1,4 @@
--- "The grid record" of document 01, with kind 2 of document 02's E4, and rows 1 to 5 of "Turned down".
+-- "The grid record" of document 01, with kind 2 and shaded cells of document 02's E4 and E5, and rows 1 to 5 of "Turned down".
 use Prim.Native.Nat.{ℕ, _+_, _*_, _/_, _%_, _≤_, _<_}
 use mathlib.Core.Path.{_≡_}
 use lib.Dec.{eqb, leb, ltb}
@@ -12,7 +12,7 @@ use Rattle.answers.specs.Outcome.{refusal, answer, Row, row, cause, firstRefusa
 use Rattle.rules.specs.declared.Direction.{Direction}
 use Rattle.rules.specs.declared.Direction.the-variants.{North as north, East as east, South as south, West as west}
 use Rattle.rules.specs.declared.Cell.{Cell}
-use Rattle.rules.specs.declared.Cell.the-variants.{Open, Clue}
+use Rattle.rules.specs.declared.Cell.the-variants.{Open, Clue, Shaded}
 use Rattle.rules.specs.declared.CellCode.{CellCode}
 use Rattle.rules.specs.declared.CellCode.the-variants.{Is, NotAllowed}
 use Rattle.rules.specs.declared.Kind.{Kind}
@@ -78,9 +78,17 @@ isDirection n = leb 1 n && leb n 4
 abbrev pub isClue : Kind → ℕ → Bool
 isClue k c = isDirection (c / directionUnit k) && leb (c % directionUnit k) (mostNumber k)
 
--- 0 is open
+-- the code of a shaded cell
+abbrev pub shadedCode : Kind → ℕ
+shadedCode One = 0x50
+shadedCode Two = 0x5000
+
+-- 0 is open; else it is a clue's code, or that of a shaded cell; no other is allowed
 abbrev pub readCell : Kind → ℕ → CellCode
-readCell k c = cond (eqb c 0) (Is Open) (cond (isClue k c) (Is (Clue (directionOf (c / directionUnit k)) (c % directionUnit k))) NotAllowed)
+readCell k c =
+    cond (eqb c 0) (Is Open)
+    (cond (isClue k c) (Is (Clue (directionOf (c / directionUnit k)) (c % directionUnit k)))
+    (cond (eqb c (shadedCode k)) (Is Shaded) NotAllowed))
 
 -- (a code that is not allowed stands in no accepted record)
 abbrev pub cellOf : CellCode → Cell
@@ -117,6 +125,10 @@ wrongCell g s x = notAllowed (readCell (g .kind) (cellCode (g .kind) s x))
 
 abbrev pub puzzle : Grid → List ℕ → Puzzle
 puzzle g s = record { grid = g; cells = map (cellAt (g .kind) s) (upTo (size g)) }
+
+-- the cell numbered x of a record's grid
+abbrev pub gridCell : List ℕ → ℕ → Cell
+gridCell s x = getD (puzzle (gridOf s) s .cells) x Open
 
 -- a side is 1 to the largest
 abbrev pub isSide : Kind → ℕ → Bool

@@ -1,4 +1,5 @@
-// What a grid is, and when a drawing is a solution: document 01's "The grid record" and "The drawing and its judge", with document 02's E4.
+// What a grid is, and when a drawing is a solution: document 01's "The grid record" and "The drawing and its judge", with document 02's E4
+// and E5.
 pub enum Direction {
     North,
     East,
@@ -6,10 +7,11 @@ pub enum Direction {
     West,
 }
 
-// A cell is open, or a clue that carries a direction and a number.
+// A cell is open, or a clue that carries a direction and a number, or shaded: neither black nor on the loop, and it says nothing.
 pub enum Cell {
     Open,
     Clue(Direction, u8),
+    Shaded,
 }
 
 // What a cell's code is.

@@ -1,4 +1,4 @@
-// The reader of a grid record: document 01's "The grid record", and document 02's E4. No code above it looks at a kind.
+// The reader of a grid record: document 01's "The grid record", and document 02's E4 and E5. No code above it looks at a kind.
 ghost use mathlib.Core.Path.{_≡_};
 ghost use Prim.Native.Nat.{_+_, _<_};
 ghost use lib.ListN.{length, getD};
@@ -19,7 +19,7 @@ use super::Parsed;
 use super::RecordRefusal;
 use answers::Place;
 
-// The cell of a code of kind 1: 0 is open; the upper four bits of a clue tell the direction, the lower four the number.
+// The cell of a code of kind 1: 0 is open; the upper four bits of a clue tell the direction, the lower four the number; 0x50 is shaded.
 fn read_one(c: u16) -> CellCode
     ensures { λ r. ⌜ r ≡ readCell One c ⌝ }
 {
@@ -29,11 +29,12 @@ fn read_one(c: u16) -> CellCode
         0x20..=0x2f => CellCode::Is(Cell::Clue(Direction::East, (c % 16) as u8)),
         0x30..=0x3f => CellCode::Is(Cell::Clue(Direction::South, (c % 16) as u8)),
         0x40..=0x4f => CellCode::Is(Cell::Clue(Direction::West, (c % 16) as u8)),
-        0x01..=0x0f | 0x50..=0xffff => CellCode::NotAllowed,
+        0x50 => CellCode::Is(Cell::Shaded),
+        0x01..=0x0f | 0x51..=0xffff => CellCode::NotAllowed,
     }
 }
 
-// The cell of a code of kind 2: the lower twelve bits tell the number, 0 to 44.
+// The cell of a code of kind 2: the lower twelve bits of a clue tell the number, 0 to 44; 0x5000 is shaded.
 fn read_two(c: u16) -> CellCode
     ensures { λ r. ⌜ r ≡ readCell Two c ⌝ }
 {
@@ -43,12 +44,13 @@ fn read_two(c: u16) -> CellCode
         0x2000..=0x202c => CellCode::Is(Cell::Clue(Direction::East, (c % 4096) as u8)),
         0x3000..=0x302c => CellCode::Is(Cell::Clue(Direction::South, (c % 4096) as u8)),
         0x4000..=0x402c => CellCode::Is(Cell::Clue(Direction::West, (c % 4096) as u8)),
+        0x5000 => CellCode::Is(Cell::Shaded),
         0x0001..=0x0fff
         | 0x102d..=0x1fff
         | 0x202d..=0x2fff
         | 0x302d..=0x3fff
         | 0x402d..=0x4fff
-        | 0x5000..=0xffff => CellCode::NotAllowed,
+        | 0x5001..=0xffff => CellCode::NotAllowed,
     }
 }
 

@@ -68,7 +68,7 @@ allowed-byte true v = (λ h. by (decLt v 16) (open-small v h), back)
 allowed-byte false v =
     (λ h. eqb-true v 0x20 (not-false _ (or-neither (ltb 0x20 v || (leb 0x11 v && leb v 0x1F)) (not (eqb v 0x20)) h .1)), λ e. ap (badByte false) e)
 
--- no links: beyond the board, at a black cell, at a clue
+-- no links: beyond the board, at a black cell, at a cell that is not open
 pub no-links-0 : (d : Direction) → byteLink 0 d ≡ false
 no-links-0 = all-four (λ d. byteLink 0 d ≡ false) refl refl refl refl
 

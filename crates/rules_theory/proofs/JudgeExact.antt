@@ -96,7 +96,7 @@ module _ {b : Board} (law : Laws b) (ds : List ℕ) where
   clues-right = (clues-met ds (b .clues), met-clues ds (b .clues))
 
   module _ (long : length ds ≡ b .size) (allowed : (x : ℕ) → x < b .size → Allowed (b .isOpen x) (getD ds x 0)) where
-    -- a test that fails at 0, as beyond the board, and at a clue's byte holds at open cells only
+    -- a test that fails at 0, as beyond the board, and at 0x20 holds at open cells only
     opened : (x : ℕ) (t : ℕ → Bool) → t 0 ≡ false → t 0x20 ≡ false → t (getD ds x 0) ≡ true → b .isOpen x ≡ true
     opened x t z c h = on-board (decLt x (b .size))
       where

@@ -13,3 +13,5 @@ pub mod JudgeExact
 pub mod Places
 pub mod RecordKinds
 pub mod Cases
+pub mod Clues
+pub mod Shaded

@@ -22,18 +22,18 @@ use Rattle.rules.specs.declared.Kind.{Kind}
 use Rattle.rules.specs.declared.Kind.the-variants.{One, Two}
 use Rattle.rules.specs.declared.KindField.the-variants.{Is as IsKind, NotAllowed as NoKind}
 use Rattle.rules.specs.declared.Cell.{Cell}
-use Rattle.rules.specs.declared.Cell.the-variants.{Open, Clue}
+use Rattle.rules.specs.declared.Cell.the-variants.{Open, Clue, Shaded}
 use Rattle.rules.specs.declared.CellCode.{CellCode}
 use Rattle.rules.specs.declared.CellCode.the-variants.{Is}
 use Rattle.rules.specs.declared.Grid.{Grid}
 use Rattle.rules.specs.Board.{Board, neighbour, openAt, beyond, outward, clueOf, cluesFrom, board, boardOf}
-use Rattle.rules.specs.Record.{Puzzle, kindNumber, readKind, kindNotAllowed, mostSide, cellBytes, mostNumber, directionUnit, readCell, cellOf, notAllowed}
-use Rattle.rules.specs.Record.{word, gridOf, size, cellCode, cellAt, puzzle, isSide, wrongLength, wrongKind, wrongSide, wrongSize, wrongCell}
-use Rattle.rules.specs.Record.{recordRows, gridAnswer, recordAnswer, IsAccepted}
-use Rattle.rules.proofs.Records.{ReadAs, as-open, as-clue, as-none, read-as, clue-code, cell-at, puzzle-filled, accepted-clear}
+use Rattle.rules.specs.Record.{Puzzle, kindNumber, readKind, kindNotAllowed, mostSide, cellBytes, mostNumber, directionUnit, shadedCode, readCell, gridCell}
+use Rattle.rules.specs.Record.{cellOf, notAllowed, word, gridOf, size, cellCode, cellAt, puzzle, isSide, wrongLength, wrongKind, wrongSide, wrongSize}
+use Rattle.rules.specs.Record.{wrongCell, recordRows, gridAnswer, recordAnswer, IsAccepted}
+use Rattle.rules.proofs.Records.{ReadAs, as-open, as-clue, as-shaded, as-none, read-as, clue-code, shaded-code, cell-at, puzzle-filled, accepted-clear}
 use Rattle.rules.proofs.Records.{right-length, right-kind, grid-is}
-use Rattle.rules_theory.specs.RecordKinds.{Layout, littleEndian, bytesAt, Whole, cellCount, CodeIs, is-open, is-clue, OfKind, Sided, RightLength}
-use Rattle.rules_theory.specs.RecordKinds.{codeAt, NoCell, Accepts, Refuses, OfOtherKind, SameGrid}
+use Rattle.rules_theory.specs.RecordKinds.{Layout, littleEndian, bytesAt, Whole, cellCount, CodeIs, is-open, is-clue, is-shaded, OfKind, Sided}
+use Rattle.rules_theory.specs.RecordKinds.{RightLength, codeAt, NoCell, Accepts, Refuses, OfOtherKind, SameGrid}
 
 -- 1. Bytes
 
@@ -57,15 +57,24 @@ word-at s i =
 -- 2. The codes of cells
 
 abbrev pub layout : Kind → Layout
-layout k = record { kind = kindNumber k; side = mostSide k; bytes = cellBytes k; unit = directionUnit k; number = mostNumber k }
+layout k =
+    record {
+      kind = kindNumber k;
+      side = mostSide k;
+      bytes = cellBytes k;
+      unit = directionUnit k;
+      number = mostNumber k;
+      shaded = shadedCode k;
+    }
 
 code-at : (k : Kind) (s : List ℕ) (x : ℕ) → codeAt (layout k) s x ≡ cellCode k s x
 code-at One s x = byte-at s (6 + 1 * x) ∙ ap (λ j. getD s j 0) (omega arith)
 code-at Two s x = word-at s (6 + 2 * x)
 
-code-read : (k : Kind) {c : ℕ} {e : Cell} → CodeIs (layout k) c e → readCell k c ≡ Is e
+pub code-read : (k : Kind) {c : ℕ} {e : Cell} → CodeIs (layout k) c e → readCell k c ≡ Is e
 code-read k (is-open z) = rw z
 code-read k (is-clue d n low high m e) = sym (clue-code k _ d n low high m e)
+code-read k (is-shaded e) = sym (shaded-code k _ e)
 
 read-code : (k : Kind) (c : ℕ) → notAllowed (readCell k c) ≡ false → CodeIs (layout k) c (cellOf (readCell k c))
 read-code k c = by (read-as k c)
@@ -73,6 +82,7 @@ read-code k c = by (read-as k c)
     by : {r : CellCode} → ReadAs k c r → notAllowed r ≡ false → CodeIs (layout k) c (cellOf r)
     by (as-open z) h = is-open z
     by (as-clue d n low high m e) h = is-clue d n low high m e
+    by (as-shaded e) h = is-shaded e
     by as-none h = clash refl h
 
 -- 3. Rows 3 to 5
@@ -249,7 +259,7 @@ module _ (k : Kind) (s : List ℕ) (h : OfKind (layout k) s) where
   all : IsAccepted s → length (puzzle (gridOf s) s .cells) ≡ cellCount s
   all a = puzzle-filled (gridOf s) s
 
-  cells : IsAccepted s → (x : ℕ) → x < cellCount s → CodeIs (layout k) (codeAt (layout k) s x) (getD (puzzle (gridOf s) s .cells) x Open)
+  cells : IsAccepted s → (x : ℕ) → x < cellCount s → CodeIs (layout k) (codeAt (layout k) s x) (gridCell s x)
   cells a x l =
       subst (λ (g : Grid). CodeIs (layout k) (codeAt (layout k) s x) (getD (puzzle g s .cells) x Open)) grid-same
       (subst (CodeIs (layout k) (codeAt (layout k) s x)) (cell-at grid s x l) (is-cell x (first-none _ _ (parts .0 a .2) x l)))
@@ -309,6 +319,7 @@ module _ (k : Kind) (p : Puzzle) where
 
   clue-same : (x : ℕ) (c : Cell) → clueOf puzzleWith x c ≡ clueOf p x c
   clue-same x Open = refl
+  clue-same x Shaded = refl
   clue-same x (Clue d n) = ap (λ l. record { cell = x; number = n; line = l } ∷ []) (outward-same k (p .grid) d (size (p .grid)) x [])
 
   clues-same : (x : ℕ) (cs : List Cell) → cluesFrom puzzleWith x cs ≡ cluesFrom p x cs

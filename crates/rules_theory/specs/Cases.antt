@@ -1,5 +1,5 @@
 -- The starred cases of document 01's "Grids to try" that concern the record reader, with those of kind 2 beside them: records, and what it tells of each.
--- Then records that tell the kinds apart.
+-- Then records that tell the kinds apart, and such as have shaded cells.
 use Prim.Native.Nat.{ℕ, _+_, _*_}
 use lib.ListN.{length, replicate}
 use mathlib.Core.List.{List, [], _∷_}
@@ -18,11 +18,12 @@ recordOf kind rows columns cells = (6 + length cells) ∷ 0 ∷ kind ∷ 0 ∷ r
 abbrev openRecord : ℕ → ℕ → ℕ → ℕ → List ℕ
 openRecord kind bytes rows columns = recordOf kind rows columns (replicate (bytes * (rows * columns)) 0)
 
--- 0x0F and 0x50 are refused as 5, sides 0 and 25 as 3, for rows and for columns; in kind 2 sides 0 and 46
+-- 0x0F and 0x51 are refused as 5 (document 01 has 0x50, which document 02's E5 lets in), sides 0 and 25 as 3, for rows and for columns; in kind 2 sides 0
+-- and 46
 abbrev pub readerCases : List ReaderCase
 readerCases =
     record { bytes = recordOf 1 1 1 (0x0F ∷ []); says = refusal 5 0 } ∷
-    record { bytes = recordOf 1 1 1 (0x50 ∷ []); says = refusal 5 0 } ∷
+    record { bytes = recordOf 1 1 1 (0x51 ∷ []); says = refusal 5 0 } ∷
     record { bytes = openRecord 1 1 0 1; says = refusal 3 0 } ∷
     record { bytes = openRecord 1 1 1 0; says = refusal 3 0 } ∷
     record { bytes = openRecord 1 1 25 1; says = refusal 3 0 } ∷
@@ -33,8 +34,8 @@ readerCases =
     record { bytes = openRecord 2 2 1 46; says = refusal 3 0 } ∷
     []
 
--- kinds 0, 4 and 256 are refused; in kind 2, sides 25 and 45 are accepted; a length of 6 + N is refused; codes 0x1000 and 0x102C are allowed, 0x102D and
--- 0x5000 are not, and 0x0001 in the second cell is refused beside 1; the bytes `10 00` are 0x0010, which is not allowed
+-- kinds 0, 4 and 256 are refused; in kind 2, sides 25 and 45 are accepted; a length of 6 + N is refused; codes 0x1000 and 0x102C are allowed, 0x102D
+-- is not, and 0x0001 in the second cell is refused beside 1; the bytes `10 00` are 0x0010, which is not allowed
 abbrev pub kindCases : List ReaderCase
 kindCases =
     record { bytes = recordOf 0 1 1 (0 ∷ []); says = refusal 2 0 } ∷
@@ -46,7 +47,18 @@ kindCases =
     record { bytes = recordOf 2 1 1 (0x00 ∷ 0x10 ∷ []); says = answer 1 1 2 } ∷
     record { bytes = recordOf 2 1 1 (0x2C ∷ 0x10 ∷ []); says = answer 1 1 2 } ∷
     record { bytes = recordOf 2 1 1 (0x2D ∷ 0x10 ∷ []); says = refusal 5 0 } ∷
-    record { bytes = recordOf 2 1 1 (0x00 ∷ 0x50 ∷ []); says = refusal 5 0 } ∷
     record { bytes = recordOf 2 1 2 (0 ∷ 0 ∷ 1 ∷ 0 ∷ []); says = refusal 5 1 } ∷
     record { bytes = recordOf 2 1 1 (0x10 ∷ 0x00 ∷ []); says = refusal 5 0 } ∷
+    []
+
+-- in kind 1 0x50 is allowed, 0x5F (as 0x51 above) is not; in kind 2 0x5000 is allowed, 0x5001 and 0x5FFF are not; the bytes `50 00` are 0x0050, which is not
+-- allowed
+abbrev pub shadedCases : List ReaderCase
+shadedCases =
+    record { bytes = recordOf 1 1 1 (0x50 ∷ []); says = answer 1 1 1 } ∷
+    record { bytes = recordOf 1 1 2 (0x50 ∷ 0x5F ∷ []); says = refusal 5 1 } ∷
+    record { bytes = recordOf 2 1 1 (0x00 ∷ 0x50 ∷ []); says = answer 1 1 2 } ∷
+    record { bytes = recordOf 2 1 1 (0x01 ∷ 0x50 ∷ []); says = refusal 5 0 } ∷
+    record { bytes = recordOf 2 1 1 (0xFF ∷ 0x5F ∷ []); says = refusal 5 0 } ∷
+    record { bytes = recordOf 2 1 1 (0x50 ∷ 0x00 ∷ []); says = refusal 5 0 } ∷
     []

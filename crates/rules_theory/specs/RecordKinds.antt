@@ -1,4 +1,4 @@
--- The records of a kind, in the words of document 01's "The grid record" and document 02's E4: what stands in their bytes, and what the reader tells.
+-- The records of a kind, in the words of document 01's "The grid record" and document 02's E4 and E5: what stands in their bytes, and what the reader tells.
 use Prim.Native.Nat.{ℕ, _+_, _*_, _≤_, _<_}
 use lib.ListN.{length, getD, take, drop}
 use mathlib.Core.Path.{_≡_}
@@ -7,8 +7,8 @@ use mathlib.Core.List.{List, [], _∷_}
 use Rattle.answers.specs.First.{LeastWith}
 use Rattle.answers.specs.Outcome.{refusal, answer}
 use Rattle.rules.specs.declared.Cell.{Cell}
-use Rattle.rules.specs.declared.Cell.the-variants.{Open, Clue}
-use Rattle.rules.specs.Record.{directionOf, gridOf, puzzle, recordAnswer, IsAccepted}
+use Rattle.rules.specs.declared.Cell.the-variants.{Open, Clue, Shaded}
+use Rattle.rules.specs.Record.{directionOf, gridOf, puzzle, gridCell, recordAnswer, IsAccepted}
 
 -- what sets a kind apart
 pub record Layout : Type 0 where
@@ -22,6 +22,8 @@ pub record Layout : Type 0 where
   pub unit : ℕ
   -- the largest number
   pub number : ℕ
+  -- the code of a shaded cell
+  pub shaded : ℕ
 
 -- bytes as a number, little-endian
 abbrev pub littleEndian : List ℕ → ℕ
@@ -42,10 +44,11 @@ abbrev pub cellCount : List ℕ → ℕ
 cellCount s = getD s 4 0 * getD s 5 0
 
 module _ (l : Layout) where
-  -- 0 is open; a clue has its direction, 1 to 4, in the upper bits and its number in the lower
+  -- 0 is open; a clue has its direction, 1 to 4, in the upper bits and its number in the lower; one code is shaded
   pub data CodeIs : ℕ → Cell → Type 0 where
     is-open : {c : ℕ} → c ≡ 0 → CodeIs c Open
     is-clue : {c : ℕ} (d n : ℕ) → 1 ≤ d → d ≤ 4 → n ≤ l .number → c ≡ d * l .unit + n → CodeIs c (Clue (directionOf d) n)
+    is-shaded : {c : ℕ} → c ≡ l .shaded → CodeIs c Shaded
 
   module _ (s : List ℕ) where
     -- whole, with the kind in bytes 2 and 3
@@ -76,7 +79,7 @@ module _ (l : Layout) where
     pub accepted : (s : List ℕ) → OfKind s → IsAccepted s ↔ Sided s × RightLength s × ((x : ℕ) → x < cellCount s → (c : Cell) × CodeIs (codeAt s x) c)
     pub tells : (s : List ℕ) → OfKind s → IsAccepted s → recordAnswer s ≡ answer (getD s 4 0) (getD s 5 0) (l .kind)
     pub all : (s : List ℕ) → OfKind s → IsAccepted s → length (puzzle (gridOf s) s .cells) ≡ cellCount s
-    pub cells : (s : List ℕ) → OfKind s → IsAccepted s → (x : ℕ) → x < cellCount s → CodeIs (codeAt s x) (getD (puzzle (gridOf s) s .cells) x Open)
+    pub cells : (s : List ℕ) → OfKind s → IsAccepted s → (x : ℕ) → x < cellCount s → CodeIs (codeAt s x) (gridCell s x)
 
   -- else it is refused: for a side; for its length; for the first cell whose code is not allowed
   pub record Refuses : Type 0 where

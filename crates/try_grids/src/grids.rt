@@ -1,19 +1,19 @@
 // The records that are tried.
 ghost use Prim.Native.Nat.{_*_, _<_, _≤_};
+use super::plain_rules::SHADED;
 
 // The most bytes of a record of kind 1: 24×24 has 6 + 576.
 pub(crate) const BYTES: usize = 582;
 
-// The cell that a digit makes: 0 open, 1 to 12 clues of every direction with number 0, 1 and 2, then open again.
+// The cell that a digit makes: 0 open, 1 to 8 clues of every direction with number 0 and 1, 9 shaded, 10 to 13 clues with number 2, 14 to 16
+// shaded, then open again.
 fn cell(digit: u64) -> u8 {
-    if digit == 0 {
-        return 0;
+    match digit {
+        1..=8 => (0x10 * (1 + (digit - 1) % 4) + (digit - 1) / 4) as u8,
+        10..=13 => (0x10 * (digit - 9) + 2) as u8,
+        9 | 14..=16 => SHADED,
+        _ => 0,
     }
-    if digit > 12 {
-        return 0;
-    }
-    let clue = digit - 1;
-    (0x10 * (1 + clue % 4) + clue / 4) as u8
 }
 
 // The record of a grid whose cells are made of a number's digits to some base, the lowest first; zeros after it.

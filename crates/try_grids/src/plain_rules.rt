@@ -1,10 +1,10 @@
-// Is a drawing a solution? Decided in a plain way that shares nothing with the library. The drawings that are asked about have their clues
-// at the record's clues, and a link at both its cells or at none.
+// Is a drawing a solution? Decided in a plain way that shares nothing with the library. The drawings that are asked about have 0x20
+// where the record's cell is not open, and a link at both its cells or at none.
 ghost use Prim.Native.Nat.{_<_, _≤_};
 ghost use lib.ListN.{length};
 use super::drawings::BLACK;
 use super::drawings::CELLS;
-use super::drawings::CLUE;
+use super::drawings::NOT_OPEN;
 use super::drawings::NOTHING;
 
 // Directions, as in a record.
@@ -15,6 +15,9 @@ const EAST: u8 = 2;
 const SOUTH: u8 = 3;
 
 const WEST: u8 = 4;
+
+// A shaded cell in a record. It says nothing.
+pub(crate) const SHADED: u8 = 0x50;
 
 // The byte at a place, `NOTHING` past the end.
 pub(crate) fn at(bytes: &[u8], i: usize) -> u8 {
@@ -62,7 +65,8 @@ fn line_count(columns: usize, drawing: &[u8], x: usize, direction: u8) -> u8
     count
 }
 
-// A black cell has no black one beside it, a clue's line has its number of black cells, a white cell has two links.
+// A black cell has no black one beside it, a clue's line has its number of black cells, a white cell has two links; a
+// shaded cell always fits.
 fn fits(columns: usize, record: &[u8], drawing: &[u8], x: usize) -> bool
     requires { ⌜ (0 < columns) × (columns ≤ 12) × (x < 12) ⌝ }
 {
@@ -72,9 +76,12 @@ fn fits(columns: usize, record: &[u8], drawing: &[u8], x: usize) -> bool
         let south = at(drawing, beside(columns, x, SOUTH));
         return east != BLACK && south != BLACK;
     }
-    if b == CLUE {
-        let clue = at(record, 6 + x);
-        return line_count(columns, drawing, x, clue / 16) == clue % 16;
+    if b == NOT_OPEN {
+        let code = at(record, 6 + x);
+        if code == SHADED {
+            return true;
+        }
+        return line_count(columns, drawing, x, code / 16) == code % 16;
     }
     b % 2 + b / 2 % 2 + b / 4 % 2 + b / 8 % 2 == 2
 }

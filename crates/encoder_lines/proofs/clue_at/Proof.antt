@@ -1,8 +1,10 @@
 -- `encoder_lines::clue_at` meets its contract. Assumes nothing.
-use mathlib.Core.Path.{_≡_, sym}
+use mathlib.Core.Path.{_≡_, refl, sym}
+use mathlib.Core.List.{[]}
 use Rattle.answers.proofs.Lent.{wrote-nothing, wrote-recast}
 use Rattle.rules.specs.Record.{puzzle}
-use Rattle.rules.specs.Board.{gridBoard}
+use Rattle.rules.specs.Board.{clueOf, gridBoard}
+use Rattle.rules.proofs.Records.{else-clue}
 use Rattle.answers.specs.Lists.{joined}
 use Rattle.encoder.specs.Clauses.{listOf}
 use Rattle.encoder_shapes.proofs.Written.{limits-recast}
@@ -32,14 +34,13 @@ cell-requires c κs = search needs
 enum-known-c : tie.Need-enum-known-c
 enum-known-c c = search needs
 
-enum-told : tie.Need-enum-told
-enum-told c = search needs
-
 returns : tie.Need-returns
 returns c =
-    let s = c .before .before .before .before .before in
-    wrote-recast (clue-none (s .pre .1 .0 .recordFits) (s .args .x) (s .pre .1 .1) (c .before .before .cell .ensures) (c .enum-told .given .1))
-    (wrote-nothing _ _)
+    let at-cell = c .before in
+    let s = at-cell .before .before .before in
+    let p = puzzle (s .args .g) (s .args .«record» .now) in
+    let none = else-clue (λ cell. clueOf p (s .args .x) cell ≡ []) refl refl (at-cell .cell .result) (c .match .keys2) in
+    wrote-recast (clue-none (s .pre .1 .0 .recordFits) (s .args .x) (s .pre .1 .1) (at-cell .cell .ensures) none) (wrote-nothing _ _)
 
 count-number-requires : tie.Need-count-number-requires
 count-number-requires c κs = search needs
@@ -64,7 +65,6 @@ clue-at-spec =
     (tie.spec
     cell-requires
     enum-known-c
-    enum-told
     returns
     count-number-requires
     cast-clue

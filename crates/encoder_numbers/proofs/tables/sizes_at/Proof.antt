@@ -1,11 +1,11 @@
 -- `encoder_numbers::tables::sizes_at` meets its contract. Assumes nothing.
 use Prim.Native.Nat.{_+_, _*_}
 use native.Mathlib.Omega.{arith}
-use mathlib.Core.Path.{_≡_, sym, _∙_, ap}
+use mathlib.Core.Path.{_≡_, _∙_, ap}
 use Rattle.rules.specs.Record.{puzzle}
-use Rattle.rules.specs.Board.{openCell}
+use Rattle.rules.specs.Board.{openCell, clueOf}
 use Rattle.encoder_numbers.specs.Tables.{cellCounts}
-use Rattle.encoder_numbers.proofs.Numbers.{open-sizes, shut-sizes, clue-counts, counts-few, line-few}
+use Rattle.encoder_numbers.proofs.Numbers.{open-sizes, shut-sizes, clue-counts, no-counts, counts-few, line-few}
 use borrow.Author.Needs.{needs}
 use Rattle.encoder_numbers.proofs.tables.sizes_at.Statement.{statement}
 use Rattle.encoder_numbers.proofs.tables.sizes_at.Tie as tie
@@ -59,6 +59,12 @@ mul-sizes c = let s = s2 c in omega (arith, counted c, counts-few (s .pre .0) (s
 sizes-requires-2 : tie.Need-sizes-requires-2
 sizes-requires-2 c κs = search needs
 
+enum-told-2 : tie.Need-enum-told-2
+enum-told-2 c = search needs
+
+sizes-requires-3 : tie.Need-sizes-requires-3
+sizes-requires-3 c κs = search needs
+
 returns : tie.Need-returns
 returns c =
     let k = c .before in
@@ -70,6 +76,14 @@ returns-2 c =
     let k = c .before in
     let q = k .before .before .before .before .cell .ensures in
     c .sizes2 .ensures ∙ shut-sizes (s2 k .pre .0) (s2 k .pre .1) q (ap openCell (k .before .before .c .given .1)) (counted k)
+
+returns-3 : tie.Need-returns-3
+returns-3 c =
+    let s = c .before .before .before .before .before in
+    let shaded = c .before .enum-told2 .given .1 in
+    let q = c .before .before .before .cell .ensures in
+    let p = puzzle (s .args .g) (s .args .«record» .now) in
+    c .sizes3 .ensures ∙ shut-sizes (s .pre .0) (s .pre .1) q (ap openCell shaded) (no-counts p (s .args .x) (ap (clueOf p (s .args .x)) shaded) q)
 
 pub sizes-at-spec : {M : Type 1} → statement M
 sizes-at-spec =
@@ -86,5 +100,8 @@ sizes-at-spec =
     add-sizes-2
     mul-sizes
     sizes-requires-2
+    enum-told-2
+    sizes-requires-3
     returns
-    returns-2)
+    returns-2
+    returns-3)

@@ -1,12 +1,12 @@
 -- `judge_cells::cells::bad_byte` meets its contract. Assumes nothing.
 use native.Mathlib.Omega.{arith}
 use mathlib.Core.Path.{_≡_}
-use Rattle.judge_cells.proofs.Checks.{clue-or-not, low-byte, middle-byte, over-byte}
+use Rattle.judge_cells.proofs.Checks.{open-or-not, low-byte, middle-byte, over-byte}
 use Rattle.judge_cells.proofs.cells.bad_byte.Statement.{statement}
 use Rattle.judge_cells.proofs.cells.bad_byte.Tie as tie
 
 returns : tie.Need-returns
-returns c = let t : c .before .args .v ≡ 0x20 = c .match .keys1 in rw t (clue-or-not (c .before .args .«open»))
+returns c = let t : c .before .args .v ≡ 0x20 = c .match .keys1 in rw t (open-or-not (c .before .args .«open»))
 
 returns-2 : tie.Need-returns-2
 returns-2 c = let start = c .before .before in low-byte (start .args .«open») (start .args .v) (omega arith)

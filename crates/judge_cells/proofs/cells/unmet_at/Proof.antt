@@ -1,7 +1,9 @@
 -- `judge_cells::cells::unmet_at` meets its contract. Assumes nothing.
-use mathlib.Core.Path.{sym, _∙_, ap}
+use mathlib.Core.Path.{_≡_, refl, sym, _∙_, ap}
+use mathlib.Core.Bool.{false}
 use Rattle.rules.specs.Record.{puzzle}
 use Rattle.rules.specs.Drawing.{blackAt}
+use Rattle.rules.proofs.Records.{else-clue}
 use Rattle.judge_cells.specs.Tests.{unmetCell}
 use borrow.Author.Needs.{needs}
 use Rattle.judge_cells.proofs.cells.unmet_at.Statement.{statement}
@@ -13,14 +15,12 @@ cell-requires c κs = search needs
 enum-known-c : tie.Need-enum-known-c
 enum-known-c c = search needs
 
-enum-told : tie.Need-enum-told
-enum-told c = search needs
-
 returns : tie.Need-returns
 returns c =
-    let at-start = c .before .before .before .before .before in
-    ap (unmetCell (puzzle (at-start .args .g) (at-start .args .«record» .now)) (blackAt (at-start .args .drawing .now)) (at-start .args .x))
-    (sym (c .enum-told .given .1) ∙ c .before .before .cell .ensures)
+    let at-cell = c .before in
+    let at-start = at-cell .before .before .before in
+    let unmet = unmetCell (puzzle (at-start .args .g) (at-start .args .«record» .now)) (blackAt (at-start .args .drawing .now)) (at-start .args .x) in
+    else-clue (λ cell. false ≡ unmet cell) refl refl (at-cell .cell .result) (c .match .keys2) ∙ ap unmet (at-cell .cell .ensures)
 
 black-count-requires : tie.Need-black-count-requires
 black-count-requires c κs = search needs
@@ -41,7 +41,6 @@ unmet-at-spec =
     (tie.spec
     cell-requires
     enum-known-c
-    enum-told
     returns
     black-count-requires
     cast-result

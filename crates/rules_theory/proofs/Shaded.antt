@@ -1,0 +1,241 @@
+-- A shaded cell is neither black nor on the loop, and says nothing; in a clue's line it acts as a clue cell. Assumes nothing.
+use Prim.Native.Nat.{ℕ, zero, suc, _+_, _*_, _≤_, _<_}
+use native.Mathlib.Omega.{arith}
+use lib.Dec.{eqb}
+use lib.ListN.{length, getD}
+use borrow.Author.Tests.{eqb-true, eqb-false}
+use mathlib.Core.Path.{_≡_, refl, sym, _∙_, ap, subst}
+use mathlib.Core.Bool.{Bool, true, false, not}
+use mathlib.Core.Logic.{_↔_, _⊎_, inl, inr}
+use mathlib.Core.Option.{Option·some-injective}
+use mathlib.Core.List.{List, [], _∷_}
+use Rattle.answers.specs.Lists.{howMany, All, _∈_}
+use Rattle.answers.proofs.Bools.{clash, and-both}
+use Rattle.answers.proofs.Elements.{all-in, all-at}
+use Rattle.rules.specs.declared.Direction.{Direction}
+use Rattle.rules.specs.declared.Kind.{Kind}
+use Rattle.rules.specs.declared.Kind.the-variants.{One, Two}
+use Rattle.rules.specs.declared.Cell.{Cell}
+use Rattle.rules.specs.declared.Cell.the-variants.{Open, Clue as Clued, Shaded}
+use Rattle.rules.specs.declared.Grid.{Grid}
+use Rattle.rules.specs.Directions.{opposite}
+use Rattle.rules.specs.Record.{Puzzle, mostNumber, directionUnit, shadedCode, gridOf, size, puzzle, gridCell, IsAccepted}
+use Rattle.rules.specs.Record as records
+use Rattle.rules.specs.Board.{Clue, Board, openCell, openAt, line, clueIn, clueOf, board, boardOf}
+use Rattle.rules.specs.Drawing.{Reach, here, along, white, Allowed, SolutionBytes, linkAt, blackAt}
+use Rattle.rules.specs.Judge.{badByteAt}
+use Rattle.rules.proofs.Boards.{open-at}
+use Rattle.rules.proofs.Records.{puzzle-filled, shaded-code}
+use Rattle.rules_theory.specs.Places.{Met}
+use Rattle.rules_theory.specs.RecordKinds.{CodeIs, is-open, is-clue, is-shaded, OfKind, cellCount, codeAt}
+use Rattle.rules_theory.specs.Shaded.{ShadedAt, ClueShaded}
+use Rattle.rules_theory.proofs.RecordKinds.{layout, code-read, accepts}
+use Rattle.rules_theory.proofs.Bytes.{allowed-byte}
+use Rattle.rules_theory.proofs.Clues.{ClueAt, of-clues, in-clues}
+
+-- 1. Cells of a board
+
+-- cells that are open alike
+open-alike : (cs ds : List Cell) → length cs ≡ length ds → ((y : ℕ) → y < length cs → openCell (getD cs y Open) ≡ openCell (getD ds y Open))
+    → (y : ℕ) → openAt cs y ≡ openAt ds y
+open-alike [] [] e h y = refl
+open-alike [] (d ∷ ds) e h y = absurd (omega arith)
+open-alike (c ∷ cs) [] e h y = absurd (omega arith)
+open-alike (c ∷ cs) (d ∷ ds) e h zero = h zero (omega arith)
+open-alike (c ∷ cs) (d ∷ ds) e h (suc y) = open-alike cs ds (omega arith) (λ z l. h (suc z) (omega arith)) y
+
+abbrev isShaded : Cell → Bool
+isShaded Open = false
+isShaded (Clued d n) = false
+isShaded Shaded = true
+
+-- a cell that is not open is a clue or shaded
+pub not-open : (s : List ℕ) (x : ℕ) → x < size (gridOf s)
+    → boardOf s .isOpen x ≡ false ↔ ((d : Direction) × (n : ℕ) × (gridCell s x ≡ Clued d n)) ⊎ (gridCell s x ≡ Shaded)
+not-open s x l =
+    let f = puzzle-filled (gridOf s) s in
+    subst (λ t. t ≡ false ↔ ((d : Direction) × (n : ℕ) × (gridCell s x ≡ Clued d n)) ⊎ (gridCell s x ≡ Shaded))
+    (open-at (puzzle (gridOf s) s .cells) x (omega arith)) (by (gridCell s x))
+  where
+    by : (c : Cell) → openCell c ≡ false ↔ ((d : Direction) × (n : ℕ) × (c ≡ Clued d n)) ⊎ (c ≡ Shaded)
+    by Open = (λ e. clash refl e, elim [ inl p ↦ ap openCell (p .2) | inr e ↦ ap openCell e ])
+    by (Clued d n) = (λ e. inl (d, n, refl), λ p. refl)
+    by Shaded = (λ e. inr refl, λ p. refl)
+
+-- 2. A shaded cell in a solution
+
+module _ (s : List ℕ) (x : ℕ) (h : ShadedAt s x) where
+  abbrev b : Board
+  b = boardOf s
+
+  pub shut : b .isOpen x ≡ false
+  shut = not-open s x (h .inside) .1 (inr (h .shaded))
+
+  pub no-clue : (c : Clue) → c ∈ b .clues → c .cell ≡ x → ⊥
+  no-clue c m e =
+      clash (ap isShaded (h .shaded)) (ap isShaded (ap (gridCell s) (sym e) ∙ of-clues (puzzle (gridOf s) s) c m .read))
+
+  off : {A : Type 0} (black : ℕ → Bool) → white b black x ≡ true → A
+  off black w = clash (and-both (b .isOpen x) _ w .0) shut
+
+  module _ (ds : List ℕ) (S : SolutionBytes b ds) where
+    pub not-black : blackAt ds x ≡ false
+    not-black = by (blackAt ds x) refl
+      where
+        by : (t : Bool) → blackAt ds x ≡ t → blackAt ds x ≡ false
+        by true e = clash (S .solution .only-open x e) shut
+        by false e = e
+
+    pub no-link : (d : Direction) → linkAt ds x d ≡ false
+    no-link d = by (linkAt ds x d) refl
+      where
+        by : (t : Bool) → linkAt ds x d ≡ t → linkAt ds x d ≡ false
+        by true e = off (blackAt ds) (S .solution .links .at-white x d e)
+        by false e = e
+
+    pub off-loop : (t : ℕ) → Reach (b .next) (linkAt ds) t x → t ≡ x
+    off-loop t (here e) = sym e
+    off-loop t (along {x = y} {d = d} r l n) =
+        let (y', next, back) = S .solution .links .matched y d l in
+        let same : y' ≡ x = Option·some-injective y' x (sym next ∙ n) in
+        off (blackAt ds) (S .solution .links .at-white x (opposite d) (subst (λ y. linkAt ds y (opposite d) ≡ true) same back))
+
+    pub drawn-so : getD ds x 0 ≡ 0x20
+    drawn-so = subst (λ t. Allowed t (getD ds x 0)) shut (S .allowed x (h .inside))
+
+  -- the judge asks for that byte
+  pub byte-asked : (ds : List ℕ) → badByteAt b ds x ≡ false ↔ getD ds x 0 ≡ 0x20
+  byte-asked ds = rw shut (allowed-byte false (getD ds x 0))
+
+-- 3. A clue made shaded
+
+module _ {b c : Board} (size : b .size ≡ c .size) (opens : b .isOpen ≡ c .isOpen) (next : b .next ≡ c .next) where
+  -- boards that differ in their clues only
+  with-clues : {ds : List ℕ} → SolutionBytes b ds → All (Met ds) (c .clues) → SolutionBytes c ds
+  with-clues {ds} S met =
+      let R = S .solution in
+      let same : _≡_ {A = Board} (record { size = b .size; isOpen = b .isOpen; next = b .next; clues = c .clues }) c =
+      (λ i. record { size = size i; isOpen = opens i; next = next i; clues = c .clues }) in
+      subst (λ b. SolutionBytes b ds) same
+      (record {
+        long = S .long;
+        allowed = S .allowed;
+        solution = record { only-open = R .only-open; untouched = R .untouched; met = met; links = R .links; whole = R .whole };
+      })
+
+-- of two puzzles with the same grid
+module _ (g : Grid) (cs ds : List Cell) (x : ℕ) (d : Direction) (n : ℕ) (long : length cs ≡ size g) (same-long : length ds ≡ size g) (inside : x < size g)
+    (clued : getD cs x Open ≡ Clued d n) (shaded : getD ds x Open ≡ Shaded)
+    (others : (y : ℕ) → y < size g → (y ≡ x → ⊥) → getD cs y Open ≡ getD ds y Open) where
+  abbrev first : Puzzle
+  first = record { grid = g; cells = cs }
+
+  abbrev second : Puzzle
+  second = record { grid = g; cells = ds }
+
+  open-same : board first .isOpen ≡ board second .isOpen
+  open-same i y = open-alike cs ds (long ∙ sym same-long) at y i
+    where
+      at : (y : ℕ) → y < length cs → openCell (getD cs y Open) ≡ openCell (getD ds y Open)
+      at y l = by (eqb y x) refl
+        where
+          by : (t : Bool) → eqb y x ≡ t → openCell (getD cs y Open) ≡ openCell (getD ds y Open)
+          by true e = let q = eqb-true y x e in rw (q, clued, shaded)
+          by false e = ap openCell (others y (omega arith) (eqb-false y x e))
+
+  -- the clues of the second are those of the first that do not stand in x
+  clue-kept : (k : Clue) → k ∈ board second .clues ↔ (k ∈ board first .clues) × (k .cell ≡ x → ⊥)
+  clue-kept k = (λ m. of (of-clues second k m), λ p. to (of-clues first k (p .0)) (p .1))
+    where
+      of : ClueAt second k → (k ∈ board first .clues) × (k .cell ≡ x → ⊥)
+      of t =
+          let l = t .within in
+          let apart : k .cell ≡ x → ⊥ = (λ e. clash (ap isShaded shaded) (ap isShaded (ap (λ y. getD ds y Open) (sym e) ∙ t .read))) in
+          let read = others (k .cell) (omega arith) apart ∙ t .read in
+          (in-clues first k (record { direction = t .direction; within = omega arith; read = read; along = t .along }), apart)
+
+      to : ClueAt first k → (k .cell ≡ x → ⊥) → k ∈ board second .clues
+      to t apart =
+          let l = t .within in
+          let read = sym (others (k .cell) (omega arith) apart) ∙ t .read in
+          in-clues second k (record { direction = t .direction; within = omega arith; read = read; along = t .along })
+
+  -- a clue of the first that stands in x
+  clue-there : (k : Clue) → k ∈ board first .clues → k .cell ≡ x → k ≡ clueIn first x d n
+  clue-there k m q =
+      let t = of-clues first k m in
+      let read : Clued (t .direction) (k .number) ≡ Clued d n = sym (t .read) ∙ ap (λ y. getD cs y Open) q ∙ clued in
+      (λ i. record { cell = k .cell; number = k .number; line = t .along i }) ∙ (λ i. getD (clueOf first (q i) (read i)) 0 k)
+
+  clue-solutions : (bs : List ℕ) → SolutionBytes (board first) bs ↔ SolutionBytes (board second) bs × (howMany (blackAt bs) (line first d x) ≡ n)
+  clue-solutions bs = (
+    λ S. let met = S .solution .met in (
+      with-clues refl open-same refl S (all-in (Met bs) (board second .clues) (λ k m. all-at (Met bs) met (clue-kept k .0 m .0))),
+      all-at (Met bs) met (in-clues first (clueIn first x d n) (record { direction = d; within = omega arith; read = clued; along = refl })),
+    ),
+    λ R. with-clues refl (sym open-same) refl (R .0) (all-in (Met bs) (board first .clues) (λ k m. by R k m (eqb (k .cell) x) refl)),
+  )
+    where
+      by : SolutionBytes (board second) bs × (howMany (blackAt bs) (line first d x) ≡ n) → (k : Clue) → k ∈ board first .clues
+          → (t : Bool) → eqb (k .cell) x ≡ t → Met bs k
+      by R k m true e = subst (Met bs) (sym (clue-there k m (eqb-true (k .cell) x e))) (R .1)
+      by R k m false e = all-at (Met bs) (R .0 .solution .met) (clue-kept k .1 (m, eqb-false (k .cell) x e))
+
+module _ (s t : List ℕ) (x : ℕ) (d : Direction) (n : ℕ) (h : ClueShaded s t x d n) where
+  abbrev cells : List ℕ → List Cell
+  cells r = puzzle (gridOf r) r .cells
+
+  same-long : length (cells t) ≡ size (gridOf s)
+  same-long = puzzle-filled (gridOf t) t ∙ ap size (sym (h .grid))
+
+  -- the second over the first one's grid
+  second-is : board (record { grid = gridOf s; cells = cells t }) ≡ boardOf t
+  second-is = ap (λ g. board (record { grid = g; cells = cells t })) (h .grid)
+
+  pub same-open : boardOf s .isOpen ≡ boardOf t .isOpen
+  same-open = open-same (gridOf s) (cells s) (cells t) x d n (puzzle-filled (gridOf s) s) same-long (h .inside) (h .clue) (h .shaded) (h .others)
+
+  pub same-clues : (k : Clue) → k ∈ boardOf t .clues ↔ (k ∈ boardOf s .clues) × (k .cell ≡ x → ⊥)
+  same-clues k =
+      subst (λ (b : Board). k ∈ b .clues ↔ (k ∈ boardOf s .clues) × (k .cell ≡ x → ⊥)) second-is
+      (clue-kept (gridOf s) (cells s) (cells t) x d n (puzzle-filled (gridOf s) s) same-long (h .inside) (h .clue) (h .shaded) (h .others) k)
+
+  pub same-solutions : (ds : List ℕ)
+      → SolutionBytes (boardOf s) ds ↔ SolutionBytes (boardOf t) ds × (howMany (blackAt ds) (line (puzzle (gridOf s) s) d x) ≡ n)
+  same-solutions ds =
+      subst (λ b. SolutionBytes (boardOf s) ds ↔ SolutionBytes b ds × (howMany (blackAt ds) (line (puzzle (gridOf s) s) d x) ≡ n)) second-is
+      (clue-solutions (gridOf s) (cells s) (cells t) x d n (puzzle-filled (gridOf s) s) same-long (h .inside) (h .clue) (h .shaded) (h .others) ds)
+
+-- 4. Its code
+
+code-shaded : (k : Kind) {c : ℕ} {e : Cell} → CodeIs (layout k) c e → e ≡ Shaded → c ≡ shadedCode k
+code-shaded k (is-open z) q = clash (ap isShaded q) refl
+code-shaded k (is-clue d n low high m z) q = clash (ap isShaded q) refl
+code-shaded k (is-shaded z) q = z
+
+pub shaded-exactly : (k : Kind) (s : List ℕ) → OfKind (layout k) s → IsAccepted s → (x : ℕ)
+    → ShadedAt s x ↔ (x < cellCount s) × (codeAt (layout k) s x ≡ shadedCode k)
+shaded-exactly k s h a x = (
+  λ t. (t .inside, code-shaded k (is (t .inside)) (t .shaded)),
+  λ p. record { inside = p .0; shaded = ap records.cellOf (sym (code-read k (is (p .0))) ∙ sym (shaded-code k _ (p .1))) },
+)
+  where
+    is : x < cellCount s → CodeIs (layout k) (codeAt (layout k) s x) (gridCell s x)
+    is l = accepts k .cells s h a x l
+
+-- past the clues' codes there is no other
+below-shaded : (k : Kind) (d n : ℕ) → d ≤ 4 → n ≤ mostNumber k → d * directionUnit k + n < shadedCode k
+below-shaded One d n h m = omega arith
+below-shaded Two d n h m = omega arith
+
+shaded-large : (k : Kind) → 0 < shadedCode k
+shaded-large One = omega arith
+shaded-large Two = omega arith
+
+pub no-other : (k : Kind) (c : ℕ) → shadedCode k ≤ c → ((e : Cell) × CodeIs (layout k) c e) ↔ (c ≡ shadedCode k)
+no-other k c h = (λ p. by (p .1), λ e. (Shaded, is-shaded e))
+  where
+    by : {e : Cell} → CodeIs (layout k) c e → c ≡ shadedCode k
+    by (is-open z) = absurd (omega (arith, shaded-large k))
+    by (is-clue d n low high m z) = absurd (omega (arith, below-shaded k d n high m))
+    by (is-shaded z) = z
