@@ -10,14 +10,13 @@ use mathlib.Core.Logic.{_↔_, _⊎_, inl, inr}
 use mathlib.Core.Option.{Option·some-injective}
 use mathlib.Core.List.{List, [], _∷_}
 use Rattle.answers.specs.Lists.{howMany, All, _∈_}
-use Rattle.answers.proofs.Bools.{clash, and-both}
+use Rattle.answers.proofs.Bools.{clash, off, and-both}
 use Rattle.answers.proofs.Elements.{all-in, all-at}
 use Rattle.rules.specs.declared.Direction.{Direction}
 use Rattle.rules.specs.declared.Kind.{Kind}
 use Rattle.rules.specs.declared.Kind.the-variants.{One, Two}
 use Rattle.rules.specs.declared.Cell.{Cell}
 use Rattle.rules.specs.declared.Cell.the-variants.{Open, Clue as Clued, Shaded}
-use Rattle.rules.specs.declared.Grid.{Grid}
 use Rattle.rules.specs.Directions.{opposite}
 use Rattle.rules.specs.Record.{Puzzle, mostNumber, directionUnit, shadedCode, gridOf, size, puzzle, gridCell, IsAccepted}
 use Rattle.rules.specs.Record as records
@@ -75,30 +74,23 @@ module _ (s : List ℕ) (x : ℕ) (h : ShadedAt s x) where
   no-clue c m e =
       clash (ap isShaded (h .shaded)) (ap isShaded (ap (gridCell s) (sym e) ∙ of-clues (puzzle (gridOf s) s) c m .read))
 
-  off : {A : Type 0} (black : ℕ → Bool) → white b black x ≡ true → A
-  off black w = clash (and-both (b .isOpen x) _ w .0) shut
+  not-white : (black : ℕ → Bool) → white b black x ≡ true → ⊥
+  not-white black w = clash (and-both (b .isOpen x) _ w .0) shut
 
   module _ (ds : List ℕ) (S : SolutionBytes b ds) where
     pub not-black : blackAt ds x ≡ false
-    not-black = by (blackAt ds x) refl
-      where
-        by : (t : Bool) → blackAt ds x ≡ t → blackAt ds x ≡ false
-        by true e = clash (S .solution .only-open x e) shut
-        by false e = e
+    not-black = off _ (λ e. clash (S .solution .only-open x e) shut)
 
     pub no-link : (d : Direction) → linkAt ds x d ≡ false
-    no-link d = by (linkAt ds x d) refl
-      where
-        by : (t : Bool) → linkAt ds x d ≡ t → linkAt ds x d ≡ false
-        by true e = off (blackAt ds) (S .solution .links .at-white x d e)
-        by false e = e
+    no-link d = off _ (λ e. not-white (blackAt ds) (S .solution .links .at-white x d e))
 
+    -- whoever came to it by a link, it had that link back
     pub off-loop : (t : ℕ) → Reach (b .next) (linkAt ds) t x → t ≡ x
     off-loop t (here e) = sym e
     off-loop t (along {x = y} {d = d} r l n) =
-        let (y', next, back) = S .solution .links .matched y d l in
-        let same : y' ≡ x = Option·some-injective y' x (sym next ∙ n) in
-        off (blackAt ds) (S .solution .links .at-white x (opposite d) (subst (λ y. linkAt ds y (opposite d) ≡ true) same back))
+        let (z, next, back) = S .solution .links .matched y d l in
+        let same : z ≡ x = Option·some-injective z x (sym next ∙ n) in
+        clash (ap (λ y. linkAt ds y (opposite d)) (sym same) ∙ back) (no-link (opposite d))
 
     pub drawn-so : getD ds x 0 ≡ 0x20
     drawn-so = subst (λ t. Allowed t (getD ds x 0)) shut (S .allowed x (h .inside))
@@ -123,88 +115,84 @@ module _ {b c : Board} (size : b .size ≡ c .size) (opens : b .isOpen ≡ c .is
         solution = record { only-open = R .only-open; untouched = R .untouched; met = met; links = R .links; whole = R .whole };
       })
 
--- of two puzzles with the same grid
-module _ (g : Grid) (cs ds : List Cell) (x : ℕ) (d : Direction) (n : ℕ) (long : length cs ≡ size g) (same-long : length ds ≡ size g) (inside : x < size g)
-    (clued : getD cs x Open ≡ Clued d n) (shaded : getD ds x Open ≡ Shaded)
-    (others : (y : ℕ) → y < size g → (y ≡ x → ⊥) → getD cs y Open ≡ getD ds y Open) where
+module _ (s t : List ℕ) (x : ℕ) (d : Direction) (n : ℕ) (h : ClueShaded s t x d n) where
   abbrev first : Puzzle
-  first = record { grid = g; cells = cs }
+  first = puzzle (gridOf s) s
 
+  -- the second over the first one's grid
   abbrev second : Puzzle
-  second = record { grid = g; cells = ds }
+  second = record { grid = gridOf s; cells = puzzle (gridOf t) t .cells }
 
-  open-same : board first .isOpen ≡ board second .isOpen
-  open-same i y = open-alike cs ds (long ∙ sym same-long) at y i
+  second-is : board second ≡ boardOf t
+  second-is = ap (λ g. board (record { grid = g; cells = puzzle (gridOf t) t .cells })) (h .grid)
+
+  first-long : length (first .cells) ≡ size (gridOf s)
+  first-long = puzzle-filled (gridOf s) s
+
+  second-long : length (second .cells) ≡ size (gridOf s)
+  second-long = puzzle-filled (gridOf t) t ∙ ap size (sym (h .grid))
+
+  pub same-open : boardOf s .isOpen ≡ boardOf t .isOpen
+  same-open i y = open-alike (first .cells) (second .cells) (first-long ∙ sym second-long) at y i
     where
-      at : (y : ℕ) → y < length cs → openCell (getD cs y Open) ≡ openCell (getD ds y Open)
+      at : (y : ℕ) → y < length (first .cells) → openCell (gridCell s y) ≡ openCell (gridCell t y)
       at y l = by (eqb y x) refl
         where
-          by : (t : Bool) → eqb y x ≡ t → openCell (getD cs y Open) ≡ openCell (getD ds y Open)
-          by true e = let q = eqb-true y x e in rw (q, clued, shaded)
-          by false e = ap openCell (others y (omega arith) (eqb-false y x e))
+          by : (u : Bool) → eqb y x ≡ u → openCell (gridCell s y) ≡ openCell (gridCell t y)
+          by true e =
+              let q = eqb-true y x e in ap openCell (ap (gridCell s) q ∙ h .clue) ∙ sym (ap openCell (ap (gridCell t) q ∙ h .shaded))
+          by false e = let f = first-long in ap openCell (h .others y (omega arith) (eqb-false y x e))
 
   -- the clues of the second are those of the first that do not stand in x
   clue-kept : (k : Clue) → k ∈ board second .clues ↔ (k ∈ board first .clues) × (k .cell ≡ x → ⊥)
   clue-kept k = (λ m. of (of-clues second k m), λ p. to (of-clues first k (p .0)) (p .1))
     where
       of : ClueAt second k → (k ∈ board first .clues) × (k .cell ≡ x → ⊥)
-      of t =
-          let l = t .within in
-          let apart : k .cell ≡ x → ⊥ = (λ e. clash (ap isShaded shaded) (ap isShaded (ap (λ y. getD ds y Open) (sym e) ∙ t .read))) in
-          let read = others (k .cell) (omega arith) apart ∙ t .read in
-          (in-clues first k (record { direction = t .direction; within = omega arith; read = read; along = t .along }), apart)
+      of c =
+          let l = c .within in
+          let f = first-long in
+          let g = second-long in
+          let apart : k .cell ≡ x → ⊥ = (λ e. clash (ap isShaded (h .shaded)) (ap isShaded (ap (gridCell t) (sym e) ∙ c .read))) in
+          let read = h .others (k .cell) (omega arith) apart ∙ c .read in
+          (in-clues first k (record { direction = c .direction; within = omega arith; read = read; along = c .along }), apart)
 
       to : ClueAt first k → (k .cell ≡ x → ⊥) → k ∈ board second .clues
-      to t apart =
-          let l = t .within in
-          let read = sym (others (k .cell) (omega arith) apart) ∙ t .read in
-          in-clues second k (record { direction = t .direction; within = omega arith; read = read; along = t .along })
-
-  -- a clue of the first that stands in x
-  clue-there : (k : Clue) → k ∈ board first .clues → k .cell ≡ x → k ≡ clueIn first x d n
-  clue-there k m q =
-      let t = of-clues first k m in
-      let read : Clued (t .direction) (k .number) ≡ Clued d n = sym (t .read) ∙ ap (λ y. getD cs y Open) q ∙ clued in
-      (λ i. record { cell = k .cell; number = k .number; line = t .along i }) ∙ (λ i. getD (clueOf first (q i) (read i)) 0 k)
-
-  clue-solutions : (bs : List ℕ) → SolutionBytes (board first) bs ↔ SolutionBytes (board second) bs × (howMany (blackAt bs) (line first d x) ≡ n)
-  clue-solutions bs = (
-    λ S. let met = S .solution .met in (
-      with-clues refl open-same refl S (all-in (Met bs) (board second .clues) (λ k m. all-at (Met bs) met (clue-kept k .0 m .0))),
-      all-at (Met bs) met (in-clues first (clueIn first x d n) (record { direction = d; within = omega arith; read = clued; along = refl })),
-    ),
-    λ R. with-clues refl (sym open-same) refl (R .0) (all-in (Met bs) (board first .clues) (λ k m. by R k m (eqb (k .cell) x) refl)),
-  )
-    where
-      by : SolutionBytes (board second) bs × (howMany (blackAt bs) (line first d x) ≡ n) → (k : Clue) → k ∈ board first .clues
-          → (t : Bool) → eqb (k .cell) x ≡ t → Met bs k
-      by R k m true e = subst (Met bs) (sym (clue-there k m (eqb-true (k .cell) x e))) (R .1)
-      by R k m false e = all-at (Met bs) (R .0 .solution .met) (clue-kept k .1 (m, eqb-false (k .cell) x e))
-
-module _ (s t : List ℕ) (x : ℕ) (d : Direction) (n : ℕ) (h : ClueShaded s t x d n) where
-  abbrev cells : List ℕ → List Cell
-  cells r = puzzle (gridOf r) r .cells
-
-  same-long : length (cells t) ≡ size (gridOf s)
-  same-long = puzzle-filled (gridOf t) t ∙ ap size (sym (h .grid))
-
-  -- the second over the first one's grid
-  second-is : board (record { grid = gridOf s; cells = cells t }) ≡ boardOf t
-  second-is = ap (λ g. board (record { grid = g; cells = cells t })) (h .grid)
-
-  pub same-open : boardOf s .isOpen ≡ boardOf t .isOpen
-  same-open = open-same (gridOf s) (cells s) (cells t) x d n (puzzle-filled (gridOf s) s) same-long (h .inside) (h .clue) (h .shaded) (h .others)
+      to c apart =
+          let l = c .within in
+          let f = first-long in
+          let g = second-long in
+          let read = sym (h .others (k .cell) (omega arith) apart) ∙ c .read in
+          in-clues second k (record { direction = c .direction; within = omega arith; read = read; along = c .along })
 
   pub same-clues : (k : Clue) → k ∈ boardOf t .clues ↔ (k ∈ boardOf s .clues) × (k .cell ≡ x → ⊥)
-  same-clues k =
-      subst (λ (b : Board). k ∈ b .clues ↔ (k ∈ boardOf s .clues) × (k .cell ≡ x → ⊥)) second-is
-      (clue-kept (gridOf s) (cells s) (cells t) x d n (puzzle-filled (gridOf s) s) same-long (h .inside) (h .clue) (h .shaded) (h .others) k)
+  same-clues k = subst (λ (b : Board). k ∈ b .clues ↔ (k ∈ boardOf s .clues) × (k .cell ≡ x → ⊥)) second-is (clue-kept k)
 
-  pub same-solutions : (ds : List ℕ)
-      → SolutionBytes (boardOf s) ds ↔ SolutionBytes (boardOf t) ds × (howMany (blackAt ds) (line (puzzle (gridOf s) s) d x) ≡ n)
-  same-solutions ds =
-      subst (λ b. SolutionBytes (boardOf s) ds ↔ SolutionBytes b ds × (howMany (blackAt ds) (line (puzzle (gridOf s) s) d x) ≡ n)) second-is
-      (clue-solutions (gridOf s) (cells s) (cells t) x d n (puzzle-filled (gridOf s) s) same-long (h .inside) (h .clue) (h .shaded) (h .others) ds)
+  -- the clue of the first that stands in x
+  clue-there : (k : Clue) → k ∈ board first .clues → k .cell ≡ x → k ≡ clueIn first x d n
+  clue-there k m q =
+      let c = of-clues first k m in
+      let read : Clued (c .direction) (k .number) ≡ Clued d n = sym (c .read) ∙ ap (gridCell s) q ∙ h .clue in
+      (λ i. record { cell = k .cell; number = k .number; line = c .along i }) ∙ (λ i. getD (clueOf first (q i) (read i)) 0 k)
+
+  there-clue : clueIn first x d n ∈ board first .clues
+  there-clue =
+      let l = h .inside in
+      let f = first-long in
+      in-clues first (clueIn first x d n) (record { direction = d; within = omega arith; read = h .clue; along = refl })
+
+  pub same-solutions : (ds : List ℕ) → SolutionBytes (boardOf s) ds ↔ SolutionBytes (boardOf t) ds × (howMany (blackAt ds) (line first d x) ≡ n)
+  same-solutions ds = subst (λ b. SolutionBytes (boardOf s) ds ↔ SolutionBytes b ds × (howMany (blackAt ds) (line first d x) ≡ n)) second-is (
+    λ S. let met = S .solution .met in (
+      with-clues refl same-open refl S (all-in (Met ds) (board second .clues) (λ k m. all-at (Met ds) met (clue-kept k .0 m .0))),
+      all-at (Met ds) met there-clue,
+    ),
+    λ R. with-clues refl (sym same-open) refl (R .0) (all-in (Met ds) (board first .clues) (λ k m. by R k m (eqb (k .cell) x) refl)),
+  )
+    where
+      by : SolutionBytes (board second) ds × (howMany (blackAt ds) (line first d x) ≡ n) → (k : Clue) → k ∈ board first .clues
+          → (u : Bool) → eqb (k .cell) x ≡ u → Met ds k
+      by R k m true e = subst (Met ds) (sym (clue-there k m (eqb-true (k .cell) x e))) (R .1)
+      by R k m false e = all-at (Met ds) (R .0 .solution .met) (clue-kept k .1 (m, eqb-false (k .cell) x e))
 
 -- 4. Its code
 
