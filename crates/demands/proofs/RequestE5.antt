@@ -2,6 +2,7 @@
 use Prim.Native.Nat.{ℕ}
 use lib.ListN.{getD}
 use mathlib.Core.Path.{_≡_, refl, sym, _∙_, ap}
+use mathlib.Core.Bool.{true}
 use mathlib.Core.Option.{some, Option·some-injective}
 use mathlib.Core.List.{List, [], _∷_, map}
 use Rattle.answers.specs.First.{firstFrom}
@@ -62,20 +63,23 @@ unfolding firstFrom outward around among
 no-white = refl
 
 module _ (s : List ℕ) (x : ℕ) (h : ShadedAt s x) where
+  not-this : (y : ℕ) → boardOf s .isOpen y ≡ true → y ≡ x → ⊥
+  not-this y o e = clash (ap (boardOf s .isOpen) (sym e) ∙ o) (shaded.shut s x h)
+
   no-variable : (v : Variable) → v ∈ variables (boardOf s) → variableCell v ≡ x → ⊥
   no-variable v m e = by v (of-variables (boardOf s) v m) e
     where
       by : (v : Variable) → Known (boardOf s) v → variableCell v ≡ x → ⊥
-      by (Z y) k e = clash (ap (boardOf s .isOpen) (sym e) ∙ k) (shaded.shut s x h)
-      by (S y) k e = clash (ap (boardOf s .isOpen) (sym e) ∙ k) (shaded.shut s x h)
-      by (E y d) k e = clash (ap (boardOf s .isOpen) (sym e) ∙ k .0) (shaded.shut s x h)
-      by (Q y k) o e = clash (ap (boardOf s .isOpen) (sym e) ∙ o .0) (shaded.shut s x h)
+      by (Z y) o e = not-this y o e
+      by (S y) o e = not-this y o e
+      by (E y d) k e = not-this y (k .0) e
+      by (Q y k) o e = not-this y (o .0) e
       by (T y j t) k e = shaded.no-clue s x h (k .0) (k .1) (k .2 ∙ e)
 
   none-to : (y : ℕ) (d : Direction) → boardOf s .next d y ≡ some x → E y d ∈ variables (boardOf s) → ⊥
   none-to y d e m =
       let (o, (z, next, opened)) = of-variables (boardOf s) (E y d) m in
-      clash (ap (boardOf s .isOpen) (Option·some-injective x z (sym e ∙ next)) ∙ opened) (shaded.shut s x h)
+      not-this z opened (Option·some-injective z x (sym next ∙ e))
 
   decoded-byte : (values : List ℕ) → getD (decoded (boardOf s) values) x 0 ≡ 0x20
   decoded-byte values =
@@ -94,9 +98,9 @@ request-e5 =
       code-two = shaded.shaded-exactly Two;
       no-other-one = shaded.no-other One;
       no-other-two = shaded.no-other Two;
-      solution-byte = shaded.drawn-so;
+      solution-byte = shaded.solution-byte;
       decoded-byte = decoded-byte;
-      judged-byte = shaded.byte-asked;
+      judged-byte = shaded.judged-byte;
       no-variable = no-variable;
       none-to = none-to;
       same-clues = shaded.same-clues;

@@ -71,7 +71,7 @@ pub record RequestE5 : Type 0 where
   pub code-one : (s : List ℕ) → OfKind kindOne s → IsAccepted s → (x : ℕ) → ShadedAt s x ↔ (x < cellCount s) × (codeAt kindOne s x ≡ 0x50)
   pub code-two : (s : List ℕ) → OfKind kindTwo s → IsAccepted s → (x : ℕ) → ShadedAt s x ↔ (x < cellCount s) × (codeAt kindTwo s x ≡ 0x5000)
   -- "so 0x50 leaves the refused cells of document 01."
-  -- (From it on no other code is that of a cell; so in kind 2.)
+  -- (From 0x50 on, 0x50 alone is the code of a cell; in kind 2, from 0x5000 on, 0x5000.)
   pub no-other-one : (c : ℕ) → 0x50 ≤ c → ((e : Cell) × CodeIs kindOne c e) ↔ (c ≡ 0x50)
   pub no-other-two : (c : ℕ) → 0x5000 ≤ c → ((e : Cell) × CodeIs kindTwo c e) ↔ (c ≡ 0x5000)
   -- "It draws as 0x20,"
@@ -86,7 +86,8 @@ pub record RequestE5 : Type 0 where
   pub none-to : (s : List ℕ) (x : ℕ) → ShadedAt s x → (y : ℕ) (d : Direction) → boardOf s .next d y ≡ some x → E y d ∈ variables (boardOf s) → ⊥
   -- "and in a clue's line acts as a clue cell."
   -- (Of two grids that differ in a cell x that is a clue in the first and shaded in the second: the clues of the second are those of the first but the one in
-  -- x, with their lines, and each has the same clauses; and the solutions of the first are those of the second in which the clue in x is met.)
+  -- x, with their lines, and each has the same clauses, by the letters of the variables; and the solutions of the first are those of the second in which the
+  -- clue in x is met.)
   pub same-clues : (s t : List ℕ) (x : ℕ) (d : Direction) (n : ℕ) → ClueShaded s t x d n
       → (c : Clue) → c ∈ boardOf t .clues ↔ (c ∈ boardOf s .clues) × (c .cell ≡ x → ⊥)
   pub same-clauses : (s t : List ℕ) (x : ℕ) (d : Direction) (n : ℕ) → ClueShaded s t x d n

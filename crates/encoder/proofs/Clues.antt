@@ -1,4 +1,4 @@
--- The clues met so far, in a loop over the cells: what `place-t` and the list of clue lines go by; a cell that is a clue is among them. Assumes nothing.
+-- The clues met so far, in a loop over the cells: what `place-t` and the list of clue lines go by, and where a clue stands among them. Assumes nothing.
 use Prim.Native.Nat.{ℕ, zero, suc, _+_, _<_}
 use native.Mathlib.Omega.{arith}
 use native.Mathlib.Numerals.{add-one}

@@ -12,7 +12,7 @@ use Rattle.rules.specs.declared.Cell.{Cell}
 use Rattle.rules.specs.declared.Cell.the-variants.{Open, Clue as Clued}
 use Rattle.rules.specs.declared.Grid.{Grid}
 use Rattle.rules.specs.Record.{size, puzzle, mostCells, RecordFits}
-use Rattle.rules.specs.Board.{Clue, line, clueOf, cluesFrom, gridBoard}
+use Rattle.rules.specs.Board.{line, clueIn, clueOf, cluesFrom, gridBoard}
 use Rattle.rules.proofs.Records.{puzzle-filled}
 use Rattle.answers.specs.Lists.{upTo, each, joined}
 use Rattle.encoder.specs.Variables.{T, number}
@@ -49,7 +49,7 @@ module _ {g : Grid} {s : List ℕ} (h : RecordFits g s) (x : ℕ) (l : x < size 
       let b = gridBoard g s in
       let p = puzzle g s in
       let w = puzzle-filled g s in
-      let k : Clue = record { cell = x; number = n; line = line p d x } in
+      let k = clueIn p x d n in
       let m = at-clue p x (omega arith) (sym e ∙ q) in
       let r = place-t b (fits-laws h) k (cluesFrom p 0 (take x (p .cells))) 0 0 m (omega arith) (omega arith) in
       let z : number b (T x 0 0) ≡ first = omega arith in

@@ -49,9 +49,9 @@ module _ (g : Grid) (s : List ℕ) where
     pub wrote : Wrote table₀ 0 (rows x) table at
 
 module _ {g : Grid} {s : List ℕ} where
-  pub fill-start : {n : ℕ} {table : List ℕ} → n ≡ size g → 3 * size g ≤ length table
-      → Filling g s n table table (record { opens = 0; links = 0; counts = 0 }) 0 0
-  fill-start {table = table} e h = record { within = omega arith; whole = e; room = h; is = refl; wrote = wrote-nothing table 0 }
+  pub fill-start : {n : ℕ} {table : List ℕ} {z : Sizes} → n ≡ size g → 3 * size g ≤ length table → z ≡ record { opens = 0; links = 0; counts = 0 }
+      → Filling g s n table table z 0 0
+  fill-start {table = table} e h q = record { within = omega arith; whole = e; room = h; is = q; wrote = wrote-nothing table 0 }
 
   module _ {n : ℕ} {table₀ table : List ℕ} {below : Sizes} {at x : ℕ} (p : Filling g s n table₀ table below at x) where
     pub fill-long : length table ≡ length table₀

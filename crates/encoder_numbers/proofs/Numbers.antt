@@ -16,7 +16,7 @@ use Rattle.rules.specs.declared.Cell.the-variants.{Open, Clue as Clued, Shaded}
 use Rattle.rules.specs.declared.Grid.{Grid}
 use Rattle.rules.specs.Record.{Puzzle, size, puzzle, mostCells, RecordFits}
 use Rattle.rules.specs.Directions.{bit}
-use Rattle.rules.specs.Board.{Clue, Board, openCell, line, clueOf, cluesFrom, gridBoard}
+use Rattle.rules.specs.Board.{Board, openCell, line, clueIn, clueOf, cluesFrom, gridBoard}
 use Rattle.rules.proofs.Records.{numberOf, puzzle-filled, number-small}
 use Rattle.answers.specs.Lists.{upTo, each}
 use Rattle.encoder.specs.Variables.{directions, openCount, ifOpen, ifThere, neighbours, out, outgoing, linkVariables, clueCounts, counts, variableCount, lower}
@@ -108,7 +108,7 @@ counts-on p x h =
 pub clue-counts : (p : Puzzle) (x : ℕ) {c : Cell} {d : Direction} {n l : ℕ} → c ≡ Clued d n → c ≡ getD (p .cells) x Open → l ≡ length (line p d x)
     → (l + 1) * (n + 1) ≡ cellCounts p x
 clue-counts p x {c} {d} {n} {l} e h q =
-    let k : Clue = record { cell = x; number = n; line = line p d x } in
+    let k = clueIn p x d n in
     (λ i. (add-one l ∙ ap suc q) i * add-one n i)
     ∙ sym (ap (λ c. length (each (clueOf p x c) clueCounts)) (sym h ∙ e) ∙ ap length (append-nil (clueCounts k)) ∙ clue-long k)
 
@@ -155,7 +155,7 @@ counts-are {g} {s} h =
 -- 3. The sizes of a cell and of the cells before it, and their bounds
 
 module _ {g : Grid} {s : List ℕ} (h : RecordFits g s) {x : ℕ} (l : x < size g) where
-  -- the cell is open, or it is not and has some T variables
+  -- the sizes of an open cell, and of one that is not, which has its T variables only, if any
   module _ {c : Cell} (q : c ≡ getD (puzzle g s .cells) x Open) where
     is-open : {t : Bool} → openCell c ≡ t → gridBoard g s .isOpen x ≡ t
     is-open e = sym (is-opened h l q) ∙ e

@@ -84,7 +84,7 @@ pub fn neighbour_count(g: Grid, record: &[u8], x: usize) -> usize
 }
 
 // So many open cells, E variables and T variables.
-fn sizes(opens: usize, links: usize, counts: usize) -> Sizes
+fn new_sizes(opens: usize, links: usize, counts: usize) -> Sizes
     ensures { λ r. ⌜ r ≡ record { opens = opens; links = links; counts = counts } ⌝ }
 {
     Sizes {
@@ -104,14 +104,14 @@ fn sizes_at(g: Grid, record: &[u8], x: usize) -> Sizes
     match c {
         Cell::Open => {
             let links = neighbour_count(g, record, x);
-            sizes(1, links, 0)
+            new_sizes(1, links, 0)
         }
         Cell::Clue(d, n) => {
             let end = line_end(g, record, x, d);
             let cells = end.cells;
-            sizes(0, 0, (cells + 1) * (n as usize + 1))
+            new_sizes(0, 0, (cells + 1) * (n as usize + 1))
         }
-        Cell::Shaded => sizes(0, 0, 0),
+        Cell::Shaded => new_sizes(0, 0, 0),
     }
 }
 
@@ -122,7 +122,7 @@ fn with_cell(g: Grid, record: &[u8], below: Sizes, x: usize) -> Sizes
     ensures { λ r. ⌜ r ≡ sizesBelow g (now («record» .entry)) (x + 1) ⌝ }
 {
     let more = sizes_at(g, record, x);
-    sizes(
+    new_sizes(
         below.opens + more.opens,
         below.links + more.links,
         below.counts + more.counts,
@@ -148,11 +148,7 @@ pub fn fill(g: Grid, record: &[u8], table: &mut [usize]) -> Sizes
     ensures { λ r. ⌜ now (table .exit) ≡ filled (now (table .entry)) (tableOf g (now («record» .entry))) ⌝ }
 {
     let n = g.size();
-    let mut below = Sizes {
-        opens: 0,
-        links: 0,
-        counts: 0,
-    };
+    let mut below = new_sizes(0, 0, 0);
     let mut at = 0;
     let mut x = 0;
     while x < n {
@@ -170,14 +166,7 @@ pub fn sizes_below(g: Grid, record: &[u8], sizes: Sizes, table: &[usize], x: usi
     ensures { λ r. ⌜ r ≡ sizesBelow g (now («record» .entry)) x ⌝ }
 {
     let at = 3 * x;
-    let opens = table[at];
-    let links = table[at + 1];
-    let counts = table[at + 2];
-    Sizes {
-        opens,
-        links,
-        counts,
-    }
+    new_sizes(table[at], table[at + 1], table[at + 2])
 }
 
 // V: 2F + A + F times F + the T variables.

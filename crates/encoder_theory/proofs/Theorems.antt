@@ -16,7 +16,7 @@ use Rattle.answers.proofs.First.{first-with}
 use Rattle.rules.specs.declared.Direction.{Direction}
 use Rattle.rules.specs.declared.Cell.the-variants.{Clue as Clued}
 use Rattle.rules.specs.Record.{Puzzle, puzzle, gridCell, gridOf, size, IsAccepted}
-use Rattle.rules.specs.Board.{Board, line, board, boardOf}
+use Rattle.rules.specs.Board.{Board, line, clueIn, board, boardOf}
 use Rattle.rules.specs.Drawing.{blacksNearest, blackAt, SolutionBytes}
 use Rattle.rules.proofs.Boards.{Laws, Filled}
 use Rattle.rules.proofs.Records.{numberOf, puzzle-filled, accepted-laws}
@@ -89,7 +89,7 @@ pub side-by-side : (s : List ℕ) → IsAccepted s → (a : List Bool) → Satis
     → valuation (boardOf s) a (T x j t) ≡ true ↔ blacksNearest (blackAt ds) (line (puzzle (gridOf s) s) d x) j ≡ t
 side-by-side s acc a h ds dec x d n inside is j t l k = (λ p. eqb-true _ t (sym e ∙ p), λ p. e ∙ eq-eqb _ t p)
   where
-    clue : record { cell = x; number = n; line = line (puzzle (gridOf s) s) d x } ∈ boardOf s .clues
+    clue : clueIn (puzzle (gridOf s) s) x d n ∈ boardOf s .clues
     clue =
         let f = puzzle-filled (gridOf s) s in
         in-clues (puzzle (gridOf s) s) _ (record { direction = d; within = omega arith; read = is; along = refl })

@@ -45,6 +45,7 @@ target g west x = x - 1
 abbrev pub neighbour : Grid → Direction → ℕ → Option ℕ
 neighbour g d x = when (ltb x (size g) && inside g d x) (target g d x)
 
+-- clues and shaded cells are not open
 abbrev pub openCell : Cell → Bool
 openCell Open = true
 openCell (Clued d n) = false
@@ -73,6 +74,7 @@ line p d x = outward (p .grid) d (size (p .grid)) x []
 abbrev pub clueIn : Puzzle → ℕ → Direction → ℕ → Clue
 clueIn p x d n = record { cell = x; number = n; line = line p d x }
 
+-- the clue of a cell, if it is one
 abbrev pub clueOf : Puzzle → ℕ → Cell → List Clue
 clueOf p x Open = []
 clueOf p x (Clued d n) = clueIn p x d n ∷ []

@@ -1,4 +1,5 @@
--- Theorems about grids, drawings and the judge. Read Theorems.antt: it states the results. The others are in the order of the proofs.
+-- Theorems about grids, drawings and the judge. Read Theorems.antt: it states the results; and
+-- Shaded.antt for those about shaded cells. The others are in the order of the proofs.
 pub mod Theorems
 pub mod Finite
 pub mod Directions

@@ -48,6 +48,10 @@ isShaded Open = false
 isShaded (Clued d n) = false
 isShaded Shaded = true
 
+-- no cell is both shaded and a clue
+not-both : {c : Cell} {d : Direction} {n : ℕ} → c ≡ Shaded → c ≡ Clued d n → ⊥
+not-both h k = clash (ap isShaded h) (ap isShaded k)
+
 -- a cell that is not open is a clue or shaded
 pub not-open : (s : List ℕ) (x : ℕ) → x < size (gridOf s)
     → boardOf s .isOpen x ≡ false ↔ ((d : Direction) × (n : ℕ) × (gridCell s x ≡ Clued d n)) ⊎ (gridCell s x ≡ Shaded)
@@ -71,8 +75,7 @@ module _ (s : List ℕ) (x : ℕ) (h : ShadedAt s x) where
   shut = not-open s x (h .inside) .1 (inr (h .shaded))
 
   pub no-clue : (c : Clue) → c ∈ b .clues → c .cell ≡ x → ⊥
-  no-clue c m e =
-      clash (ap isShaded (h .shaded)) (ap isShaded (ap (gridCell s) (sym e) ∙ of-clues (puzzle (gridOf s) s) c m .read))
+  no-clue c m e = not-both (h .shaded) (ap (gridCell s) (sym e) ∙ of-clues (puzzle (gridOf s) s) c m .read)
 
   not-white : (black : ℕ → Bool) → white b black x ≡ true → ⊥
   not-white black w = clash (and-both (b .isOpen x) _ w .0) shut
@@ -92,28 +95,26 @@ module _ (s : List ℕ) (x : ℕ) (h : ShadedAt s x) where
         let same : z ≡ x = Option·some-injective z x (sym next ∙ n) in
         clash (ap (λ y. linkAt ds y (opposite d)) (sym same) ∙ back) (no-link (opposite d))
 
-    pub drawn-so : getD ds x 0 ≡ 0x20
-    drawn-so = subst (λ t. Allowed t (getD ds x 0)) shut (S .allowed x (h .inside))
+    pub solution-byte : getD ds x 0 ≡ 0x20
+    solution-byte = subst (λ t. Allowed t (getD ds x 0)) shut (S .allowed x (h .inside))
 
   -- the judge asks for that byte
-  pub byte-asked : (ds : List ℕ) → badByteAt b ds x ≡ false ↔ getD ds x 0 ≡ 0x20
-  byte-asked ds = rw shut (allowed-byte false (getD ds x 0))
+  pub judged-byte : (ds : List ℕ) → badByteAt b ds x ≡ false ↔ getD ds x 0 ≡ 0x20
+  judged-byte ds = rw shut (allowed-byte false (getD ds x 0))
 
 -- 3. A clue made shaded
 
-module _ {b c : Board} (size : b .size ≡ c .size) (opens : b .isOpen ≡ c .isOpen) (next : b .next ≡ c .next) where
-  -- boards that differ in their clues only
-  with-clues : {ds : List ℕ} → SolutionBytes b ds → All (Met ds) (c .clues) → SolutionBytes c ds
-  with-clues {ds} S met =
-      let R = S .solution in
-      let same : _≡_ {A = Board} (record { size = b .size; isOpen = b .isOpen; next = b .next; clues = c .clues }) c =
-      (λ i. record { size = size i; isOpen = opens i; next = next i; clues = c .clues }) in
-      subst (λ b. SolutionBytes b ds) same
-      (record {
-        long = S .long;
-        allowed = S .allowed;
-        solution = record { only-open = R .only-open; untouched = R .untouched; met = met; links = R .links; whole = R .whole };
-      })
+-- another board whose open cells are the same, with clues that are met
+with-clues : (b : Board) {isOpen : ℕ → Bool} {cs : List Clue} {ds : List ℕ} → b .isOpen ≡ isOpen → SolutionBytes b ds → All (Met ds) cs
+    → SolutionBytes (record { size = b .size; isOpen = isOpen; next = b .next; clues = cs }) ds
+with-clues b {cs = cs} {ds} e S met =
+    let R = S .solution in
+    subst (λ isOpen. SolutionBytes (record { size = b .size; isOpen = isOpen; next = b .next; clues = cs }) ds) e
+    (record {
+      long = S .long;
+      allowed = S .allowed;
+      solution = record { only-open = R .only-open; untouched = R .untouched; met = met; links = R .links; whole = R .whole };
+    })
 
 module _ (s t : List ℕ) (x : ℕ) (d : Direction) (n : ℕ) (h : ClueShaded s t x d n) where
   abbrev first : Puzzle
@@ -152,7 +153,7 @@ module _ (s t : List ℕ) (x : ℕ) (d : Direction) (n : ℕ) (h : ClueShaded s 
           let l = c .within in
           let f = first-long in
           let g = second-long in
-          let apart : k .cell ≡ x → ⊥ = (λ e. clash (ap isShaded (h .shaded)) (ap isShaded (ap (gridCell t) (sym e) ∙ c .read))) in
+          let apart : k .cell ≡ x → ⊥ = (λ e. not-both (h .shaded) (ap (gridCell t) (sym e) ∙ c .read)) in
           let read = h .others (k .cell) (omega arith) apart ∙ c .read in
           (in-clues first k (record { direction = c .direction; within = omega arith; read = read; along = c .along }), apart)
 
@@ -168,14 +169,14 @@ module _ (s t : List ℕ) (x : ℕ) (d : Direction) (n : ℕ) (h : ClueShaded s 
   same-clues k = subst (λ (b : Board). k ∈ b .clues ↔ (k ∈ boardOf s .clues) × (k .cell ≡ x → ⊥)) second-is (clue-kept k)
 
   -- the clue of the first that stands in x
-  clue-there : (k : Clue) → k ∈ board first .clues → k .cell ≡ x → k ≡ clueIn first x d n
-  clue-there k m q =
+  clue-in-x : (k : Clue) → k ∈ board first .clues → k .cell ≡ x → k ≡ clueIn first x d n
+  clue-in-x k m q =
       let c = of-clues first k m in
       let read : Clued (c .direction) (k .number) ≡ Clued d n = sym (c .read) ∙ ap (gridCell s) q ∙ h .clue in
       (λ i. record { cell = k .cell; number = k .number; line = c .along i }) ∙ (λ i. getD (clueOf first (q i) (read i)) 0 k)
 
-  there-clue : clueIn first x d n ∈ board first .clues
-  there-clue =
+  x-has-clue : clueIn first x d n ∈ board first .clues
+  x-has-clue =
       let l = h .inside in
       let f = first-long in
       in-clues first (clueIn first x d n) (record { direction = d; within = omega arith; read = h .clue; along = refl })
@@ -183,15 +184,15 @@ module _ (s t : List ℕ) (x : ℕ) (d : Direction) (n : ℕ) (h : ClueShaded s 
   pub same-solutions : (ds : List ℕ) → SolutionBytes (boardOf s) ds ↔ SolutionBytes (boardOf t) ds × (howMany (blackAt ds) (line first d x) ≡ n)
   same-solutions ds = subst (λ b. SolutionBytes (boardOf s) ds ↔ SolutionBytes b ds × (howMany (blackAt ds) (line first d x) ≡ n)) second-is (
     λ S. let met = S .solution .met in (
-      with-clues refl same-open refl S (all-in (Met ds) (board second .clues) (λ k m. all-at (Met ds) met (clue-kept k .0 m .0))),
-      all-at (Met ds) met there-clue,
+      with-clues (board first) same-open S (all-in (Met ds) (board second .clues) (λ k m. all-at (Met ds) met (clue-kept k .0 m .0))),
+      all-at (Met ds) met x-has-clue,
     ),
-    λ R. with-clues refl (sym same-open) refl (R .0) (all-in (Met ds) (board first .clues) (λ k m. by R k m (eqb (k .cell) x) refl)),
+    λ R. with-clues (board second) (sym same-open) (R .0) (all-in (Met ds) (board first .clues) (λ k m. by R k m (eqb (k .cell) x) refl)),
   )
     where
       by : SolutionBytes (board second) ds × (howMany (blackAt ds) (line first d x) ≡ n) → (k : Clue) → k ∈ board first .clues
           → (u : Bool) → eqb (k .cell) x ≡ u → Met ds k
-      by R k m true e = subst (Met ds) (sym (clue-there k m (eqb-true (k .cell) x e))) (R .1)
+      by R k m true e = subst (Met ds) (sym (clue-in-x k m (eqb-true (k .cell) x e))) (R .1)
       by R k m false e = all-at (Met ds) (R .0 .solution .met) (clue-kept k .1 (m, eqb-false (k .cell) x e))
 
 -- 4. Its code

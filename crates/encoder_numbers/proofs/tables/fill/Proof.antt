@@ -15,16 +15,19 @@ abbrev μ-loop : tie.MeasureT-loop
 
 -- the start, from a turn of the loop
 abbrev s1 : tie.In-loop Inv-loop μ-loop → tie.Start Inv-loop μ-loop
-s1 c = c .before .before .before .before .before
+s1 c = c .before .before .before .before .before .before
 
 inside : (c : tie.In-loop Inv-loop μ-loop) → c .before .loop .x < size (s1 c .args .g)
-inside c = omega (arith, c .before .before .size .ensures)
+inside c = omega (arith, c .before .before .before .size .ensures)
 
 size-requires : tie.Need-size-requires Inv-loop μ-loop
 size-requires c κs = search needs
 
+new-sizes-requires : tie.Need-new-sizes-requires Inv-loop μ-loop
+new-sizes-requires c κs = search needs
+
 loop-holds : tie.Need-loop-holds Inv-loop μ-loop
-loop-holds c = fill-start (c .size .ensures) (c .before .before .before .pre .1)
+loop-holds c = fill-start (c .before .size .ensures) (c .before .before .before .before .pre .1) (c .new-sizes .ensures)
 
 put-row-requires : tie.Need-put-row-requires Inv-loop μ-loop
 put-row-requires c κs = fill-room (c .before .before .loop .inv) (omega arith)
@@ -55,6 +58,7 @@ fill-spec =
     Inv-loop
     μ-loop
     size-requires
+    new-sizes-requires
     loop-holds
     put-row-requires
     with-cell-requires

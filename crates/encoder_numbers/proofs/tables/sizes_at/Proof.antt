@@ -34,8 +34,8 @@ enum-told c = search needs
 neighbour-count-requires : tie.Need-neighbour-count-requires
 neighbour-count-requires c κs = search needs
 
-sizes-requires : tie.Need-sizes-requires
-sizes-requires c κs = search needs
+new-sizes-requires : tie.Need-new-sizes-requires
+new-sizes-requires c κs = search needs
 
 enum-known-c : tie.Need-enum-known-c
 enum-known-c c = search needs
@@ -43,39 +43,39 @@ enum-known-c c = search needs
 line-end-requires : tie.Need-line-end-requires
 line-end-requires c κs = search needs
 
-add-sizes : tie.Need-add-sizes
-add-sizes c =
+add-new-sizes : tie.Need-add-new-sizes
+add-new-sizes c =
     let s = s2 c in omega (arith, c .line-end .ensures .1, line-few (s .pre .0) (s .pre .1) (c .before .before .c .given .0 .0))
 
-cast-sizes : tie.Need-cast-sizes
-cast-sizes c = search needs
+cast-new-sizes : tie.Need-cast-new-sizes
+cast-new-sizes c = search needs
 
-add-sizes-2 : tie.Need-add-sizes-2
-add-sizes-2 c = search needs
+add-new-sizes-2 : tie.Need-add-new-sizes-2
+add-new-sizes-2 c = search needs
 
-mul-sizes : tie.Need-mul-sizes
-mul-sizes c = let s = s2 c in omega (arith, counted c, counts-few (s .pre .0) (s .pre .1))
+mul-new-sizes : tie.Need-mul-new-sizes
+mul-new-sizes c = let s = s2 c in omega (arith, counted c, counts-few (s .pre .0) (s .pre .1))
 
-sizes-requires-2 : tie.Need-sizes-requires-2
-sizes-requires-2 c κs = search needs
+new-sizes-requires-2 : tie.Need-new-sizes-requires-2
+new-sizes-requires-2 c κs = search needs
 
 enum-told-2 : tie.Need-enum-told-2
 enum-told-2 c = search needs
 
-sizes-requires-3 : tie.Need-sizes-requires-3
-sizes-requires-3 c κs = search needs
+new-sizes-requires-3 : tie.Need-new-sizes-requires-3
+new-sizes-requires-3 c κs = search needs
 
 returns : tie.Need-returns
 returns c =
     let k = c .before in
-    c .sizes .ensures ∙ open-sizes (s1 k .pre .0) (s1 k .pre .1) (k .before .before .before .cell .ensures) (k .before .enum-told .given .1)
+    c .new-sizes .ensures ∙ open-sizes (s1 k .pre .0) (s1 k .pre .1) (k .before .before .before .cell .ensures) (k .before .enum-told .given .1)
     (k .neighbour-count .ensures)
 
 returns-2 : tie.Need-returns-2
 returns-2 c =
     let k = c .before in
     let q = k .before .before .before .before .cell .ensures in
-    c .sizes2 .ensures ∙ shut-sizes (s2 k .pre .0) (s2 k .pre .1) q (ap openCell (k .before .before .c .given .1)) (counted k)
+    c .new-sizes2 .ensures ∙ shut-sizes (s2 k .pre .0) (s2 k .pre .1) q (ap openCell (k .before .before .c .given .1)) (counted k)
 
 returns-3 : tie.Need-returns-3
 returns-3 c =
@@ -83,7 +83,7 @@ returns-3 c =
     let shaded = c .before .enum-told2 .given .1 in
     let q = c .before .before .before .cell .ensures in
     let p = puzzle (s .args .g) (s .args .«record» .now) in
-    c .sizes3 .ensures ∙ shut-sizes (s .pre .0) (s .pre .1) q (ap openCell shaded) (no-counts p (s .args .x) (ap (clueOf p (s .args .x)) shaded) q)
+    c .new-sizes3 .ensures ∙ shut-sizes (s .pre .0) (s .pre .1) q (ap openCell shaded) (no-counts p (s .args .x) (ap (clueOf p (s .args .x)) shaded) q)
 
 pub sizes-at-spec : {M : Type 1} → statement M
 sizes-at-spec =
@@ -92,16 +92,16 @@ sizes-at-spec =
     cell-requires
     enum-told
     neighbour-count-requires
-    sizes-requires
+    new-sizes-requires
     enum-known-c
     line-end-requires
-    add-sizes
-    cast-sizes
-    add-sizes-2
-    mul-sizes
-    sizes-requires-2
+    add-new-sizes
+    cast-new-sizes
+    add-new-sizes-2
+    mul-new-sizes
+    new-sizes-requires-2
     enum-told-2
-    sizes-requires-3
+    new-sizes-requires-3
     returns
     returns-2
     returns-3)

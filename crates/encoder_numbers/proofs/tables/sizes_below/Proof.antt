@@ -10,36 +10,39 @@ use Rattle.encoder_numbers.proofs.tables.sizes_below.Tie as tie
 mul-at : tie.Need-mul-at
 mul-at c = search needs
 
-mul-opens : tie.Need-mul-opens
-mul-opens c = search needs
+mul-new-sizes : tie.Need-mul-new-sizes
+mul-new-sizes c = search needs
 
-shared-slice-read-opens : tie.Need-shared-slice-read-opens
-shared-slice-read-opens c = search needs
+shared-slice-read-new-sizes : tie.Need-shared-slice-read-new-sizes
+shared-slice-read-new-sizes c = search needs
 
-add-links : tie.Need-add-links
-add-links c = search needs
+add-new-sizes : tie.Need-add-new-sizes
+add-new-sizes c = search needs
 
-mul-links : tie.Need-mul-links
-mul-links c = search needs
+mul-new-sizes-2 : tie.Need-mul-new-sizes-2
+mul-new-sizes-2 c = search needs
 
-shared-slice-read-links : tie.Need-shared-slice-read-links
-shared-slice-read-links c = search needs
+shared-slice-read-new-sizes-2 : tie.Need-shared-slice-read-new-sizes-2
+shared-slice-read-new-sizes-2 c = search needs
 
-add-counts : tie.Need-add-counts
-add-counts c = search needs
+add-new-sizes-2 : tie.Need-add-new-sizes-2
+add-new-sizes-2 c = search needs
 
-mul-counts : tie.Need-mul-counts
-mul-counts c = search needs
+mul-new-sizes-3 : tie.Need-mul-new-sizes-3
+mul-new-sizes-3 c = search needs
 
-shared-slice-read-counts : tie.Need-shared-slice-read-counts
-shared-slice-read-counts c = search needs
+shared-slice-read-new-sizes-3 : tie.Need-shared-slice-read-new-sizes-3
+shared-slice-read-new-sizes-3 c = search needs
+
+new-sizes-requires : tie.Need-new-sizes-requires
+new-sizes-requires c κs = search needs
 
 returns : tie.Need-returns
 returns c =
-    let s = c .before .before .before in
+    let s = c .before .before .before .before .before .before in
     let t = s .pre .0 .rows (s .args .x) in
     let e : 3 * s .args .x ≡ 3 * s .args .x + 0 = omega arith in
-    (λ i. record {
+    c .new-sizes .ensures ∙ (λ i. record {
       opens = (ap (λ k. getD (s .args .table .now) k 0) e ∙ t 0 (s .pre .1) (omega arith)) i;
       links = t 1 (s .pre .1) (omega arith) i;
       counts = t 2 (s .pre .1) (omega arith) i;
@@ -50,12 +53,13 @@ sizes-below-spec =
     tie.close
     (tie.spec
     mul-at
-    mul-opens
-    shared-slice-read-opens
-    add-links
-    mul-links
-    shared-slice-read-links
-    add-counts
-    mul-counts
-    shared-slice-read-counts
+    mul-new-sizes
+    shared-slice-read-new-sizes
+    add-new-sizes
+    mul-new-sizes-2
+    shared-slice-read-new-sizes-2
+    add-new-sizes-2
+    mul-new-sizes-3
+    shared-slice-read-new-sizes-3
+    new-sizes-requires
     returns)

@@ -1,7 +1,7 @@
 -- `encoder_numbers::tables::with_cell` meets its contract. Assumes nothing.
 use Prim.Native.Nat.{_+_}
 use native.Mathlib.Omega.{arith}
-use mathlib.Core.Path.{_≡_, refl, sym, _∙_, ap}
+use mathlib.Core.Path.{_≡_, refl, _∙_, ap}
 use Rattle.encoder_numbers.specs.declared.Sizes.{Sizes}
 use Rattle.encoder_numbers.specs.Tables.{sizesBelow}
 use Rattle.encoder_numbers.proofs.Numbers.{Few, sizes-few, sizes-next}
@@ -21,21 +21,21 @@ few c = let s = c .before .before in sizes-few (s .pre .0) (s .args .x + 1) (ome
 sizes-at-requires : tie.Need-sizes-at-requires
 sizes-at-requires c κs = search needs
 
-add-sizes : tie.Need-add-sizes
-add-sizes c = let k = c .before .before in omega (arith, ap (λ (z : Sizes). z .opens) (with-more k), few k .opens)
+add-new-sizes : tie.Need-add-new-sizes
+add-new-sizes c = let k = c .before .before in omega (arith, ap (λ (z : Sizes). z .opens) (with-more k), few k .opens)
 
-add-sizes-2 : tie.Need-add-sizes-2
-add-sizes-2 c = let k = c .before .before .before .before in omega (arith, ap (λ (z : Sizes). z .links) (with-more k), few k .links)
+add-new-sizes-2 : tie.Need-add-new-sizes-2
+add-new-sizes-2 c = let k = c .before .before .before .before in omega (arith, ap (λ (z : Sizes). z .links) (with-more k), few k .links)
 
-add-sizes-3 : tie.Need-add-sizes-3
-add-sizes-3 c = let k = c .before .before .before .before .before .before in omega (arith, ap (λ (z : Sizes). z .counts) (with-more k), few k .counts)
+add-new-sizes-3 : tie.Need-add-new-sizes-3
+add-new-sizes-3 c = let k = c .before .before .before .before .before .before in omega (arith, ap (λ (z : Sizes). z .counts) (with-more k), few k .counts)
 
-sizes-requires : tie.Need-sizes-requires
-sizes-requires c κs = search needs
+new-sizes-requires : tie.Need-new-sizes-requires
+new-sizes-requires c κs = search needs
 
 returns : tie.Need-returns
-returns c = c .sizes .ensures ∙ with-more (c .before .before .before .before .before .before .before)
+returns c = c .new-sizes .ensures ∙ with-more (c .before .before .before .before .before .before .before)
 
 pub with-cell-spec : {M : Type 1} → statement M
 with-cell-spec =
-    tie.close (tie.spec sizes-at-requires add-sizes add-sizes-2 add-sizes-3 sizes-requires returns)
+    tie.close (tie.spec sizes-at-requires add-new-sizes add-new-sizes-2 add-new-sizes-3 new-sizes-requires returns)
