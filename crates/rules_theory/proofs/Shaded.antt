@@ -87,7 +87,7 @@ module _ (s : List ℕ) (x : ℕ) (h : ShadedAt s x) where
     pub no-link : (d : Direction) → linkAt ds x d ≡ false
     no-link d = off _ (λ e. not-white (blackAt ds) (S .solution .links .at-white x d e))
 
-    -- whoever came to it by a link, it had that link back
+    -- a link that led to it would be matched by one of its own
     pub off-loop : (t : ℕ) → Reach (b .next) (linkAt ds) t x → t ≡ x
     off-loop t (here e) = sym e
     off-loop t (along {x = y} {d = d} r l n) =

@@ -18,6 +18,10 @@ with-more c = let s = c .before .before in sizes-next (s .pre .0) (s .pre .1 .0)
 few : (c : tie.After-sizes-at) → let s = c .before .before in Few (sizesBelow (s .args .g) (s .args .«record» .now) (s .args .x + 1))
 few c = let s = c .before .before in sizes-few (s .pre .0) (s .args .x + 1) (omega (arith, s .pre .1 .0)) refl
 
+-- the sizes of x, from where all their numbers were read
+abbrev s1 : tie.After-struct-known6 → tie.After-sizes-at
+s1 c = c .before .before .before .before .before .before
+
 sizes-at-requires : tie.Need-sizes-at-requires
 sizes-at-requires c κs = search needs
 
@@ -28,13 +32,13 @@ add-new-sizes-2 : tie.Need-add-new-sizes-2
 add-new-sizes-2 c = let k = c .before .before .before .before in omega (arith, ap (λ (z : Sizes). z .links) (with-more k), few k .links)
 
 add-new-sizes-3 : tie.Need-add-new-sizes-3
-add-new-sizes-3 c = let k = c .before .before .before .before .before .before in omega (arith, ap (λ (z : Sizes). z .counts) (with-more k), few k .counts)
+add-new-sizes-3 c = omega (arith, ap (λ (z : Sizes). z .counts) (with-more (s1 c)), few (s1 c) .counts)
 
 new-sizes-requires : tie.Need-new-sizes-requires
 new-sizes-requires c κs = search needs
 
 returns : tie.Need-returns
-returns c = c .new-sizes .ensures ∙ with-more (c .before .before .before .before .before .before .before)
+returns c = c .new-sizes .ensures ∙ with-more (s1 (c .before))
 
 pub with-cell-spec : {M : Type 1} → statement M
 with-cell-spec =
