@@ -24,12 +24,12 @@ pub data Number : Type 0 where
   ofClauses : ℕ → Number
   element : Header → ℕ → Bool → Number
 
--- line: before the header, at a line's first byte. comment: in a comment line. word: in `p cnf `, with the bytes that are to come.
+-- line: before the header, at a line's first byte. comment: in a comment line, with the state after it. word: in `p cnf `, with the bytes that are to come.
 -- first: before a number's first digit. digits: after a digit, with the number so far.
 -- clause: after the header, before an element; so many clauses are closed; whether the next is begun.
 pub data State : Type 0 where
   line : State
-  comment : State
+  comment : State → State
   word : List ℕ → State
   first : Number → State
   digits : Number → ℕ → State
@@ -96,8 +96,8 @@ clauseStep h k b =
     (firstDigit (element h k false) b))
 
 abbrev pub stepByte : State → ℕ → Option State
-stepByte line b = cond (eqb b 99) (some comment) (wordStep preamble b)
-stepByte comment b = cond (eqb b lineFeed) (some line) (when (ltb b 256) comment)
+stepByte line b = cond (eqb b 99) (some (comment line)) (wordStep preamble b)
+stepByte (comment s) b = cond (eqb b lineFeed) (some s) (when (ltb b 256) (comment s))
 stepByte (word ws) b = wordStep ws b
 stepByte (first n) b = firstDigit n b
 stepByte (digits n x) b = cond (isDigit b) (nextDigit n x b) (afterNumber n x b)
@@ -106,7 +106,7 @@ stepByte (clause h k begun) b = clauseStep h k b
 -- C clauses are read, and no other is begun
 abbrev pub accepts : State → Bool
 accepts line = false
-accepts comment = false
+accepts (comment s) = false
 accepts (word ws) = false
 accepts (first n) = false
 accepts (digits n x) = false
@@ -124,7 +124,7 @@ readElement (element h k negative) x = literalOf negative x ∷ []
 -- the element that a byte ends
 abbrev pub ended : State → ℕ → List ℤ
 ended line b = []
-ended comment b = []
+ended (comment s) b = []
 ended (word ws) b = []
 ended (first n) b = []
 ended (digits n x) b = cond (isDigit b) [] (readElement n x)
@@ -139,7 +139,7 @@ noHeader = headerWith 0 0
 
 abbrev pub headerIn : State → Header
 headerIn line = noHeader
-headerIn comment = noHeader
+headerIn (comment s) = noHeader
 headerIn (word ws) = noHeader
 headerIn (first n) = noHeader
 headerIn (digits n x) = noHeader

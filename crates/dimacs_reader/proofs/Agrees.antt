@@ -141,28 +141,28 @@ after-agrees {text} {n} {x = x} {b = b} r end {after} f y q =
 module _ (text : List ℕ) where
   abbrev Comments : Bool → ℕ → Type 0
   Comments inside a =
-      Agrees text (cond inside comment line) a (λ _ b. Run text (cond inside comment line) a [] (afterWord preamble) b) (commentsFrom inside (drop a text) a)
+      Agrees text (cond inside (comment line) line) a (λ _ b. Run text (cond inside (comment line) line) a [] (afterWord preamble) b) (commentsFrom inside (drop a text) a)
 
   comment-agrees : {a : ℕ} (h : a < length text) (inside : Bool) → ((t : Bool) → Comments t (suc a)) → Comments inside a
   comment-agrees {a} h true go = rw (comments-step text a h true) (by (eqb (getD text a 0) lineFeed) refl (ltb (getD text a 0) 256) refl)
     where
       by : (f : Bool) → eqb (getD text a 0) lineFeed ≡ f → (s : Bool) → ltb (getD text a 0) 256 ≡ s
-          → Agrees text comment a (λ _ b. Run text comment a [] (afterWord preamble) b)
+          → Agrees text (comment line) a (λ _ b. Run text (comment line) a [] (afterWord preamble) b)
           (cond f (commentsFrom false (drop (suc a) text) (suc a)) (cond s (commentsFrom true (drop (suc a) text) (suc a)) (refused a)))
-      by true p s q = agrees-on {s = comment} {t = line} (run-step h (rw p) refl) (go false)
-      by false p true q = agrees-on {s = comment} {t = comment} (run-step h (rw (p, q)) refl) (go true)
+      by true p s q = agrees-on {s = comment line} {t = line} (run-step h (rw p) refl) (go false)
+      by false p true q = agrees-on {s = comment line} {t = comment line} (run-step h (rw (p, q)) refl) (go true)
       by false p false q = nowhere (dead-step h (rw (p, q)))
   comment-agrees {a} h false go = rw (comments-step text a h false) (by (eqb (getD text a 0) 99) refl)
     where
       by : (c : Bool) → eqb (getD text a 0) 99 ≡ c → Agrees text line a (λ _ b. Run text line a [] (afterWord preamble) b)
           (cond c (commentsFrom true (drop (suc a) text) (suc a)) (stands tt a))
-      by true p = agrees-on {s = line} {t = comment} (run-step h (rw p) refl) (go true)
+      by true p = agrees-on {s = line} {t = comment line} (run-step h (rw p) refl) (go true)
       by false p = there (run-alike h (rw p) refl)
 
   comments-over : {a : ℕ} → length text ≤ a → (inside : Bool) → Comments inside a
   comments-over {a} h inside = rw (comments-none text a h inside) (nowhere (dead-end h (by inside)))
     where
-      by : (t : Bool) → accepts (cond t comment line) ≡ false
+      by : (t : Bool) → accepts (cond t (comment line) line) ≡ false
       by true = refl
       by false = refl
 

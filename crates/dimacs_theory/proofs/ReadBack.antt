@@ -46,8 +46,8 @@ module _ (b : ℕ) {t : State} where
   line-kept : stepByte line b ≡ some t → Shape t (b ∷ []) []
   line-kept e = by (eqb b 99) refl e
     where
-      by : (c : Bool) → eqb b 99 ≡ c → cond c (some comment) (wordStep preamble b) ≡ some t → Shape t (b ∷ []) []
-      by true q e = subst (λ t. Shape t (b ∷ []) []) (Option·some-injective comment t e) (rw (eqb-true b 99 q) (remark tt))
+      by : (c : Bool) → eqb b 99 ≡ c → cond c (some (comment line)) (wordStep preamble b) ≡ some t → Shape t (b ∷ []) []
+      by true q e = subst (λ t. Shape t (b ∷ []) []) (Option·some-injective (comment line) t e) (rw (eqb-true b 99 q) (remark tt))
       by false q e = word-kept preamble [] refl e
 
   -- a number's first digit
@@ -154,12 +154,12 @@ module _ {text : List ℕ} (b : ℕ) {t : State} where
             is = rw (o .is, q, append-nil, comments-more) (append-assoc (commentLines (o .comments)) (99 ∷ bs) (lineFeed ∷ []));
           }
 
-      by : (c : Bool) → eqb b lineFeed ≡ c → cond c (some line) (when (ltb b 256) comment) ≡ some t → Before t (text ++ (b ∷ [])) []
+      by : (c : Bool) → eqb b lineFeed ≡ c → cond c (some line) (when (ltb b 256) (comment line)) ≡ some t → Before t (text ++ (b ∷ [])) []
       by true q e =
           subst (λ t. Before t (text ++ (b ∷ [])) []) (Option·some-injective line t e)
           (record { part = []; opened = closed (eqb-true b lineFeed q); shape = nothing })
       by false q e =
-          with-byte o (taken (λ t. Shape t (99 ∷ bs ++ (b ∷ [])) []) (ltb b 256) comment e
+          with-byte o (taken (λ t. Shape t (99 ∷ bs ++ (b ∷ [])) []) (ltb b 256) (comment line) e
           (λ c. remark (all-more CommentByte bs a (ltb-true b 256 c, eqb-false b lineFeed q))))
   shape-kept o (letters {w = w} {ws = ws} {part = part} p) e = with-byte o (word-kept b (w ∷ ws) part p e)
   shape-kept o (before {ls = ls} p) e = rw (append-nil ls) (with-byte o (first-kept b p e))

@@ -133,8 +133,8 @@ header-run v c few counted rest r =
     (first-run {n = ofClauses v} (fits refl (omega arith)) (lineFeed ∷ rest) (on refl refl r)))))))
 
 -- comment lines
-comment-run : {u : State} {ls : List ℤ} (bs : List ℕ) → All CommentByte bs → (rest : List ℕ) → Runs line rest u ls
-    → Runs comment (bs ++ (lineFeed ∷ []) ++ rest) u ls
+comment-run : {s u : State} {ls : List ℤ} (bs : List ℕ) → All CommentByte bs → (rest : List ℕ) → Runs s rest u ls
+    → Runs (comment s) (bs ++ (lineFeed ∷ []) ++ rest) u ls
 comment-run [] a rest r = on refl refl r
 comment-run (b ∷ bs) a rest r = on (rw (ne-eqb b lineFeed (a .0 .1), lt-ltb b 256 (a .0 .0))) refl (comment-run bs (a .1) rest r)
 

@@ -45,7 +45,7 @@ pub data Head : Number → List ℕ → List ℤ → Type 0 where
 -- what was read in a state
 pub data Shape : State → List ℕ → List ℤ → Type 0 where
   nothing : Shape line [] []
-  remark : {bs : List ℕ} → All CommentByte bs → Shape comment (99 ∷ bs) []
+  remark : {bs : List ℕ} → All CommentByte bs → Shape (comment line) (99 ∷ bs) []
   letters : {w : ℕ} {ws part : List ℕ} → part ++ w ∷ ws ≡ preamble → Shape (word (w ∷ ws)) part []
   before : {n : Number} {part : List ℕ} {ls : List ℤ} → Head n part ls → Shape (first n) part ls
   inside : {n : Number} {x : ℕ} {part : List ℕ} {ls : List ℤ} → Head n part ls → Fits n x → Shape (digits n x) (part ++ decimal x) ls
