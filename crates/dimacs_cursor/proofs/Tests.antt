@@ -27,8 +27,12 @@ module _ (b : ℕ) where
   pub digit-rest : 48 ≤ b → leb b 57 ≡ isDigit b
   digit-rest h = rw (le-leb 48 b h)
 
-  pub digit-above : isDigit b ≡ true → 48 ≤ b
-  digit-above t = leb-true 48 b (and-both (leb 48 b) (leb b 57) t .0)
+  module _ (t : isDigit b ≡ true) where
+    pub digit-above : 48 ≤ b
+    digit-above = leb-true 48 b (and-both (leb 48 b) (leb b 57) t .0)
+
+    pub digit-small : b - 48 < 10
+    digit-small = let m = leb-true b 57 (and-both (leb 48 b) (leb b 57) t .1) in omega arith
 
 -- a first digit
 module _ (b bound : ℕ) (zero : Bool) where
@@ -64,6 +68,9 @@ module _ (x d bound : ℕ) where
   next-zero e = rw (eq-eqb x 0 e)
 
   module _ (n : x ≡ 0 → ⊥) where
+    pub next-below : d < 10 → x < bound / 10 → true ≡ isNext x d bound
+    next-below s h = let m : x * 10 + d ≤ bound = omega arith in rw (ne-eqb x 0 n, le-leb (x * 10 + d) bound m)
+
     pub next-above : bound / 10 < x → false ≡ isNext x d bound
     next-above h = let m : bound < x * 10 + d = omega arith in rw (ne-eqb x 0 n, lt-leb (x * 10 + d) bound m)
 

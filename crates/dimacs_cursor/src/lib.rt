@@ -93,10 +93,14 @@ fn starts(b: usize, bound: usize, zero: bool) -> bool
 
 // A digit after a number. The number that it would make is not computed, since it may be too large.
 fn goes_on(x: usize, d: usize, bound: usize) -> bool
+    requires { ⌜ d < 10 ⌝ }
     ensures { λ r. ⌜ r ≡ isNext x d bound ⌝ }
 {
     if x == 0 {
         return false;
+    }
+    if x < bound / 10 {
+        return true; // whatever the digit
     }
     if x > bound / 10 {
         return false;

@@ -7,7 +7,7 @@ use mathlib.Core.Path.{_≡_, sym, _∙_}
 use mathlib.Core.Bool.{true}
 use Rattle.dimacs.specs.Reader.{isDigit, isNext}
 use Rattle.dimacs.proofs.Tokens.{next-small}
-use Rattle.dimacs_cursor.proofs.Tests.{digit-above}
+use Rattle.dimacs_cursor.proofs.Tests.{digit-above, digit-small}
 use Rattle.dimacs_cursor.proofs.Loops.{AtDigits, digits-start, digits-ended, digits-more, digits-over, digits-short}
 use Rattle.dimacs_cursor.proofs.Cursor.more_digits.Statement.{statement}
 use Rattle.dimacs_cursor.proofs.Cursor.more_digits.Tie as tie
@@ -40,7 +40,7 @@ sub-d : tie.Need-sub-d Inv-loop μ-loop
 sub-d c = omega (arith, digit-above (c .before .before .byte-at .result) (is-one c))
 
 goes-on-requires : tie.Need-goes-on-requires Inv-loop μ-loop
-goes-on-requires c κs = tt
+goes-on-requires c κs = digit-small (c .before .before .byte-at .result) (is-one c)
 
 returns-2 : tie.Need-returns-2 Inv-loop μ-loop
 returns-2 c =
