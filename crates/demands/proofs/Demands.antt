@@ -18,7 +18,6 @@ use Rattle.dimacs.specs.Text.{textOf}
 use Rattle.dimacs.specs.Reader.{listRead, headerRead}
 use Rattle.dimacs.specs.Calls.{writerRows, readerRows, writerAnswer, readerAnswer}
 use Rattle.dimacs_theory.proofs.Theorems as dimacs
-use Rattle.dimacs_theory.proofs.Calls.{reader-passed}
 use Rattle.encoder.specs.Variables.{variableCount}
 use Rattle.encoder.specs.Clauses.{clauses, clauseList}
 use Rattle.encoder.specs.Encoding.{encoderRows, encoderAnswer}
@@ -76,7 +75,7 @@ demand-2 =
           let outcome = clear-answered (writerRows v ls (length buf)) _ (answered-clear (writerRows v ls (length buf)) _ refl e) in
           record { outcome = outcome; left = ap (λ (t : Outcome). unlessRefused t buf (filled buf (textOf v ls))) outcome };
       reads-back = dimacs.write-read;
-      written-again = λ text out buf e u room. dimacs.read-write text out buf (dimacs.narrow-exactly text .0 (reader-passed text out e .0, u)) e room;
+      written-again = dimacs.read-write;
       listed-steps = λ c ok. steps.stepped ok;
       no-others = λ c ok. steps.only-stepped ok;
     }

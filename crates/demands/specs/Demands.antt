@@ -10,7 +10,7 @@
 --   readerAnswer, readerLeaves              the text reader, `dimacs_reader::read`
 use Prim.Native.Nat.{ℕ, _+_, _-_, _≤_, _<_, _^_}
 use lib.IntN.{ℤ}
-use lib.ListN.{length, getD}
+use lib.ListN.{length}
 use mathlib.Core.Path.{_≡_}
 use mathlib.Core.Bool.{Bool}
 use mathlib.Core.Logic.{_↔_, _⊎_}
@@ -27,7 +27,8 @@ use Rattle.rules.specs.Judge.{wrongByte, clueNotMet, linkUnmatched, notTwoLinks
 use Rattle.rules_theory.specs.Places.{FirstUnmet, FirstUnreached}
 use Rattle.cnf.specs.Literals.{wrongList}
 use Rattle.cnf.specs.Clauses.{clauseCount}
-use Rattle.dimacs.specs.Text.{textOf, Accepted}
+use Rattle.dimacs.specs.Text.{textOf, Narrow}
+use Rattle.dimacs.specs.Accepted.{Accepted}
 use Rattle.dimacs.specs.Reader.{refusedAt}
 use Rattle.dimacs.specs.Calls.{writerRows, writerAnswer, writerLeaves, readerRows, readerAnswer, readerLeaves}
 use Rattle.dimacs_theory.specs.Place.{Refused}
@@ -96,8 +97,8 @@ pub record Demand2 : Type 0 where
   pub reads-back : (v : ℕ) (ls : List ℤ) (buf : List ℕ) (out : List ℤ) → length ls < 2 ^ 64 → writerAnswer v ls buf .number ≡ 0 → length ls ≤ length out
       → Reads (textWritten v ls buf) out v ls
   -- "and a text without comments is written again byte for byte;"
-  -- (Its first byte is no `c`. What was read is written, given room.)
-  pub written-again : (text : List ℕ) (out : List ℤ) (buf : List ℕ) → readerAnswer text out .number ≡ 0 → (getD text 0 0 ≡ 99 → ⊥) → length text ≤ length buf
+  -- (This is said of document 01's form, which E6 calls narrow: the text of some V and list. What was read is written, given room.)
+  pub written-again : (text : List ℕ) (out : List ℤ) (buf : List ℕ) → Narrow text → readerAnswer text out .number ≡ 0 → length text ≤ length buf
       → Writes (readerAnswer text out .second) (elementsRead text out) buf text
   -- "and the search makes the listed steps, no others."
   -- (What it hands out is what these steps come to, and they come to nothing else.)

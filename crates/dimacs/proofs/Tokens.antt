@@ -1,6 +1,7 @@
 -- What stands at a place, from the byte there. Assumes nothing.
 use Prim.Native.Nat.{ℕ, suc, _+_, _-_, _*_, _≤_, _<_}
-use borrow.Author.Tests.{ltb-true, leb-true}
+use native.Mathlib.Omega.{arith}
+use borrow.Author.Tests.{ltb-true, leb-true, lt-ltb, ne-eqb}
 use lib.Dec.{eqb, leb, ltb}
 use lib.ListN.{length, getD, drop, drop-of-length-le}
 use lib.Seq.{drop-cons}
@@ -8,8 +9,9 @@ use mathlib.Core.Path.{_≡_}
 use mathlib.Core.Bool.{Bool, true, not, cond}
 use mathlib.Core.List.{List}
 use Rattle.answers.proofs.Bools.{and-both}
+use Rattle.text.specs.Decimal.{lineFeed}
 use Rattle.dimacs.specs.Reader.{isDigit, isFirst, isNext}
-use Rattle.dimacs.specs.Tokens.{stands, refused, hasByte, digitsFrom, numberAt, commentByte, commentsFrom}
+use Rattle.dimacs.specs.Tokens.{stands, refused, hasByte, digitsFrom, numberAt, commentByte, commentsFrom, lineBegins, lineEndFrom, lineEndAt}
 
 module _ (text : List ℕ) (at : ℕ) where
   -- a byte
@@ -29,6 +31,15 @@ module _ (text : List ℕ) (at : ℕ) where
     unfolding commentsFrom
     comments-step inside = rw (drop-cons text at 0 h)
 
+    pub line-end-step : let b = getD text at 0 in
+        lineEndAt text at ≡ cond (eqb b lineFeed) (stands tt (suc at)) (cond (ltb b 256) (lineEndAt text (suc at)) (refused at))
+    unfolding lineEndFrom
+    line-end-step = rw (drop-cons text at 0 h)
+
+    -- a line begins there if the byte before is LF
+    pub line-after : lineBegins text (suc at) ≡ eqb (getD text at 0) lineFeed
+    line-after = let e : suc at - 1 ≡ at = omega arith in rw (ne-eqb (suc at) 0 (omega arith), e, lt-ltb at (length text) h)
+
   -- the text's end
   module _ (h : length text ≤ at) where
     pub digits-none : (bound x : ℕ) → digitsFrom bound x (drop at text) at ≡ stands x at
@@ -41,6 +52,10 @@ module _ (text : List ℕ) (at : ℕ) where
     pub comments-none : (inside : Bool) → commentsFrom inside (drop at text) at ≡ refused at
     unfolding commentsFrom
     comments-none inside = rw (drop-of-length-le text h)
+
+    pub line-end-none : lineEndAt text at ≡ refused at
+    unfolding lineEndFrom
+    line-end-none = rw (drop-of-length-le text h)
 
   pub has-inside : (b : ℕ) → hasByte text b at ≡ true → at < length text
   has-inside b t = ltb-true at (length text) (and-both (ltb at (length text)) (eqb (getD text at 0) b) t .0)

@@ -1,11 +1,10 @@
--- "DIMACS text": the text of V and a list, and the accepted texts.
+-- "DIMACS text": the text of V and a list, which is the narrow form, and comment lines.
 use Prim.Native.Nat.{ℕ, suc, _≤_, _<_, _^_}
 use lib.IntN.{ℤ, pos, negsuc}
 use mathlib.Core.Path.{_≡_}
 use mathlib.Core.Bool.{cond}
 use mathlib.Core.Option.{none}
 use mathlib.Core.List.{List, [], _∷_, _++_}
-use Rattle.answers.specs.Lists.{All}
 use Rattle.text.specs.Decimal.{lineFeed, space, minus, decimal}
 use Rattle.cnf.specs.Literals.{closes, mostVariables, wrongList}
 use Rattle.cnf.specs.Clauses.{clauseCount}
@@ -60,11 +59,3 @@ pub record Narrow (text : List ℕ) : Type 0 where
   pub list : List ℤ
   pub hasText : HasText variables list
   pub is : text ≡ textOf variables list
-
--- an accepted text: comment lines, then the text of some V and list
-pub record Accepted (text : List ℕ) : Type 0 where
-  pub comments : List (List ℕ)
-  pub bytes : All (All CommentByte) comments
-  pub rest : List ℕ
-  pub narrow : Narrow rest
-  pub is : text ≡ commentLines comments ++ rest

@@ -1,13 +1,14 @@
 -- What stands at a place of a text: "reading a number at a place gives the number and the place after it".
 use Prim.Native.Nat.{ℕ, suc, _+_, _*_, _-_, _^_}
-use lib.Dec.{eqb, ltb}
+use lib.Dec.{eqb, leb, ltb}
 use lib.ListN.{length, getD, drop}
-use mathlib.Core.Bool.{Bool, true, false, not, _&&_, cond}
+use mathlib.Core.Bool.{Bool, true, false, not, _&&_, _||_, cond}
 use mathlib.Core.List.{List, [], _∷_}
 use Rattle.cnf.specs.Literals.{mostVariables}
 use Rattle.text.specs.Decimal.{lineFeed, space, minus}
 use Rattle.dimacs.specs.Text.{preamble}
-use Rattle.dimacs.specs.Reader.{Header, headerWith, isDigit, isFirst, isNext}
+use Rattle.dimacs.specs.Accepted.{isBlank}
+use Rattle.dimacs.specs.Reader.{Header, headerWith, isDigit, isFirst, isNext, startsComment}
 
 -- what stands there and the place after it, or the place of the refusal
 pub data TokenAt (A : Type 0) : Type 0 where
@@ -92,10 +93,32 @@ elementAt text v at =
     (cond (eqb v 0) (refused at) (unsignedAt text v true (suc at)))
     (unsignedAt text v false at)
 
--- LF after a closing 0, a space after a literal
-abbrev pub behindNumber : ℕ → ℕ
-behindNumber x = cond (eqb x 0) lineFeed space
+-- what was read, and a blank behind it or the text's end
+abbrev pub blankOrEnd : {A : Type 0} → List ℕ → A → ℕ → TokenAt A
+blankOrEnd text a at = cond (ltb at (length text)) (cond (isBlank (getD text at 0)) (stands a (suc at)) (refused at)) (stands a at)
 
--- an element of a line, and the byte behind it
-abbrev pub lineElementAt : List ℕ → ℕ → ℕ → TokenAt (Bool × ℕ)
-lineElementAt text v at = andThen (elementAt text v at) (λ e after. followedBy text (behindNumber (e .1)) e after)
+-- an element, and the blank behind it or the text's end
+abbrev pub elementAndBlankAt : List ℕ → ℕ → ℕ → TokenAt (Bool × ℕ)
+elementAndBlankAt text v at = andThen (elementAt text v at) (λ e after. blankOrEnd text e after)
+
+-- from `-` to `9`: no other byte begins a number
+abbrev pub mayBeginNumber : ℕ → Bool
+mayBeginNumber b = leb minus b && leb b 57
+
+-- a line begins there: at the text's start, or after an LF
+abbrev pub lineBegins : List ℕ → ℕ → Bool
+lineBegins text at = eqb at 0 || hasByte text lineFeed (at - 1)
+
+-- to the LF that ends a line
+unfoldable pub lineEndFrom : List ℕ → ℕ → TokenAt Unit
+lineEndFrom [] at = refused at
+lineEndFrom (b ∷ bs) at = cond (eqb b lineFeed) (stands tt (suc at)) (cond (ltb b 256) (lineEndFrom bs (suc at)) (refused at))
+
+abbrev pub lineEndAt : List ℕ → ℕ → TokenAt Unit
+lineEndAt text at = lineEndFrom (drop at text) at
+
+-- a blank, or a comment line where one may start
+abbrev pub blankOrCommentAt : List ℕ → Bool → ℕ → TokenAt Unit
+blankOrCommentAt text begun at =
+    cond (isBlank (getD text at 0)) (stands tt (suc at))
+    (cond (startsComment begun (lineBegins text at) (getD text at 0)) (lineEndAt text (suc at)) (refused at))

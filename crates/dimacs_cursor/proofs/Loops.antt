@@ -1,4 +1,4 @@
--- The loops over comment lines, `p cnf ` and digits: what is left to read gives the whole. Assumes nothing.
+-- The loops over comment lines, a line, `p cnf ` and digits: what is left to read gives the whole. Assumes nothing.
 use Prim.Native.Nat.{ℕ, suc, _+_, _-_, _*_, _≤_, _<_}
 use native.Mathlib.Omega.{arith}
 use native.Mathlib.Numerals.{add-one}
@@ -12,8 +12,8 @@ use mathlib.Core.List.{List}
 use Rattle.answers.proofs.Bools.{clash}
 use Rattle.dimacs.specs.Text.{preamble}
 use Rattle.dimacs.specs.Reader.{isDigit, isNext}
-use Rattle.dimacs.specs.Tokens.{stands, refused, andThen, hasByte, followedBy, digitsFrom, commentsFrom, commentsAt, wordAt}
-use Rattle.dimacs.proofs.Tokens.{comments-step, comments-none, digits-step, digits-none}
+use Rattle.dimacs.specs.Tokens.{stands, refused, andThen, hasByte, followedBy, digitsFrom, commentsFrom, commentsAt, lineEndAt, wordAt}
+use Rattle.dimacs.proofs.Tokens.{comments-step, comments-none, line-end-step, line-end-none, digits-step, digits-none}
 use Rattle.dimacs_cursor.specs.Cursors.{ByteAt}
 
 -- in the comment lines: inside one, or at a line's first byte
@@ -45,6 +45,27 @@ module _ {text : List ℕ} {a at : ℕ} where
 
   pub comments-end : length text ≤ at → {inside : Bool} → AtComments text a at inside → refused at ≡ commentsAt text a
   comments-end h {inside} g = sym (comments-none text at h inside) ∙ g .rest
+
+-- in a line, on the way to its LF
+pub record InLine (text : List ℕ) (a at : ℕ) : Type 0 where
+  pub rest : lineEndAt text at ≡ lineEndAt text a
+
+pub line-start : (text : List ℕ) (a : ℕ) → InLine text a a
+line-start text a = record { rest = refl }
+
+module _ {text : List ℕ} {a at : ℕ} (g : InLine text a at) where
+  module _ {b : ℕ} (h : at < length text) (e : ByteAt text at b) where
+    line-turn : cond (eqb b 10) (stands tt (suc at)) (cond (ltb b 256) (lineEndAt text (suc at)) (refused at)) ≡ lineEndAt text a
+    line-turn = rw (e .is) (sym (line-end-step text at h) ∙ g .rest)
+
+    pub line-out : eqb b 10 ≡ true → stands tt (at + 1) ≡ lineEndAt text a
+    line-out t = rw add-one (rw t at line-turn)
+
+    pub line-on : eqb b 10 ≡ false → InLine text a (at + 1)
+    line-on t = record { rest = rw add-one (rw (t, lt-ltb b 256 (e .small)) at line-turn) }
+
+  pub line-over : length text ≤ at → refused at ≡ lineEndAt text a
+  line-over h = sym (line-end-none text at h) ∙ g .rest
 
 -- after the first i bytes of `p cnf `
 pub record AtWord (text : List ℕ) (a at i : ℕ) : Type 0 where

@@ -9,7 +9,7 @@ use mathlib.Core.Bool.{Bool, true, false, not, _&&_, _||_}
 use mathlib.Core.List.{List}
 use Rattle.answers.proofs.Bools.{and-both, or-right, same-tests}
 use Rattle.dimacs.specs.Reader.{isDigit, isFirst, isNext}
-use Rattle.dimacs.specs.Tokens.{hasByte, behindNumber}
+use Rattle.dimacs.specs.Tokens.{hasByte}
 
 -- a byte at a place
 module _ (text : List ℕ) (b at : ℕ) where
@@ -80,11 +80,3 @@ module _ (x d bound : ℕ) where
         (same-tests (leb d (bound - x * 10)) (leb (x * 10 + d) bound)
         (λ t. let m : d ≤ bound - x * 10 = leb-true d (bound - x * 10) t in le-leb (x * 10 + d) bound (omega arith))
         (λ t. let m : x * 10 + d ≤ bound = leb-true (x * 10 + d) bound t in le-leb d (bound - x * 10) (omega arith)))
-
--- what an element is followed by
-module _ (x : ℕ) where
-  pub behind-zero : x ≡ 0 → 10 ≡ behindNumber x
-  behind-zero e = rw (eq-eqb x 0 e)
-
-  pub behind-other : (x ≡ 0 → ⊥) → 32 ≡ behindNumber x
-  behind-other n = rw (ne-eqb x 0 n)

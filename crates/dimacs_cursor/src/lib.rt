@@ -1,13 +1,14 @@
-// The next token of a text at a place: comment lines, the word of the header, numbers, elements.
+// The next token of a text at a place: comment lines, the word of the header, numbers, elements, blanks.
 ghost use mathlib.Core.Path.{_≡_};
 ghost use mathlib.Core.Bool.{not, _&&_};
 ghost use Prim.Native.Nat.{_<_};
 ghost use lib.Dec.{eqb};
-ghost use lib.ListN.{length, drop};
+ghost use lib.ListN.{length, getD, drop};
 ghost use Rattle.dimacs.specs.Text.{preamble};
-ghost use Rattle.dimacs.specs.Reader.{isDigit, isFirst, isNext};
+ghost use Rattle.dimacs.specs.Accepted.{isBlank};
+ghost use Rattle.dimacs.specs.Reader.{isDigit, isFirst, isNext, startsComment};
 ghost use Rattle.dimacs.specs.Tokens.{hasByte, digitsFrom, numberAt, commentsAt, wordAt, fieldAt, headerCountsAt, headerAt};
-ghost use Rattle.dimacs.specs.Tokens.{unsignedAt, elementAt, behindNumber, lineElementAt};
+ghost use Rattle.dimacs.specs.Tokens.{unsignedAt, elementAt, elementAndBlankAt, mayBeginNumber, lineBegins, lineEndAt, blankOrCommentAt};
 ghost use Rattle.dimacs_cursor.specs.Cursors.{ByteAt, atPassed, atToken, atHead, atElement};
 use dimacs::PREAMBLE;
 
@@ -72,7 +73,7 @@ fn is_digit(b: usize) -> bool
     if b < 48 {
         return false;
     }
-    b <= 57
+    b <= 57 // 9
 }
 
 // A byte as the first digit of a number.
@@ -108,14 +109,50 @@ fn goes_on(x: usize, d: usize, bound: usize) -> bool
     d <= bound - x * 10
 }
 
-// The byte behind an element.
-fn behind(n: usize) -> u8
-    ensures { λ r. ⌜ r ≡ behindNumber n ⌝ }
+// A space, tab or LF.
+fn is_blank(b: usize) -> bool
+    ensures { λ r. ⌜ r ≡ isBlank b ⌝ }
 {
-    if n == 0 {
-        return 10;
+    if b == 32 {
+        return true;
     }
-    32
+    if b == 9 {
+        return true;
+    }
+    b == 10
+}
+
+// A byte from `-` to `9`: no other begins a number. One range, since this is asked at each number.
+fn may_begin_number(b: usize) -> bool
+    ensures { λ r. ⌜ r ≡ mayBeginNumber b ⌝ }
+{
+    if b < 45 {
+        return false;
+    }
+    b <= 57
+}
+
+// A line begins there: at the text's start, or after an LF.
+fn line_begins(text: &[u8], at: usize) -> bool
+    ensures { λ r. ⌜ r ≡ lineBegins (now (text .entry)) at ⌝ }
+{
+    if at == 0 {
+        return true;
+    }
+    has_byte(text, 10, at - 1)
+}
+
+// The `c` of a comment line: a line's first byte, and no clause is begun.
+fn starts_comment(begun: bool, at_line: bool, b: usize) -> bool
+    ensures { λ r. ⌜ r ≡ startsComment begun «at_line» b ⌝ }
+{
+    if b != 99 {
+        return false;
+    }
+    if begun {
+        return false;
+    }
+    at_line
 }
 
 impl Cursor {
@@ -256,19 +293,65 @@ impl Cursor {
         next.unsigned(text, variables, true)
     }
 
-    // An element of a line, and the byte behind it.
-    pub fn line_element(self, text: &[u8], variables: usize) -> Element
-        ensures { λ r. ⌜ atElement r ≡ lineElementAt (now (text .entry)) variables (self .at) ⌝ }
+    // An element, and the blank behind it or the text's end.
+    pub fn element_and_blank(self, text: &[u8], variables: usize) -> Element
+        ensures { λ r. ⌜ atElement r ≡ elementAndBlankAt (now (text .entry)) variables (self .at) ⌝ }
     {
         match self.element(text, variables) {
             Element::Is(negative, x, after) => {
                 let at = after.at;
-                if !has_byte(text, behind(x), at) {
+                if at >= text.len() {
+                    return Element::Is(negative, x, Cursor { at }); // the last number needs nothing after it
+                }
+                let b = byte_at(text, at);
+                if !is_blank(b) {
                     return Element::Refused(at);
                 }
                 Element::Is(negative, x, Cursor { at: at + 1 })
             }
             Element::Refused(at) => Element::Refused(at),
         }
+    }
+
+    // Whether a number may begin here.
+    pub fn may_be_number(self, text: &[u8]) -> bool
+        requires { ⌜ self .at < length (now text) ⌝ }
+        ensures { λ r. ⌜ r ≡ mayBeginNumber (getD (now (text .entry)) (self .at) 0) ⌝ }
+    {
+        let b = byte_at(text, self.at);
+        may_begin_number(b)
+    }
+
+    // Past the LF that ends a line.
+    fn line_end(self, text: &[u8]) -> Passed
+        ensures { λ r. ⌜ atPassed r ≡ lineEndAt (now (text .entry)) (self .at) ⌝ }
+    {
+        let mut at = self.at;
+        while at < text.len() {
+            let b = byte_at(text, at);
+            at += 1;
+            if b == 10 {
+                return Passed::To(Cursor { at });
+            }
+        }
+        Passed::Refused(at) // a last line needs its LF too
+    }
+
+    // Past a blank or a comment line.
+    pub fn blank_or_comment(self, text: &[u8], begun: bool) -> Passed
+        requires { ⌜ self .at < length (now text) ⌝ }
+        ensures { λ r. ⌜ atPassed r ≡ blankOrCommentAt (now (text .entry)) begun (self .at) ⌝ }
+    {
+        let at = self.at;
+        let b = byte_at(text, at);
+        let next = Cursor { at: at + 1 };
+        if is_blank(b) {
+            return Passed::To(next);
+        }
+        let at_line = line_begins(text, at);
+        if !starts_comment(begun, at_line, b) {
+            return Passed::Refused(at); // the byte itself
+        }
+        next.line_end(text)
     }
 }

@@ -5,7 +5,7 @@ use lib.IntN.{ℤ}
 use lib.ListN.{length, drop}
 use lib.Seq.{sets}
 use mathlib.Core.Path.{_≡_, refl, sym, _∙_, ap}
-use mathlib.Core.Bool.{false}
+use mathlib.Core.Bool.{true, false}
 use mathlib.Core.Option.{Option, none, some}
 use mathlib.Core.List.{List}
 use Rattle.answers.specs.declared.Outcome.{Outcome}
@@ -15,15 +15,15 @@ use Rattle.answers.proofs.Lent.{wrote-filled}
 use Rattle.answers.proofs.Rows.{Left, left-all, left-next, left-turn, left-done}
 use Rattle.answers.proofs.Settled.{short-by, long-enough, settles}
 use Rattle.cnf.specs.Literals.{mostVariables}
-use Rattle.dimacs.specs.Automaton.{next}
-use Rattle.dimacs.specs.Reader.{headerWith, State, line, noHeader, headerIn, refusedAt, listRead, headerRead}
-use Rattle.dimacs.specs.Tokens.{stands, refused, headerAt}
+use Rattle.dimacs.specs.Reader.{headerWith, line, clause, refusedAt, listRead, headerRead}
+use Rattle.dimacs.specs.Tokens.{stands, refused, lineBegins, headerAt}
 use Rattle.dimacs.specs.Calls.{readerRows, readerAnswer, readerLeaves}
 use Rattle.dimacs_reader.specs.declared.Listed.{Listed}
 use Rattle.dimacs_reader.specs.declared.Listed.the-variants.{Elements, Refused as NoList}
 use Rattle.dimacs_reader.specs.Lists.{listAt, bodyRefusedAt, listedOr, listed}
 use Rattle.dimacs_reader.proofs.Agrees.{agrees-there, agrees-nowhere, HeadRead, header-agrees}
-use Rattle.dimacs_reader.proofs.ListLoop.{body-ends}
+use Rattle.dimacs_reader.proofs.Runs.{headerAfter}
+use Rattle.dimacs_reader.proofs.ListLoop.{body-tells}
 
 abbrev Reads : List ℕ → List ℤ → Outcome → List ℤ → Type 0
 Reads text buf u new = (u ≡ readerAnswer text buf) × (new ≡ readerLeaves text buf)
@@ -63,8 +63,8 @@ module _ (text : List ℕ) (buf : List ℤ) {v c a : ℕ} (e : headerAt text 0 �
   head : HeadRead text line 0 (headerWith v c) a
   head = agrees-there (header-agrees text 0) e
 
-  pub head-small : v ≤ mostVariables
-  head-small = head .small
+  pub head-fits : (v ≤ mostVariables) × (lineBegins text a ≡ true)
+  head-fits = (head .small, head .atLine)
 
   -- .. and the list
   module _ {r : Listed} (l : r ≡ listed text (headerWith v c) a) where
@@ -84,10 +84,11 @@ module _ (text : List ℕ) (buf : List ℤ) {v c a : ℕ} (e : headerAt text 0 �
       many : n ≡ length (listRead text)
       many = ap countOf (sym q ∙ l) ∙ rw taken (ap length (sym (head .run .list)))
 
+      told : headerAfter text (clause (headerWith v c) 0 false true) a ≡ headerWith v c
+      told = rw (head .atLine) at (body-tells text (headerWith v c) a 0 false (rw (head .atLine) taken))
+
       header-is : headerWith v c ≡ headerRead text
-      header-is =
-          sym (ap (λ (s : Option State). next s noHeader headerIn)
-          (head .run .ends ∙ body-ends text (headerWith v c) a 0 false taken))
+      header-is = sym (head .run .header ∙ told)
 
       pub body-short : n < 2 ^ 64 → length buf < n → Reads text buf (refusal 6 n) buf
       body-short s o = reads text buf (left-turn past-text (ap some many ∙ sym (short-by (length buf) (omega (arith, many)) (omega (arith, many))))) refl

@@ -10,14 +10,18 @@ use mathlib.Core.Path.{_≡_, refl, sym, _∙_, ap}
 use mathlib.Core.Bool.{false}
 use mathlib.Core.Option.{none, some}
 use mathlib.Core.List.{List, [], _++_, append-assoc}
-use Rattle.dimacs.specs.Automaton.{endFrom, refusedFrom}
-use Rattle.dimacs.specs.Reader.{State, stepByte, accepts, ended, listFrom}
+use Rattle.dimacs.specs.Automaton.{next, endFrom, refusedFrom}
+use Rattle.dimacs.specs.Reader.{Header, State, stepByte, accepts, ended, endedLast, listFrom, noHeader, headerIn}
+
+-- the header that is told at the text's end, from a state at a place
+abbrev pub headerAfter : List ℕ → State → ℕ → Header
+headerAfter text s a = next (endFrom stepByte s (drop a text)) noHeader headerIn
 
 -- from state s at place a the text goes on as from state t at place b, with these elements between
 pub record Run (text : List ℕ) (s : State) (a : ℕ) (ls : List ℤ) (t : State) (b : ℕ) : Type 0 where
   pub refused : refusedFrom stepByte accepts s (drop a text) a ≡ refusedFrom stepByte accepts t (drop b text) b
   pub list : listFrom s (drop a text) ≡ ls ++ listFrom t (drop b text)
-  pub ends : endFrom stepByte s (drop a text) ≡ endFrom stepByte t (drop b text)
+  pub header : headerAfter text s a ≡ headerAfter text t b
 
 -- from state s at place a the text is refused at place p, with these elements before it
 pub record Dead (text : List ℕ) (s : State) (a : ℕ) (ls : List ℤ) (p : ℕ) : Type 0 where
@@ -25,14 +29,14 @@ pub record Dead (text : List ℕ) (s : State) (a : ℕ) (ls : List ℤ) (p : ℕ
   pub list : listFrom s (drop a text) ≡ ls
 
 pub run-stay : (text : List ℕ) (s : State) (a : ℕ) → Run text s a [] s a
-run-stay text s a = record { refused = refl; list = refl; ends = refl }
+run-stay text s a = record { refused = refl; list = refl; header = refl }
 
 pub run-then : {text : List ℕ} {s t u : State} {a b c : ℕ} {ls ms : List ℤ} → Run text s a ls t b → Run text t b ms u c → Run text s a (ls ++ ms) u c
 run-then {text = text} {u = u} {c = c} {ls = ls} {ms = ms} p q =
     record {
       refused = p .refused ∙ q .refused;
       list = p .list ∙ ap (λ (rest : List ℤ). ls ++ rest) (q .list) ∙ sym (append-assoc ls ms (listFrom u (drop c text)));
-      ends = p .ends ∙ q .ends;
+      header = p .header ∙ q .header;
     }
 
 pub run-dead : {text : List ℕ} {s t : State} {a b p : ℕ} {ls ms : List ℤ} → Run text s a ls t b → Dead text t b ms p → Dead text s a (ls ++ ms) p
@@ -46,7 +50,7 @@ module _ {text : List ℕ} {a : ℕ} (h : a < length text) where
       record {
         refused = rw (drop-cons text a 0 h, e);
         list = rw (drop-cons text a 0 h, e, f);
-        ends = rw (drop-cons text a 0 h, e);
+        header = rw (drop-cons text a 0 h, e);
       }
 
   -- the byte is refused there
@@ -62,13 +66,24 @@ module _ {text : List ℕ} {a : ℕ} (h : a < length text) where
       record {
         refused = rw (drop-cons text a 0 h, e);
         list = rw (drop-cons text a 0 h, e, f);
-        ends = rw (drop-cons text a 0 h, e);
+        header = rw (drop-cons text a 0 h, e);
       }
 
 -- the text ends
-pub dead-end : {text : List ℕ} {s : State} {a : ℕ} → length text ≤ a → accepts s ≡ false → Dead text s a [] a
-unfolding refusedFrom listFrom
-dead-end {text} h e = record { place = rw (drop-of-length-le text h, e); list = rw (drop-of-length-le text h) }
+module _ {text : List ℕ} {a : ℕ} (h : length text ≤ a) where
+  pub dead-end : {s : State} → accepts s ≡ false → endedLast s ≡ [] → Dead text s a [] a
+  unfolding refusedFrom listFrom
+  dead-end e f = record { place = rw (drop-of-length-le text h, e); list = rw (drop-of-length-le text h, f) }
+
+  -- two states that the text's end treats alike
+  pub run-end : {s t : State} {es : List ℤ} → accepts s ≡ accepts t → endedLast s ≡ es ++ endedLast t → headerIn s ≡ headerIn t → Run text s a es t a
+  unfolding refusedFrom listFrom endFrom
+  run-end e f g =
+      record {
+        refused = rw (drop-of-length-le text h, e);
+        list = rw (drop-of-length-le text h, f);
+        header = rw (drop-of-length-le text h, g);
+      }
 
 -- what holds at the text's end, and at a place if at all later ones, holds at every place
 module _ (text : List ℕ) (P : ℕ → Type 0) (over : (a : ℕ) → length text ≤ a → P a) (step : (a : ℕ) → a < length text → ((b : ℕ) → a < b → P b) → P a) where

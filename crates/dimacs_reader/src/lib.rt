@@ -1,12 +1,13 @@
 // The reader: the list of a text, token by token.
 ghost use mathlib.Core.Path.{_≡_};
+ghost use mathlib.Core.Bool.{true};
 ghost use mathlib.Core.List.{[], _∷_};
 ghost use lib.Seq.{sets};
 ghost use Prim.Native.Nat.{_-_, _≤_, _<_, _^_};
 ghost use Rattle.answers.specs.Lent.{Wrote};
 ghost use Rattle.cnf.specs.Literals.{mostVariables};
 ghost use Rattle.dimacs.specs.Reader.{headerWith, literalOf};
-ghost use Rattle.dimacs.specs.Tokens.{stands, headerAt};
+ghost use Rattle.dimacs.specs.Tokens.{stands, lineBegins, headerAt};
 ghost use Rattle.dimacs.specs.Calls.{readerAnswer, readerLeaves};
 ghost use Rattle.dimacs.specs.Answers.{readingOutcome};
 ghost use Rattle.dimacs_reader.specs.Lists.{listAt, listed, closedAfter};
@@ -15,6 +16,7 @@ use dimacs::Reading;
 use dimacs_cursor::Cursor;
 use dimacs_cursor::Element;
 use dimacs_cursor::Head;
+use dimacs_cursor::Passed;
 
 // The list: the count of its elements, or the place of the refusal.
 pub enum Listed {
@@ -43,9 +45,9 @@ fn put_literal(out: &mut [i32], at: usize, negative: bool, x: usize) -> usize
     cnf::put(out, at, x)
 }
 
-// The list after the header. Elements beyond the end of the buffer are counted and left out.
+// The list after the header, piece by piece. Elements beyond the end of the buffer are counted and left out.
 fn read_list(text: &[u8], from: usize, variables: usize, clauses: usize, out: &mut [i32]) -> Listed
-    requires { ⌜ variables ≤ mostVariables ⌝ }
+    requires { ⌜ (variables ≤ mostVariables) × (lineBegins (now text) from ≡ true) ⌝ }
     ensures { λ r. ⌜ r ≡ listed (now (text .entry)) (headerWith variables clauses) from ⌝ }
     ensures { λ r. ⌜ now (out .exit) ≡ sets (now (out .entry)) 0 (listAt (now (text .entry)) (headerWith variables clauses) from) ⌝ }
 {
@@ -54,19 +56,30 @@ fn read_list(text: &[u8], from: usize, variables: usize, clauses: usize, out: &m
     let mut k: usize = 0;
     let mut begun = false;
     while at < text.len() {
-        if k == clauses {
-            return Listed::Refused(at);
-        }
         let here = Cursor { at };
-        match here.line_element(text, variables) {
-            Element::Is(negative, x, next) => {
-                n = put_literal(out, n, negative, x);
-                k = closed_after(k, x);
-                begun = x != 0;
-                at = next.at;
+        if !here.may_be_number(text) {
+            match here.blank_or_comment(text, begun) {
+                Passed::To(next) => {
+                    at = next.at;
+                }
+                Passed::Refused(p) => {
+                    return Listed::Refused(p);
+                }
             }
-            Element::Refused(p) => {
-                return Listed::Refused(p);
+        } else {
+            if k == clauses {
+                return Listed::Refused(at);
+            }
+            match here.element_and_blank(text, variables) {
+                Element::Is(negative, x, next) => {
+                    n = put_literal(out, n, negative, x);
+                    k = closed_after(k, x);
+                    begun = x != 0;
+                    at = next.at;
+                }
+                Element::Refused(p) => {
+                    return Listed::Refused(p);
+                }
             }
         }
     }

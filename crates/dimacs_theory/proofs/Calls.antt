@@ -6,11 +6,12 @@ use lib.IntN.{ℤ}
 use lib.ListN.{length, take}
 use lib.Seq.{take-append-seam}
 use mathlib.Core.Path.{_≡_, refl, _∙_, ap}
+use mathlib.Core.Logic.{_↔_}
 use mathlib.Core.Bool.{Bool, true, false}
-use mathlib.Core.Option.{Option, none, some}
+use mathlib.Core.Option.{Option, none, some, Option·some-injective, Option·some-ne-none, Option·none-ne-some}
 use mathlib.Core.List.{List, [], _∷_}
 use Rattle.answers.specs.declared.Outcome.{Outcome}
-use Rattle.answers.specs.Outcome.{answer, cause, unless}
+use Rattle.answers.specs.Outcome.{refusal, answer, cause, unless}
 use Rattle.answers.specs.Lists.{tally}
 use Rattle.answers.specs.Lent.{tooShort, filled, unlessRefused}
 use Rattle.answers.proofs.Rows.{no-cause}
@@ -27,7 +28,27 @@ past : (n : ℕ) (o : Option ℕ) (t : Outcome) → (n ≡ 0 → ⊥) → unless
 past n none t z e = (refl, e)
 past n (some v) t z e = absurd (z e)
 
+-- the first of two rows: its number tells whether it refuses the call
+module _ (m n : ℕ) (o : Option ℕ) (t : Outcome) (apart : n ≡ m → ⊥) (refuses : t .number ≡ m → ⊥) where
+  other-row : unless n o t .number ≡ m → ⊥
+  other-row e = by o e
+    where
+      by : (o : Option ℕ) → unless n o t .number ≡ m → ⊥
+      by none e = refuses e
+      by (some v) e = apart e
+
+  pub row-refuses : (p : Option ℕ) (k : ℕ) → unless m p (unless n o t) ≡ refusal m k ↔ p ≡ some k
+  row-refuses none k = (λ e. absurd (other-row (ap (λ (u : Outcome). u .number) e)), λ e. absurd (Option·none-ne-some k e))
+  row-refuses (some v) k = (λ e. ap (λ (u : Outcome). some (u .first)) e, λ e. ap (refusal m) (Option·some-injective v k e))
+
+  pub row-passes : (p : Option ℕ) → (unless m p (unless n o t) .number ≡ m → ⊥) ↔ p ≡ none
+  row-passes none = (λ _. refl, λ _. other-row)
+  row-passes (some v) = (λ e. absurd (e refl), λ e. absurd (Option·some-ne-none v e))
+
 module _ (v : ℕ) (ls : List ℤ) (buf : List ℕ) where
+  pub writer-right : writerAnswer v ls buf .number ≡ 0 → wrongList v ls ≡ none
+  writer-right e = past 16 (wrongList v ls) _ (omega arith) (past 17 (cause (tooManyVariables v)) _ (omega arith) e .1) .0
+
   pub writer-passed : clauseCount ls < 2 ^ 64 → writerAnswer v ls buf .number ≡ 0 → HasText v ls × (length (textOf v ls) ≤ length buf)
   writer-passed c e =
       let a = past 17 (cause (tooManyVariables v)) _ (omega arith) e in
@@ -46,6 +67,12 @@ module _ (v : ℕ) (ls : List ℤ) (buf : List ℕ) where
     writer-hands = let a = writer-answers in (λ i. take (a .outcome i .first) (a .left i)) ∙ take-append-seam (textOf v ls) _
 
 module _ (text : List ℕ) (buf : List ℤ) where
+  pub reader-refused : (k : ℕ) → readerAnswer text buf ≡ refusal 19 k ↔ refusedAt text ≡ some k
+  reader-refused = row-refuses 19 6 (tooShort (length buf) (length (listRead text))) _ (omega arith) (omega arith) (refusedAt text)
+
+  pub reader-taken : (readerAnswer text buf .number ≡ 19 → ⊥) ↔ refusedAt text ≡ none
+  reader-taken = row-passes 19 6 (tooShort (length buf) (length (listRead text))) _ (omega arith) (omega arith) (refusedAt text)
+
   pub reader-passed : readerAnswer text buf .number ≡ 0 → (refusedAt text ≡ none) × (length (listRead text) ≤ length buf)
   reader-passed e =
       let a = past 19 (refusedAt text) _ (omega arith) e in

@@ -31,6 +31,15 @@ closing-counts (more {begun = begun} {l = l} {ls = ls} w c) = by (closes l) begu
     by false true h = h
     by false false h = omega arith
 
+-- at the list's end none is begun
+pub closing-end : {v : ℕ} {begun : Bool} → Closing v begun [] → begun ≡ false
+closing-end done = refl
+
+pub closing-closed : {v : ℕ} {begun : Bool} {ls : List ℤ} → Closing v begun ls → unclosed ls ≡ false
+closing-closed done = refl
+closing-closed (more {l = l} {ls = []} w c) = closing-end c
+closing-closed (more {l = l} {ls = m ∷ ls} w c) = unclosed-tail l m ls ∙ closing-closed c
+
 neither : (first second : Option ℕ) → orElse first second ≡ none → (first ≡ none) × (second ≡ none)
 neither none second e = (refl, e)
 neither (some i) second e = absurd (Option·some-ne-none i e)
@@ -55,13 +64,5 @@ module _ (v : ℕ) where
   within (more {l = l} w c) zero h = le-ltb v (natAbs l) w
   within (more w c) (suc i) h = within c i (omega arith)
 
-  end : {begun : Bool} → Closing v begun [] → begun ≡ false
-  end done = refl
-
-  closed : {begun : Bool} {ls : List ℤ} → Closing v begun ls → unclosed ls ≡ false
-  closed done = refl
-  closed (more {l = l} {ls = []} w c) = end c
-  closed (more {l = l} {ls = m ∷ ls} w c) = unclosed-tail l m ls ∙ closed c
-
   pub closing-right : (ls : List ℤ) → Closing v false ls → wrongList v ls ≡ none
-  closing-right ls c = rw (none-first (beyondAt v ls) (length ls) (within c), closed c)
+  closing-right ls c = rw (none-first (beyondAt v ls) (length ls) (within c), closing-closed c)

@@ -8,9 +8,11 @@ pub mod Numbers
 pub mod Elements
 pub mod Headers
 pub mod Closings
+pub mod Pieces
 pub mod Runs
 pub mod Shapes
 pub mod ReadBack
 pub mod Completions
 pub mod Exactly
+pub mod Lines
 pub mod Calls

@@ -1,6 +1,6 @@
 -- `dimacs_reader::read_body` meets its contract. Assumes nothing.
 use native.Mathlib.Omega.{arith}
-use Rattle.dimacs_reader.proofs.ReaderRows.{head-small, body-refused, body-short, body-read}
+use Rattle.dimacs_reader.proofs.ReaderRows.{head-fits, body-refused, body-short, body-read}
 use borrow.Author.Needs.{needs}
 use Rattle.dimacs_reader.proofs.read_body.Statement.{statement}
 use Rattle.dimacs_reader.proofs.read_body.Tie as tie
@@ -9,7 +9,7 @@ slice-aggregate-read-list : tie.Need-slice-aggregate-read-list
 slice-aggregate-read-list c = search needs
 
 read-list-requires : tie.Need-read-list-requires
-read-list-requires c κs = let at-start = c .before .before in head-small (at-start .args .text .now) (at-start .args .list .now) (at-start .pre)
+read-list-requires c κs = let at-start = c .before .before in head-fits (at-start .args .text .now) (at-start .args .list .now) (at-start .pre)
 
 enum-known-at : tie.Need-enum-known-at
 enum-known-at c = c .match .keys1
@@ -28,7 +28,7 @@ read-list-requires-2 : tie.Need-read-list-requires-2
 read-list-requires-2 c κs =
     let at-nothing2 = c .before .before .before .before .before in
     let at-start = at-nothing2 .before .before .before .before in
-    head-small (at-start .args .text .now) (at-start .args .list .now) (at-start .pre)
+    head-fits (at-start .args .text .now) (at-start .args .list .now) (at-start .pre)
 
 returns-2 : tie.Need-returns-2
 returns-2 c =
