@@ -76,8 +76,8 @@ enum yajilin_refusal {
     YAJILIN_SIZES = 17,          /* V too large, trail or marks not V long, used over V: 0 */
     YAJILIN_ENTRY = 18,          /* a used entry 0, beyond V, on the variable of an earlier one, or with a mark not 0 or 1:
                                     the first such entry's index */
-    YAJILIN_TEXT = 19,           /* text outside the form: the first byte where no accepted text can go on, or the text's
-                                    length if it ends too soon */
+    YAJILIN_TEXT = 19,           /* text outside the form of yajilin_read: the first byte where no accepted text can go
+                                    on, or the text's length if it ends too soon */
     YAJILIN_UNTRUE = 20          /* trail not full, or some clause without a true literal under it: 0 */
 };
 
@@ -163,7 +163,8 @@ uint64_t yajilin_next(uint64_t variables,
                       uint64_t answer[4]);
 
 /*
- * Writes the DIMACS text of V and a clause list into text: `p cnf V C`, then a clause a line. No NUL is added.
+ * Writes the DIMACS text of V and a clause list into text: `p cnf V C`, then a clause a line, single spaces, a line feed
+ * after every line. No NUL is added.
  *
  * Answered: answer[0] bytes written. Bytes past these are untouched.
  * Refused: 17 (V too large), 16, 6. With text_bytes 0 a list that is fit for V is always refused as 6, with the bytes needed.
@@ -174,10 +175,14 @@ uint64_t yajilin_write(uint64_t variables,
                        uint64_t answer[4]);
 
 /*
- * Reads a DIMACS text into list. The form is narrow: comment lines before the header only, then `p cnf V C` and C lines,
- * each the literals of a clause and 0, single spaces, a line feed after every line, no plus and no leading zero.
+ * Reads a DIMACS text into list. The form: comment lines, the header line `p cnf V C` with single spaces, then C clauses,
+ * each its literals and 0. Numbers have no plus and no leading zero. Between two of them stand spaces, tabs and line feeds,
+ * at least one; before the first and after the last these may stand too. So a clause may run over lines, several may stand
+ * on one, and the last number may end the text. A comment line is `c` as a line's first byte, any bytes but line feeds, and a
+ * line feed, which it needs at the end of the text too; after the header it may stand anywhere but inside a clause.
  *
- * Answered: answer[0] elements written, answer[1] V, answer[2] clauses. Elements past these are untouched.
+ * Answered: answer[0] elements written, answer[1] V, answer[2] clauses. Elements past these are untouched. yajilin_write
+ * gives the same bytes again if the text has the form that it writes; else other bytes, with the same V and list.
  * Refused: 19, 6. A text has fewer elements than half its bytes, so a list of text_bytes / 2 is always enough.
  */
 uint64_t yajilin_read(const uint8_t *text, size_t text_bytes,

@@ -1,12 +1,14 @@
 //! The library beside plain Rust, plain copies and outside solvers. See bench/run and docs/PERFORMANCE.md.
 
 mod clock;
+mod files;
 mod grid;
 mod library;
 mod plain;
 mod solvers;
 mod steps;
 mod table;
+mod texts;
 
 use clock::{now, side_by_side, Times};
 use std::hint::black_box;
@@ -138,33 +140,6 @@ impl Text {
     }
 }
 
-/// A small text with one byte changed, at every place: reader and plain Rust refuse alike.
-fn compare_refused_texts() {
-    let what = "read text, one byte changed";
-    let clauses = clauses_of(what, &grid::open(2));
-    let mut text = b"c 2x2\n".to_vec();
-    let mut body = Vec::new();
-    plain::write(clauses.variables as u64, &clauses.list, &mut body);
-    text.extend(body);
-    let mut list = vec![0; text.len()];
-    let mut plain = Vec::new();
-    for at in 0..text.len() {
-        let was = text[at];
-        for byte in *b"0139- c\np" {
-            text[at] = byte;
-            let told = library::read(&text, &mut list);
-            match plain::read(&text, &mut plain) {
-                Ok((variables, clauses)) => {
-                    same(what, &told, &(0, [plain.len() as u64, variables, clauses, 0]));
-                    same(what, &&list[..plain.len()], &&plain[..]);
-                }
-                Err(place) => same(what, &told, &(19, [place as u64, 0, 0, 0])),
-            }
-        }
-        text[at] = was;
-    }
-}
-
 /// The search from the empty trail by the library and by plain Rust, to the same end.
 fn search_row(what: &str, record: &[u8], budget: u64, goal: Goal) -> Row {
     let Clauses { list, variables } = clauses_of(what, record);
@@ -281,7 +256,8 @@ fn main() {
         [] => {}
         ["--steps"] => return steps::print(10.0),
         ["--steps", seconds] if seconds.parse::<u32>().is_ok() => return steps::print(seconds.parse().unwrap_or(10.0)),
-        _ => fail("usage", "bench/run [--steps [SECONDS]]"),
+        ["--files"] => return files::print(),
+        _ => fail("usage", "bench/run [--steps [SECONDS] | --files]"),
     }
     table::print_machine();
     let mut rows = Vec::new();
@@ -289,7 +265,7 @@ fn main() {
     let text = Text::new();
     text.writer_rows(&mut rows);
     text.reader_rows(&mut rows);
-    compare_refused_texts();
+    texts::compare();
     search_rows(&mut rows);
     rows.push(trail_row());
     compare_kinds();

@@ -1,4 +1,4 @@
-//! The parse time that an outside solver reports for a DIMACS file.
+//! The parse time that an outside solver reports for a DIMACS file, and the file that it writes.
 
 use std::io::{BufRead, BufReader};
 use std::process::{Command, Stdio};
@@ -38,4 +38,27 @@ impl Solver {
 
 fn number_with_point(line: &str) -> Option<f64> {
     line.split_whitespace().filter(|word| word.contains('.')).find_map(|word| word.parse().ok())
+}
+
+/// A solver that writes its clauses to a file, after what it does to make them simpler.
+pub struct Simplifier {
+    pub name: &'static str,
+    /// Its options, given the file that it writes.
+    options: fn(&str) -> Vec<String>,
+}
+
+pub const SIMPLIFIERS: [Simplifier; 2] = [
+    Simplifier { name: "minisat", options: |output| vec!["-no-elim".into(), format!("-dimacs={output}")] },
+    Simplifier { name: "cadical", options: |output| vec!["-o".into(), output.into()] },
+];
+
+impl Simplifier {
+    /// Writes the input's clauses, simplified, to the output; false where the program can't be started. A file of an earlier run is
+    /// removed first, so that it can't pass for this one's.
+    pub fn simplify(&self, input: &str, output: &str) -> bool {
+        let _ = std::fs::remove_file(output);
+        let mut command = Command::new(self.name);
+        command.args((self.options)(output)).arg(input);
+        command.stdin(Stdio::null()).stdout(Stdio::null()).stderr(Stdio::null()).status().is_ok()
+    }
 }
