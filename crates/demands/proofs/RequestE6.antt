@@ -2,7 +2,7 @@
 use Prim.Native.Nat.{ℕ}
 use mathlib.Core.Path.{_≡_, refl, subst}
 use mathlib.Core.Option.{some}
-use mathlib.Core.List.{List, _++_, map}
+use mathlib.Core.List.{List, [], _++_, map}
 use Rattle.answers.specs.Lists.{All}
 use Rattle.answers.proofs.Elements.{all-in, all-at}
 use Rattle.text.specs.Decimal.{decimalIn}
@@ -58,6 +58,7 @@ turned-down =
 pub request-e6 : RequestE6
 request-e6 =
     record {
+      any-runs = λ v first ns t s w out room. reader-answers _ out (dimacs.spaced-read [] tt v first ns t s w) room;
       takes = λ text out.
           let t = reader-taken text out in
           let a = dimacs.takes-accepted text in

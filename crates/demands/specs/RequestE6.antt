@@ -11,13 +11,13 @@ use mathlib.Core.List.{List, [], _∷_, _++_}
 use Rattle.answers.specs.Lists.{All, each}
 use Rattle.answers.specs.Outcome.{refusal}
 use Rattle.cnf.specs.Clauses.{split, clauseCount}
-use Rattle.dimacs.specs.Text.{headerLine, CommentByte, commentLines, textOf, Narrow}
+use Rattle.dimacs.specs.Text.{headerLine, CommentByte, commentLines, textOf, HasText, Narrow}
 use Rattle.dimacs.specs.Accepted.{isBlank, numbersOf, Accepted}
 use Rattle.dimacs.specs.Reader.{headerRead}
 use Rattle.dimacs.specs.Calls.{writerAnswer, readerAnswer}
 use Rattle.dimacs_theory.specs.Place.{Refused}
 use Rattle.dimacs_theory.specs.Reading.{Writes, Reads, written, elementsRead}
-use Rattle.dimacs_theory.specs.Lines.{clauseLine}
+use Rattle.dimacs_theory.specs.Lines.{clauseLine, BlankRun, spacedBytes, spacedNumbers, Spaced}
 use Rattle.dimacs_theory.specs.Tokens.{HeaderStands}
 
 -- a text of a header line and these bytes, which is read as a list
@@ -89,8 +89,12 @@ textsRefused =
 
 pub record RequestE6 : Type 0 where
   -- "The reader turned down files that other solver users exchange. DIMACS lets a clause run over several lines and several stand on one, with any non-empty
-  -- run of spaces, tabs and LF between numbers, and any run before the first and after the last; `c` lines, with the `c` as a line's first byte and an LF at
-  -- the end, may also stand anywhere after the header, but not inside a clause. The reader takes these;"
+  -- run of spaces, tabs and LF between numbers, and any run before the first and after the last;"
+  -- (Such a text of any list is read, given room.)
+  pub any-runs : (v : ℕ) (first : List ℕ) (ns : List (ℤ × List ℕ)) → BlankRun first → Spaced ns → let ls = spacedNumbers ns in
+      HasText v ls → (out : List ℤ) → length ls ≤ length out → Reads (headerLine v (clauseCount ls) ++ (first ++ spacedBytes ns)) out v ls
+  -- "`c` lines, with the `c` as a line's first byte and an LF at the end, may also stand anywhere after the header, but not inside a clause. The reader takes
+  -- these;"
   -- (It gives every other text refusal 19, and no accepted one; of an accepted text it reads V, the list and its number of clauses, given room. Some texts,
   -- computed.)
   pub takes : (text : List ℕ) (out : List ℤ) → (readerAnswer text out .number ≡ 19 → ⊥) ↔ Accepted text

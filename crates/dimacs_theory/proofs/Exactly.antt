@@ -4,21 +4,22 @@ use native.Mathlib.Omega.{arith}
 use lib.IntN.{ℤ}
 use lib.ListN.{length, drop}
 use lib.Seq.{drop-append-seam}
-use mathlib.Core.Path.{_≡_, refl, sym, _∙_, ap, subst}
+use mathlib.Core.Path.{_≡_, sym, _∙_, ap, subst, subst₂}
 use mathlib.Core.Logic.{_↔_}
 use mathlib.Core.Option.{none, some}
-use mathlib.Core.List.{List, [], _++_, append-assoc}
-use Rattle.answers.specs.Lists.{All, each}
+use mathlib.Core.List.{List, [], _++_, append-assoc, map}
+use Rattle.answers.specs.Lists.{All}
 use Rattle.cnf.specs.Clauses.{clauseCount}
-use Rattle.dimacs.specs.Text.{headerLine, CommentByte, commentLines, Narrow}
-use Rattle.dimacs.specs.Accepted.{bytesOf, numbersOf, Accepted}
+use Rattle.dimacs.specs.Text.{headerLine, CommentByte, commentLines, HasText, Narrow}
+use Rattle.dimacs.specs.Accepted.{blank, bytesOf, numbersOf, Accepted}
 use Rattle.dimacs.specs.Automaton.{next}
 use Rattle.dimacs.specs.Reader.{Header, State, line, stepByte, accepts, noHeader, headerIn, refusedAt, headerRead}
 use Rattle.dimacs_theory.specs.Place.{Refused, Automaton}
 use Rattle.dimacs_theory.specs.Reading.{ReadAs}
+use Rattle.dimacs_theory.specs.Lines.{BlankRun, spacedBytes, spacedNumbers, Spaced}
 use Rattle.dimacs_theory.specs.Tokens.{HeaderStands}
 use Rattle.dimacs_theory.proofs.Automata.{accepted-ends, ends-accepted, place}
-use Rattle.dimacs_theory.proofs.Pieces.{formed-none, linePieces, lines-bytes, lines-numbers, lines-formed}
+use Rattle.dimacs_theory.proofs.Pieces.{spacedPieces, spaced-bytes, spaced-numbers, laid-out, lineNumbers, lines-bytes, lines-numbers, lines-spaced}
 use Rattle.dimacs_theory.proofs.Runs.{ends, reads, ran, accepted-run}
 use Rattle.dimacs_theory.proofs.Shapes.{Before}
 use Rattle.dimacs_theory.proofs.ReadBack.{kept, start, run-accepted}
@@ -78,21 +79,41 @@ pub place-19 : (text : List ℕ) (k : ℕ) → refusedAt text ≡ some k ↔ Ref
 unfolding reader
 place-19 text k = place reader Accepted exactly text k
 
--- the narrow form, after comment lines too, is accepted
-abbrev pub narrow-accepted : {text : List ℕ} (cs : List (List ℕ)) → All (All CommentByte) cs → Narrow text → Accepted (commentLines cs ++ text)
-narrow-accepted cs a n =
-    let ls = n .list in
+-- numbers with runs of blanks between them, after the header, are accepted ..
+abbrev pub spaced-accepted : (cs : List (List ℕ)) → All (All CommentByte) cs → (v : ℕ) (first : List ℕ) (ns : List (ℤ × List ℕ)) → BlankRun first → Spaced ns
+    → HasText v (spacedNumbers ns) → Accepted (commentLines cs ++ (headerLine v (clauseCount (spacedNumbers ns)) ++ (first ++ spacedBytes ns)))
+spaced-accepted cs a v first ns t s w =
     record {
       comments = cs;
       bytes = a;
-      variables = n .variables;
-      pieces = each ls linePieces;
-      formed = lines-formed [] formed-none refl ls;
-      hasText = rw (lines-numbers ls) (n .hasText);
-      is = ap (λ bs. commentLines cs ++ bs) (rw (n .is, lines-numbers ls, lines-bytes ls));
+      variables = v;
+      pieces = map blank first ++ spacedPieces ns;
+      formed = laid-out first ns t s;
+      hasText = rw (spaced-numbers first ns) w;
+      is = rw (spaced-numbers first ns, spaced-bytes first ns);
     }
 
--- .. and read as the list that it is the text of
+-- .. and read
+pub spaced-read : (cs : List (List ℕ)) (a : All (All CommentByte) cs) (v : ℕ) (first : List ℕ) (ns : List (ℤ × List ℕ)) → BlankRun first → Spaced ns
+    → HasText v (spacedNumbers ns)
+    → ReadAs (commentLines cs ++ (headerLine v (clauseCount (spacedNumbers ns)) ++ (first ++ spacedBytes ns))) v (spacedNumbers ns)
+spaced-read cs a v first ns t s w = subst (ReadAs _ v) (spaced-numbers first ns) (accepted-read (spaced-accepted cs a v first ns t s w))
+
+-- so is the narrow form, after comment lines too
+narrow-is : {text : List ℕ} (n : Narrow text) → let ns = lineNumbers (n .list) in
+    headerLine (n .variables) (clauseCount (spacedNumbers ns)) ++ ([] ++ spacedBytes ns) ≡ text
+narrow-is n = rw (lines-numbers (n .list), lines-bytes (n .list)) (sym (n .is))
+
+narrow-has : {text : List ℕ} (n : Narrow text) → HasText (n .variables) (spacedNumbers (lineNumbers (n .list)))
+narrow-has n = rw (lines-numbers (n .list)) (n .hasText)
+
+pub narrow-accepted : {text : List ℕ} (cs : List (List ℕ)) → All (All CommentByte) cs → Narrow text → Accepted (commentLines cs ++ text)
+narrow-accepted cs a n =
+    subst (λ t. Accepted (commentLines cs ++ t)) (narrow-is n)
+    (spaced-accepted cs a (n .variables) [] (lineNumbers (n .list)) tt (lines-spaced (n .list)) (narrow-has n))
+
 pub narrow-read : {text : List ℕ} (cs : List (List ℕ)) → All (All CommentByte) cs → (n : Narrow text)
     → ReadAs (commentLines cs ++ text) (n .variables) (n .list)
-narrow-read {text} cs a n = subst (ReadAs (commentLines cs ++ text) (n .variables)) (lines-numbers (n .list)) (accepted-read (narrow-accepted cs a n))
+narrow-read cs a n =
+    subst₂ (λ t ls. ReadAs (commentLines cs ++ t) (n .variables) ls) (narrow-is n) (lines-numbers (n .list))
+    (spaced-read cs a (n .variables) [] (lineNumbers (n .list)) tt (lines-spaced (n .list)) (narrow-has n))

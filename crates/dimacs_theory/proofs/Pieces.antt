@@ -9,7 +9,7 @@ use lib.Seq.{getD-at}
 use mathlib.Core.Path.{_≡_, refl, sym, _∙_, ap, subst₂}
 use mathlib.Core.Bool.{Bool, true, false, not, _||_, cond}
 use mathlib.Core.Logic.{_⊎_, inl, inr}
-use mathlib.Core.List.{List, [], _∷_, _++_, append-assoc, append-nil}
+use mathlib.Core.List.{List, [], _∷_, _++_, append-assoc, append-nil, map}
 use Rattle.answers.specs.Lists.{each}
 use Rattle.answers.proofs.Bools.{clash}
 use Rattle.answers.proofs.Elements.{each-append}
@@ -19,6 +19,7 @@ use Rattle.dimacs.specs.Text.{signed, behind, lines, commentLine}
 use Rattle.dimacs.specs.Accepted.{tab, isBlank, Piece, blank, number, comment, pieceBytes, pieceNumbers, bytesOf, numbersOf, lastByte}
 use Rattle.dimacs.specs.Accepted.{EndsInNumber, MayStand, WellFormed}
 use Rattle.dimacs.specs.Reader.{isDigit}
+use Rattle.dimacs_theory.specs.Lines.{BlankRun, spacedBytes, spacedNumbers, Spaced}
 use Rattle.dimacs_theory.proofs.Decimals.{digit-by-digit}
 use Rattle.dimacs_theory.proofs.Numbers.{is-digit}
 
@@ -120,16 +121,76 @@ module _ {ps : List Piece} (formed : WellFormed ps) (front rest : List Piece) (l
 pub unclosed-more : (ls : List ℤ) (l : ℤ) → unclosed (ls ++ (l ∷ [])) ≡ not (closes l)
 unclosed-more ls l = ap (λ m. not (closes m)) (getD-at ls l [] (pos 0) _ (omega (arith, length-append ls (l ∷ []))))
 
--- the lines of a list in pieces
-abbrev pub linePieces : ℤ → List Piece
-linePieces l = number l ∷ blank (behind l) ∷ []
+-- a run in pieces
+run-bytes : (bs : List ℕ) → bytesOf (map blank bs) ≡ bs
+run-bytes [] = refl
+run-bytes (b ∷ bs) = ap (λ cs. b ∷ cs) (run-bytes bs)
 
-pub lines-bytes : (ls : List ℤ) → bytesOf (each ls linePieces) ≡ lines ls
+run-numbers : (bs : List ℕ) → numbersOf (map blank bs) ≡ []
+run-numbers [] = refl
+run-numbers (b ∷ bs) = run-numbers bs
+
+module _ (front : List Piece) where
+  run-more : (b : ℕ) (bs : List ℕ) → front ++ map blank (b ∷ bs) ≡ front ++ (blank b ∷ []) ++ map blank bs
+  run-more b bs = sym (append-assoc front (blank b ∷ []) (map blank bs))
+
+run-formed : (front : List Piece) → WellFormed front → (bs : List ℕ) → BlankRun bs → WellFormed (front ++ map blank bs)
+run-formed front g [] t = rw (append-nil front) g
+run-formed front g (b ∷ bs) t = rw (run-more front b bs) (run-formed (front ++ (blank b ∷ [])) (formed-more (blank b) g (t .0)) bs (t .1))
+
+run-last : (front : List Piece) (b : ℕ) (bs : List ℕ) → BlankRun (b ∷ bs) → isBlank (lastByte (bytesOf (front ++ map blank (b ∷ bs)))) ≡ true
+run-last front b [] t = ap isBlank (last-blank front b) ∙ t .0
+run-last front b (c ∷ bs) t = rw (run-more front b (c ∷ bs)) (run-last (front ++ (blank b ∷ [])) c bs (t .1))
+
+-- numbers with runs between them, in pieces
+abbrev pub spacedPieces : List (ℤ × List ℕ) → List Piece
+spacedPieces ns = each ns (λ n. number (n .0) ∷ map blank (n .1))
+
+pub spaced-bytes : (first : List ℕ) (ns : List (ℤ × List ℕ)) → bytesOf (map blank first ++ spacedPieces ns) ≡ first ++ spacedBytes ns
+spaced-bytes first ns = each-append pieceBytes (map blank first) (spacedPieces ns) ∙ (λ i. run-bytes first i ++ by ns i)
+  where
+    by : (ns : List (ℤ × List ℕ)) → bytesOf (spacedPieces ns) ≡ spacedBytes ns
+    by [] = refl
+    by (n ∷ ns) =
+        ap (λ bs. signed (n .0) ++ bs) (each-append pieceBytes (map blank (n .1)) (spacedPieces ns) ∙ (λ i. run-bytes (n .1) i ++ by ns i))
+        ∙ sym (append-assoc (signed (n .0)) (n .1) (spacedBytes ns))
+
+pub spaced-numbers : (first : List ℕ) (ns : List (ℤ × List ℕ)) → numbersOf (map blank first ++ spacedPieces ns) ≡ spacedNumbers ns
+spaced-numbers first ns = each-append pieceNumbers (map blank first) (spacedPieces ns) ∙ (λ i. run-numbers first i ++ by ns i)
+  where
+    by : (ns : List (ℤ × List ℕ)) → numbersOf (spacedPieces ns) ≡ spacedNumbers ns
+    by [] = refl
+    by (n ∷ ns) =
+        ap (λ ls. n .0 ∷ ls) (each-append pieceNumbers (map blank (n .1)) (spacedPieces ns) ∙ (λ i. run-numbers (n .1) i ++ by ns i))
+
+spaced-formed : (front : List Piece) → WellFormed front → isBlank (lastByte (bytesOf front)) ≡ true → (ns : List (ℤ × List ℕ)) → Spaced ns
+    → WellFormed (front ++ spacedPieces ns)
+spaced-formed front g t [] s = rw (append-nil front) g
+spaced-formed front g t (n ∷ []) s =
+    rw (append-nil (map blank (n .1)), ← append-assoc front (number (n .0) ∷ []) (map blank (n .1)))
+    (run-formed (front ++ (number (n .0) ∷ [])) (formed-more (number (n .0)) g (may-number t)) (n .1) s)
+spaced-formed front g t ((l, []) ∷ m ∷ ns) s = absurd (s .1 refl)
+spaced-formed front g t ((l, b ∷ bs) ∷ m ∷ ns) s =
+    let before = front ++ (number l ∷ []) in
+    rw (← append-assoc front (number l ∷ []) (map blank (b ∷ bs) ++ spacedPieces (m ∷ ns)), ← append-assoc before (map blank (b ∷ bs)) (spacedPieces (m ∷ ns)))
+    (spaced-formed (before ++ map blank (b ∷ bs)) (run-formed before (formed-more (number l) g (may-number t)) (b ∷ bs) (s .0)) (run-last before b bs (s .0))
+    (m ∷ ns) (s .2))
+
+pub laid-out : (first : List ℕ) (ns : List (ℤ × List ℕ)) → BlankRun first → Spaced ns → WellFormed (map blank first ++ spacedPieces ns)
+laid-out [] ns t s = spaced-formed [] formed-none refl ns s
+laid-out (b ∷ bs) ns t s = spaced-formed (map blank (b ∷ bs)) (run-formed [] formed-none (b ∷ bs) t) (run-last [] b bs t) ns s
+
+-- the narrow form is one of these
+abbrev pub lineNumbers : List ℤ → List (ℤ × List ℕ)
+lineNumbers ls = map (λ l. (l, behind l ∷ [])) ls
+
+pub lines-bytes : (ls : List ℤ) → spacedBytes (lineNumbers ls) ≡ lines ls
 unfolding lines
 lines-bytes [] = refl
-lines-bytes (l ∷ ls) = ap (λ bs. signed l ++ (behind l ∷ bs)) (lines-bytes ls)
+lines-bytes (l ∷ ls) =
+    append-assoc (signed l) (behind l ∷ []) (spacedBytes (lineNumbers ls)) ∙ ap (λ bs. signed l ++ (behind l ∷ bs)) (lines-bytes ls)
 
-pub lines-numbers : (ls : List ℤ) → numbersOf (each ls linePieces) ≡ ls
+pub lines-numbers : (ls : List ℤ) → spacedNumbers (lineNumbers ls) ≡ ls
 lines-numbers [] = refl
 lines-numbers (l ∷ ls) = ap (λ ms. l ∷ ms) (lines-numbers ls)
 
@@ -140,17 +201,10 @@ behind-blank l = by (closes l)
     by true = refl
     by false = refl
 
-pub lines-formed : (front : List Piece) → WellFormed front → isBlank (lastByte (bytesOf front)) ≡ true → (ls : List ℤ)
-    → WellFormed (front ++ each ls linePieces)
-lines-formed front g t [] = rw (append-nil front) g
-lines-formed front g t (l ∷ ls) =
-    rw (
-      ← append-assoc front (number l ∷ []) (blank (behind l) ∷ each ls linePieces),
-      ← append-assoc (front ++ (number l ∷ [])) (blank (behind l) ∷ []) (each ls linePieces),
-    )
-    (lines-formed (front ++ (number l ∷ []) ++ (blank (behind l) ∷ []))
-    (formed-more (blank (behind l)) (formed-more (number l) g (may-number t)) (behind-blank l))
-    (ap isBlank (last-blank (front ++ (number l ∷ [])) (behind l)) ∙ behind-blank l) ls)
+pub lines-spaced : (ls : List ℤ) → Spaced (lineNumbers ls)
+lines-spaced [] = tt
+lines-spaced (l ∷ []) = (behind-blank l, tt)
+lines-spaced (l ∷ m ∷ ls) = ((behind-blank l, tt), (λ e. absurd (omega (arith, ap length e))), lines-spaced (m ∷ ls))
 
 -- each number has a byte of its own, and each but the last one behind it
 decimal-some : (x : ℕ) → 1 ≤ length (decimal x)

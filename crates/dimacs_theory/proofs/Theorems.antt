@@ -28,7 +28,7 @@ use Rattle.dimacs.proofs.Outcomes.{writings, readings}
 use Rattle.dimacs_theory.specs.Place.{Refused, Automaton}
 use Rattle.dimacs_theory.specs.Tokens.{NumberStands, signAndNumber, ElementStands, HeaderStands}
 use Rattle.dimacs_theory.specs.Reading.{ReadAs, Writes, Reads, written, elementsRead}
-use Rattle.dimacs_theory.specs.Lines.{clauseLine}
+use Rattle.dimacs_theory.specs.Lines.{clauseLine, BlankRun, spacedBytes, spacedNumbers, Spaced}
 use Rattle.dimacs_theory.proofs.Automata as automata
 use Rattle.dimacs_theory.proofs.Closings.{closing, closing-closed}
 use Rattle.dimacs_theory.proofs.Lines.{lines-clauses}
@@ -75,6 +75,12 @@ half-enough text a =
     let whole = length-append front (header ++ bytesOf (a .pieces)) in
     let rest = length-append header (bytesOf (a .pieces)) in
     rw (r .list, a .is) (omega (arith, few, whole, rest))
+
+-- Numbers with runs of blanks between them, any run before the first and any after the last, are read, after comment lines too.
+pub spaced-read : (cs : List (List ℕ)) → All (All CommentByte) cs → (v : ℕ) (first : List ℕ) (ns : List (ℤ × List ℕ)) → BlankRun first → Spaced ns
+    → HasText v (spacedNumbers ns)
+    → ReadAs (commentLines cs ++ (headerLine v (clauseCount (spacedNumbers ns)) ++ (first ++ spacedBytes ns))) v (spacedNumbers ns)
+spaced-read = exact.spaced-read
 
 -- A text in the narrow form, after comment lines or none, is accepted, and its V and list are read. These are the texts that document 01 accepts.
 pub narrow-accepted : (cs : List (List ℕ)) → All (All CommentByte) cs → (text : List ℕ) → Narrow text → Accepted (commentLines cs ++ text)
