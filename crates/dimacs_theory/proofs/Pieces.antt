@@ -100,11 +100,12 @@ pub may-number : {ps : List Piece} → isBlank (lastByte (bytesOf ps)) ≡ true 
 may-number {ps} t r =
     clash (ap (λ qs. isDigit (lastByte (bytesOf qs))) (r .2) ∙ last-number (r .0) (r .1)) (blank-no-digit (lastByte (bytesOf ps)) t)
 
--- the piece at a place, and what may not stand behind a number
+-- the piece at a place
 pub formed-at : {ps : List Piece} → WellFormed ps → (front rest : List Piece) (p : Piece) → ps ≡ front ++ (p ∷ rest)
     → (ps ≡ front ++ (p ∷ []) ++ rest) × MayStand front p
 formed-at formed front rest p e = (e ∙ sym (append-assoc front (p ∷ []) rest), formed front rest p e)
 
+-- what may not stand right after a number
 module _ {ps : List Piece} (formed : WellFormed ps) (front rest : List Piece) (l : ℤ) where
   pub not-numbers : (m : ℤ) → ps ≡ front ++ (number l ∷ number m ∷ rest) → ⊥
   not-numbers m e =
@@ -130,9 +131,8 @@ run-numbers : (bs : List ℕ) → numbersOf (map blank bs) ≡ []
 run-numbers [] = refl
 run-numbers (b ∷ bs) = run-numbers bs
 
-module _ (front : List Piece) where
-  run-more : (b : ℕ) (bs : List ℕ) → front ++ map blank (b ∷ bs) ≡ front ++ (blank b ∷ []) ++ map blank bs
-  run-more b bs = sym (append-assoc front (blank b ∷ []) (map blank bs))
+run-more : (front : List Piece) (b : ℕ) (bs : List ℕ) → front ++ map blank (b ∷ bs) ≡ front ++ (blank b ∷ []) ++ map blank bs
+run-more front b bs = sym (append-assoc front (blank b ∷ []) (map blank bs))
 
 run-formed : (front : List Piece) → WellFormed front → (bs : List ℕ) → BlankRun bs → WellFormed (front ++ map blank bs)
 run-formed front g [] t = rw (append-nil front) g
