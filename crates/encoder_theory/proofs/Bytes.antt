@@ -17,7 +17,7 @@ use Rattle.rules.specs.Directions.{bit}
 use Rattle.rules.specs.Board.{Board}
 use Rattle.rules.specs.Drawing.{Drawing, Solution, weight, linkSum, byteLink, linkAt, blackAt, drawingAt, Allowed, SolutionBytes}
 use Rattle.rules.proofs.Boards.{Laws}
-use Rattle.rules_theory.proofs.Bytes.{no-links-0, no-links-10, no-links-20}
+use Rattle.rules_theory.proofs.Bytes.{sum-small, sum-same, no-links-0, no-links-10, no-links-20}
 use Rattle.answers.specs.Lists.{upTo}
 use Rattle.encoder.specs.Decoding.{drawnByte}
 use Rattle.answers.proofs.Elements.{made-long, made-at}
@@ -45,12 +45,6 @@ sum-link p d = ap (λ n. eqb n 1) (digit d) ∙ bit-is (p d)
     digit east = omega (arith, bits-small p)
     digit south = omega (arith, bits-small p)
     digit west = omega (arith, bits-small p)
-
-sum-small : (p : Direction → Bool) → linkSum p < 16
-sum-small p = omega (arith, bits-small p)
-
-sum-same : (p q : Direction → Bool) → ((d : Direction) → p d ≡ q d) → linkSum p ≡ linkSum q
-sum-same p q h = rw (h north, h east, h south, h west)
 
 -- the byte of an open cell, black without links, or white
 module _ (p : Direction → Bool) where

@@ -18,7 +18,7 @@ use Rattle.rules.specs.Judge.{badByte}
 use Rattle.rules_theory.proofs.Directions.{all-four}
 
 -- a sum of links is below 16
-sum-small : (p : Direction → Bool) → linkSum p < 16
+pub sum-small : (p : Direction → Bool) → linkSum p < 16
 sum-small p = omega (arith, small (p north), small (p east), small (p south), small (p west))
   where
     small : (t : Bool) → bit t ≤ 1
@@ -26,9 +26,13 @@ sum-small p = omega (arith, small (p north), small (p east), small (p south), sm
     small false = omega arith
 
 -- and each number below 16 is the sum of its links: all are tried
-sum-back : (v : ℕ) → v < 16 → linkSum (byteLink v) ≡ v
+pub sum-back : (v : ℕ) → v < 16 → linkSum (byteLink v) ≡ v
 unfolding firstFrom
 sum-back v h = eqb-true _ _ (not-false _ (first-none (λ v. not (eqb (linkSum (byteLink v)) v)) 16 refl v h))
+
+-- the same links have the same sum
+pub sum-same : (p q : Direction → Bool) → ((d : Direction) → p d ≡ q d) → linkSum p ≡ linkSum q
+sum-same p q h = rw (h north, h east, h south, h west)
 
 -- a byte that is not bad at an open cell
 open-small : (v : ℕ) → badByte true v ≡ false → v ≤ 16
