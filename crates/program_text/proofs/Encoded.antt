@@ -18,12 +18,13 @@ use Rattle.answers.proofs.Rows.{Clear, answered-clear, clear-answered}
 use Rattle.answers.proofs.Settled.{enough}
 use Rattle.rules.specs.Record.{recordRows, IsAccepted}
 use Rattle.rules.specs.Board.{boardOf}
+use Rattle.rules.proofs.Records.{clear-parts, clear-accepted}
 use Rattle.encoder.specs.Variables.{variableCount}
 use Rattle.encoder.specs.Clauses.{clauses, clauseList}
 use Rattle.encoder.specs.Encoding.{encoderRows, encoderAnswer, encoderLeaves}
 use Rattle.program_text.specs.Lines.{refusedLine}
 use Rattle.program_text.specs.Programs.{elementLimit, variableLimit, needsMore, programNumber, printed}
-use Rattle.program_text.proofs.Limits.{limited, left, left-to-limits, clear-parts, clear-accepted, same-number, printed-refused}
+use Rattle.program_text.proofs.Limits.{limited, left, left-to-limits, same-number, printed-refused}
 
 -- the list that a program lends
 abbrev pub zeros : List ℤ

@@ -17,17 +17,13 @@ use Rattle.answers.specs.Lists.{All}
 use Rattle.answers.proofs.Lent.{wrote-length}
 use Rattle.answers.proofs.Bools.{or-neither}
 use Rattle.answers.proofs.Rows.{Clear, refusals-append, answered-clear, clear-answered, no-cause}
-use Rattle.rules.specs.declared.RecordRefusal.{RecordRefusal}
-use Rattle.rules.specs.declared.Parsed.{Parsed}
-use Rattle.rules.specs.declared.Parsed.the-variants.{Refused}
-use Rattle.rules.specs.Record.{recordRows, recordAnswer, IsAccepted, recordRefusalOutcome, parsedOutcome}
-use Rattle.rules.proofs.Records.{refusal-number, passes-up}
+use Rattle.rules.specs.Record.{recordRows, IsAccepted}
 use Rattle.rules.specs.Board.{boardOf}
+use Rattle.rules.proofs.Records.{clear-parts, clear-accepted}
 use Rattle.text.specs.Decimal.{decimal, lineFeed}
 use Rattle.text.proofs.Decimals.{digits-few}
 use Rattle.encoder.specs.Variables.{variableCount}
 use Rattle.encoder.specs.Clauses.{clauseList}
-use Rattle.answers.proofs.Elements.{all-left, all-right}
 use Rattle.program_text.specs.Lines.{refusedLine}
 use Rattle.program_text.specs.Programs.{elementLimit, variableLimit, needsMore, programRows, programNumber, printed}
 
@@ -55,18 +51,12 @@ module _ (s : List ℕ) where
   pub left-to-limits : Clear (recordRows s) → programNumber s ≡ limited (needsMore (boardOf s))
   left-to-limits c = ap (λ (t : Outcome). t .number) (left c (row 6 (cause (needsMore (boardOf s))) ∷ []) (answer 0 0 0))
 
-  pub clear-parts : (qs : List Row) → Clear (recordRows s ++ qs) → Clear (recordRows s) × Clear qs
-  clear-parts qs c = (all-left (λ (r : Row). r .beside ≡ none) (recordRows s) qs c, all-right (λ (r : Row). r .beside ≡ none) (recordRows s) qs c)
-
-  pub clear-accepted : Clear (recordRows s) → IsAccepted s
-  clear-accepted c = ap (λ (t : Outcome). t .number) (clear-answered (recordRows s) _ c)
-
   -- no refusal: an accepted grid that needs no more than the programs hold
   pub unrefused : programNumber s ≡ 0 → IsAccepted s × (length (clauseList (boardOf s)) ≤ elementLimit) × (variableCount (boardOf s) ≤ variableLimit)
   unrefused e =
-      let (c, l) = clear-parts (row 6 (cause (needsMore (boardOf s))) ∷ []) (answered-clear (programRows s) (answer 0 0 0) refl e) in
+      let (c, l) = clear-parts s (row 6 (cause (needsMore (boardOf s))) ∷ []) (answered-clear (programRows s) (answer 0 0 0) refl e) in
       let n = or-neither (ltb elementLimit (length (clauseList (boardOf s)))) _ (no-cause (needsMore (boardOf s)) (l .0)) in
-      (clear-accepted c, ltb-false elementLimit (length (clauseList (boardOf s))) (n .0), ltb-false variableLimit (variableCount (boardOf s)) (n .1))
+      (clear-accepted s c, ltb-false elementLimit (length (clauseList (boardOf s))) (n .0), ltb-false variableLimit (variableCount (boardOf s)) (n .1))
 
   -- the same refusal as that of another call
   pub same-number : (qs : List Row) (t : Outcome) → (Clear (recordRows s) → firstRefusal qs t .number ≡ limited (needsMore (boardOf s)))
@@ -79,13 +69,6 @@ printed-refused {m = m} text e h = ap refusedLine e ∙ sym (ap (λ b. cond b te
 
 pub printed-text : {m : ℕ} (text : List ℕ) → m ≡ 0 → text ≡ printed m text
 printed-text {m} text e = sym (ap (λ b. cond b text (refusedLine m)) (eq-eqb m 0 e))
-
--- a record that is turned down
-pub read-refused : (s text : List ℕ) {p : Parsed} {r : RecordRefusal} {t : Outcome} → p ≡ Refused r → parsedOutcome p ≡ recordAnswer s
-    → t ≡ recordRefusalOutcome r → refusedLine (t .number) ≡ printed (programNumber s) text
-read-refused s text {r = r} q e h =
-    let n = ap (λ (t : Outcome). t .number) (passes-up s (row 6 (cause (needsMore (boardOf s))) ∷ []) (answer 0 0 0) q e) in
-    printed-refused text (ap (λ (t : Outcome). t .number) h ∙ n) (λ z. refusal-number r (n ∙ z))
 
 -- no row has a number over 6, so the line of a refusal is short
 rows-most : (rs : List Row) (t : Outcome) → All (λ (r : Row). r .number ≤ 6) rs → t .number ≤ 6 → firstRefusal rs t .number ≤ 6

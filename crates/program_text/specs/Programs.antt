@@ -59,8 +59,10 @@ endText Halted drawing = haltedLine
 abbrev pub drawingAt : Board → Done → List ℕ
 drawingAt b d = decoded b (bytesOf (valuesOf (variableCount b) (d .trail)))
 
+-- what is printed of a record, given the text of that drawing
+abbrev pub solutionText : List ℕ → List ℕ → List ℕ
+solutionText s text = printed (programNumber s) (endText (searched (boardOf s) .ending) text)
+
 -- program 2
 abbrev pub printedSolution : List ℕ → List ℕ
-printedSolution s =
-    printed (programNumber s)
-    (endText (searched (boardOf s) .ending) (drawingText (gridOf s .columns) (drawingAt (boardOf s) (searched (boardOf s)))))
+printedSolution s = solutionText s (drawingText (gridOf s .columns) (drawingAt (boardOf s) (searched (boardOf s))))

@@ -14,7 +14,7 @@ use Rattle.answers.proofs.First.{first-none}
 use Rattle.answers.proofs.Bools.{clash, and-both, or-left, or-right, or-neither}
 use Rattle.answers.proofs.Rows.{Clear, answered-clear, clear-answered, no-cause, still-refused, refusals-append}
 use Rattle.answers.proofs.OneToOne.{number-not}
-use Rattle.answers.proofs.Elements.{all-map, made-long, made-at}
+use Rattle.answers.proofs.Elements.{all-left, all-right, all-map, made-long, made-at}
 use Rattle.answers.specs.Lists.{All, upTo}
 use Rattle.answers.specs.declared.Outcome.{Outcome}
 use Rattle.answers.specs.First.{firstWhere}
@@ -215,6 +215,9 @@ module _ (s : List ℕ) (acc : IsAccepted s) where
       let w = or-neither (not (isSide (gridOf s .kind) (gridOf s .rows))) _ (no-cause _ c3) in
       (not-false _ (w .0), not-false _ (w .1))
 
+  pub accepted-some : 0 < gridOf s .rows
+  accepted-some = side-between (gridOf s .kind) _ (accepted-sides .0) .0
+
   pub accepted-rows : gridOf s .rows ≤ 45
   accepted-rows = side-between (gridOf s .kind) _ (accepted-sides .0) .1
 
@@ -233,6 +236,14 @@ module _ (s : List ℕ) (acc : IsAccepted s) where
 
   pub accepted-laws : Laws (boardOf s)
   accepted-laws = laws (puzzle (gridOf s) s) (puzzle-filled (gridOf s) s)
+
+-- Rows that come after the reader's: none has its cause, so none of the reader's has, and the record is accepted
+module _ (s : List ℕ) where
+  pub clear-parts : (qs : List Row) → Clear (recordRows s ++ qs) → Clear (recordRows s) × Clear qs
+  clear-parts qs c = (all-left (λ (r : Row). r .beside ≡ none) (recordRows s) qs c, all-right (λ (r : Row). r .beside ≡ none) (recordRows s) qs c)
+
+  pub clear-accepted : Clear (recordRows s) → IsAccepted s
+  clear-accepted c = ap (λ (t : Outcome). t .number) (clear-answered (recordRows s) _ c)
 
 -- The causes of rows 1 to 5, by the code's tests
 module _ (s : List ℕ) where

@@ -1,2 +1,2 @@
--- How the program goes on after the solver's call, and that what it prints fits.
+-- How the program ends after the call of `solve_record`, and that what it prints fits.
 pub mod Ends

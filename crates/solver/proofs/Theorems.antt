@@ -11,14 +11,15 @@ use Rattle.answers.specs.ByRows.{ByRows}
 use Rattle.answers.proofs.ByRows.{by-rows}
 use Rattle.answers.proofs.Rows.{Clear, answered-clear, clear-answered}
 use Rattle.answers.proofs.Settled.{untouched}
-use Rattle.rules.specs.Record.{recordRows, IsAccepted}
+use Rattle.rules.specs.Record.{IsAccepted}
 use Rattle.rules.specs.Board.{boardOf}
 use Rattle.rules.specs.Drawing.{SolutionBytes}
+use Rattle.rules.proofs.Records.{clear-parts, clear-accepted}
 use Rattle.encoder.specs.Variables.{variableCount}
 use Rattle.encoder.specs.Decoding.{decoded}
 use Rattle.search.specs.Run.{Found, None, Halted, endingNumber, doneOutcome}
 use Rattle.search.proofs.Endings.{same-ending}
-use Rattle.solver.specs.SolverCall.{Lent, solved, trailBytes, solverRows, solverAnswer, atFound, written, solverLeaves}
+use Rattle.solver.specs.SolverCall.{Lent, solved, trailBytes, roomRows, solverRows, solverAnswer, atFound, written, solverLeaves}
 use Rattle.solver.proofs.Begun as begun
 
 module _ (s : List ℕ) (budget : ℕ) (lent : Lent) where
@@ -35,9 +36,7 @@ module _ (s : List ℕ) (budget : ℕ) (lent : Lent) where
 
     -- the grid is accepted;
     pub accepted : IsAccepted s
-    accepted =
-        let (c1, (c2, (c3, (c4, (c5, c))))) = clear in
-        ap (λ (t : Outcome). t .number) (clear-answered (recordRows s) _ (c1, (c2, (c3, (c4, (c5, tt))))))
+    accepted = clear-accepted s (clear-parts s (roomRows (boardOf s) lent) clear .0)
 
     says : solverAnswer s budget lent ≡ doneOutcome (solved (boardOf s) budget)
     says = clear-answered (solverRows s lent) _ clear
