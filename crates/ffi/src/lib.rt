@@ -3,6 +3,7 @@
 ghost use mathlib.Core.Path.{_≡_};
 ghost use Rattle.answers.specs.Outcome.{words};
 ghost use Rattle.rules.specs.Judge.{judgeAnswer};
+ghost use Rattle.sheet.specs.SheetCall.{sheetAnswer, sheetLeaves};
 ghost use Rattle.dimacs.specs.Calls.{writerAnswer, writerLeaves, readerAnswer, readerLeaves};
 ghost use Rattle.encoder.specs.Encoding.{encoderAnswer, encoderLeaves};
 ghost use Rattle.encoder.specs.Decoding.{decoderAnswer, decoderLeaves};
@@ -17,6 +18,22 @@ pub extern "C" fn yajilin_judge(record: &[u8], drawing: &[u8], answer: &mut [u64
 {
     let verdict = judge::judge(record, drawing);
     verdict.outcome().write(answer)
+}
+
+// The proof sheet of a drawing that the judge agrees with. Answered: the count of bytes written.
+#[no_mangle]
+pub extern "C" fn yajilin_sheet(
+    record: &[u8],
+    drawing: &[u8],
+    sheet: &mut [u8],
+    answer: &mut [u64; 4],
+) -> u64
+    ensures { λ r. ⌜ r ≡ sheetAnswer (now («record» .entry)) (now (drawing .entry)) (now (sheet .entry)) .number ⌝ }
+    ensures { λ r. ⌜ now (answer .exit) ≡ words (sheetAnswer (now («record» .entry)) (now (drawing .entry)) (now (sheet .entry))) ⌝ }
+    ensures { λ r. ⌜ now (sheet .exit) ≡ sheetLeaves (now («record» .entry)) (now (drawing .entry)) (now (sheet .entry)) ⌝ }
+{
+    let written = sheet_call::write(record, drawing, sheet);
+    written.outcome().write(answer)
 }
 
 // The DIMACS text of V and a clause list. Answered: the count of bytes written.
