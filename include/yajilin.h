@@ -1,6 +1,6 @@
 /*
- * Yajilin: judge, encoder, decoder, search and DIMACS text. docs/REFERENCE.md has the formats, clauses, steps and
- * refusals in full, with examples.
+ * Yajilin: judge, proof sheet, encoder, decoder, search and DIMACS text. docs/REFERENCE.md has the formats, clauses, steps
+ * and refusals in full, with examples.
  *
  * Link with target/staticlib/libffi.a, which `rt staticlib ffi` writes (x86-64, System V calls). Of the C library it
  * needs memcpy and memset. It allocates nothing, keeps nothing between calls and does no input or output, so calls may
@@ -53,6 +53,7 @@ extern "C" {
 
 #define YAJILIN_MOST_VARIABLES 16777216
 #define YAJILIN_MOST_CELLS 2025
+#define YAJILIN_MOST_SHEET_BYTES 12104
 
 /* The refusals, and the value beside each. Cells, indexes and bytes are counted from 0, variables from 1. */
 enum yajilin_refusal {
@@ -95,6 +96,27 @@ enum yajilin_search_answer {
  */
 uint64_t yajilin_judge(const uint8_t *record, size_t record_bytes,
                        const uint8_t *drawing, size_t drawing_bytes,
+                       uint64_t answer[4]);
+
+/*
+ * Writes the proof sheet of a solution of the record's grid into sheet: 2 * rows - 1 lines, each 3 * columns characters
+ * and a line feed. Spaces at the end of a line stay. No NUL is added.
+ *
+ * - A cell row has three characters a cell. A clue: N, E, S or W, and its number, right-aligned in two. A shaded cell:
+ *   `...`. A black cell: ` # `. A white cell: `+`, and on its left and right `-` for a link that way, else a space.
+ * - Between two cell rows stands a line with `|` under the middle of each cell with a south link, spaces elsewhere.
+ *
+ * The open 2x2 grid's solution gives the lines ` +--+ `, ` |  | `, ` +--+ `. Grid and drawing can be got back from the
+ * sheet, but not the record's kind.
+ *
+ * Answered: answer[0] bytes written, (2 * rows - 1) * (3 * columns + 1), at most YAJILIN_MOST_SHEET_BYTES. Bytes past
+ * these are untouched.
+ * Refused: 1 to 5, 7, 10 to 15 as yajilin_judge; 6. With sheet_bytes 0 a solution is always refused as 6, with the bytes
+ * needed.
+ */
+uint64_t yajilin_sheet(const uint8_t *record, size_t record_bytes,
+                       const uint8_t *drawing, size_t drawing_bytes,
+                       uint8_t *sheet, size_t sheet_bytes,
                        uint64_t answer[4]);
 
 /*

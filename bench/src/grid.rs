@@ -1,4 +1,4 @@
-//! Grid records: open ones, and ones dealt with a solution.
+//! Grid records: open ones, random ones, and ones made with a solution.
 
 pub const BLACK: u8 = 0x10;
 /// A clue or a shaded cell.
@@ -187,6 +187,42 @@ pub fn dealt_shaded_in(kind: Kind, side: usize, seed: u64) -> (Vec<u8>, Vec<u8>)
         *cell = Cell::Shaded;
     }
     (kind.record_of(Sides { rows: side, columns: side }, &cells), drawing)
+}
+
+/// A grid with a loop through four cells and a clue whose line has so many black cells, all others shaded; and its solution. The line is
+/// the rest of the last row or the last column. None where the kind has no such side.
+pub fn counted_in(kind: Kind, d: usize, number: usize) -> Option<(Vec<u8>, Vec<u8>)> {
+    let side = (2 * number).max(3);
+    if side > kind.most_side as usize {
+        return None;
+    }
+    let sides = Sides { rows: side, columns: side };
+    let last = sides.size() - 1;
+    let clue = [last, last + 1 - side, side - 1, last][d];
+    let black = sides.line(clue, d).step_by(2).take(number).map(|x| (x, BLACK));
+    let white = [(0, 0x06), (1, 0x0c), (side, 0x03), (side + 1, 0x09)];
+    let mut cells = vec![Cell::Shaded; sides.size()];
+    let mut drawing = vec![NOT_OPEN; sides.size()];
+    cells[clue] = Cell::Clue(d, number);
+    for (x, byte) in black.chain(white) {
+        cells[x] = Cell::Open;
+        drawing[x] = byte;
+    }
+    Some((kind.record_of(sides, &cells), drawing))
+}
+
+/// A grid of random cells, most of them open, with small numbers. It may have no solution.
+pub fn random_in(kind: Kind, sides: Sides, seed: u64) -> Vec<u8> {
+    let mut dice = Dice(seed);
+    let mut cells = vec![Cell::Open; sides.size()];
+    for cell in &mut cells {
+        match dice.below(10) {
+            0 => *cell = Cell::Shaded,
+            1 => *cell = Cell::Clue(dice.below(4), dice.below(3)),
+            _ => {}
+        }
+    }
+    kind.record_of(sides, &cells)
 }
 
 fn dealt_cells(side: usize, seed: u64) -> (Vec<Cell>, Vec<u8>) {

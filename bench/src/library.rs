@@ -5,6 +5,7 @@ pub const ROOM: u64 = 6;
 mod c {
     extern "C" {
         pub fn yajilin_judge(record: *const u8, n: usize, drawing: *const u8, d: usize, answer: *mut u64) -> u64;
+        pub fn yajilin_sheet(record: *const u8, n: usize, drawing: *const u8, d: usize, sheet: *mut u8, s: usize, answer: *mut u64) -> u64;
         pub fn yajilin_encode(record: *const u8, n: usize, list: *mut i32, l: usize, answer: *mut u64) -> u64;
         pub fn yajilin_decode(
             record: *const u8,
@@ -38,6 +39,22 @@ pub type Told = (u64, [u64; 4]);
 pub fn judge(record: &[u8], drawing: &[u8]) -> Told {
     let mut answer = [0; 4];
     let number = unsafe { c::yajilin_judge(record.as_ptr(), record.len(), drawing.as_ptr(), drawing.len(), answer.as_mut_ptr()) };
+    (number, answer)
+}
+
+pub fn sheet(record: &[u8], drawing: &[u8], sheet: &mut [u8]) -> Told {
+    let mut answer = [0; 4];
+    let number = unsafe {
+        c::yajilin_sheet(
+            record.as_ptr(),
+            record.len(),
+            drawing.as_ptr(),
+            drawing.len(),
+            sheet.as_mut_ptr(),
+            sheet.len(),
+            answer.as_mut_ptr(),
+        )
+    };
     (number, answer)
 }
 

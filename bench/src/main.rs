@@ -5,6 +5,7 @@ mod files;
 mod grid;
 mod library;
 mod plain;
+mod sheets;
 mod solvers;
 mod steps;
 mod table;
@@ -31,6 +32,17 @@ pub fn clauses_of(what: &str, record: &[u8]) -> Clauses {
     same(what, &(number, answer), &(0, [plain.len() as u64, variables, clauses, 0]));
     same(what, &list, &plain);
     Clauses { list, variables: variables as usize }
+}
+
+/// The drawing of a full trail that satisfies a grid's clauses.
+pub fn decoded(what: &str, record: &[u8], trail: &[i32]) -> Vec<u8> {
+    let mut values = vec![0; trail.len()];
+    for &l in trail.iter().filter(|&&l| l > 0) {
+        values[l as usize - 1] = 1;
+    }
+    let mut drawing = vec![0; record[4] as usize * record[5] as usize];
+    same(what, &library::decode(record, &values, &mut drawing), &(0, [0; 4]));
+    drawing
 }
 
 /// A row in which more is better: so many units of work, in millions a second.
@@ -217,6 +229,22 @@ fn judge_row(side: usize, goal: Goal) -> Row {
     time_row(&what, times, |seconds| format!("{:.1} µs", seconds * 1e6), goal)
 }
 
+/// The sheet of a solved grid, which both judge before they write.
+fn sheet_row(side: usize) -> Row {
+    let what = format!("sheet, solved {side}×{side}");
+    let (record, drawing) = grid::dealt(side, 1);
+    sheets::compare_rooms(&what, &record, &drawing);
+    let bytes = sheets::bytes(&record);
+    let (mut sheet, mut plain) = (vec![0; bytes], vec![0; bytes]);
+    let times = side_by_side(
+        ROUNDS,
+        &mut || same(&what, &library::sheet(black_box(&record), black_box(&drawing), black_box(&mut sheet)).0, &0),
+        &mut || same(&what, &plain::sheet(black_box(&record), black_box(&drawing), black_box(&mut plain)).0, &0),
+    );
+    same(&what, &sheet, &plain);
+    time_row(&what, times, |seconds| format!("{:.1} µs", seconds * 1e6), Goal::Shown)
+}
+
 /// The judge and plain Rust answer or refuse alike; the refusal's number.
 fn same_judged(what: &str, record: &[u8], drawing: &[u8]) -> u64 {
     let (number, beside) = plain::judge(record, drawing);
@@ -271,5 +299,8 @@ fn main() {
     compare_kinds();
     rows.push(judge_row(24, Goal::AtMost(2.0)));
     rows.push(judge_row(45, Goal::Shown));
+    sheets::compare();
+    rows.push(sheet_row(24));
+    rows.push(sheet_row(45));
     table::print(&rows);
 }

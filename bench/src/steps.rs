@@ -2,7 +2,7 @@
 
 use crate::clock::{median, now};
 use crate::table::{print_head, print_machine, print_row, same};
-use crate::{clauses_of, grid, library};
+use crate::{clauses_of, decoded, grid, library};
 
 const GRIDS: u64 = 10;
 
@@ -43,12 +43,7 @@ fn searched(side: usize, seed: u64, most_seconds: f64) -> Searched {
     let ended = if answer == 3 { Ended::Halted(steps as f64) } else { Ended::Found(steps as f64) };
     if answer != 3 {
         same(&what, &answer, &1);
-        let mut values = vec![0; v];
-        for &l in trail.iter().filter(|&&l| l > 0) {
-            values[l as usize - 1] = 1;
-        }
-        let mut drawing = vec![0; side * side];
-        same(&what, &library::decode(&record, &values, &mut drawing), &(0, [0; 4]));
+        let drawing = decoded(&what, &record, &trail);
         same(&what, &library::judge(&record, &drawing), &(0, [0; 4]));
     }
     Searched { variables: v as f64, elements: clauses.list.len() as f64, ended, seconds }

@@ -1,7 +1,8 @@
 /*
- * yajilin FILE                      writes the clauses of the grid record in FILE as DIMACS text
- * yajilin --solve [--steps N] FILE  searches them, and prints the drawing's bytes in hexadecimal, a row a line;
- *                                   or `none`, or `halted` after N steps (without --steps there is no limit)
+ * yajilin FILE                                writes the clauses of the grid record in FILE as DIMACS text
+ * yajilin --solve [--steps N] [--sheet] FILE  searches them, and prints the drawing's bytes in hexadecimal, a row a line,
+ *                                             or with --sheet the proof sheet in place of them;
+ *                                             or `none`, or `halted` after N steps (without --steps there is no limit)
  *
  * Exit status: 0 written, found or none; 1 bad input; 2 bad usage; 3 halted.
  */
@@ -119,21 +120,47 @@ static uint8_t *values_of(const int32_t *trail, uint64_t variables)
     return values;
 }
 
-static void print_drawing(const int32_t *trail, uint64_t variables)
+/* Draws what a full trail found; returns the number of cells. */
+static size_t decode(const int32_t *trail, uint64_t variables, uint8_t drawing[YAJILIN_MOST_CELLS])
 {
-    uint8_t drawing[YAJILIN_MOST_CELLS] = {0};
-    size_t columns = record[5], cells = record[4] * columns;
+    size_t cells = (size_t)record[4] * record[5];
     uint64_t answer[4];
     uint8_t *values = values_of(trail, variables);
     uint64_t number = yajilin_decode(record, record_bytes, values, variables, drawing, cells, answer);
     if (number != 0)
         refuse("decoding", number, answer);
     free(values);
+    return cells;
+}
+
+static void print_bytes(const uint8_t *drawing, size_t cells)
+{
+    size_t columns = record[5];
     for (size_t x = 0; x < cells; x++)
         printf("%02x%c", drawing[x], (x + 1) % columns == 0 ? '\n' : ' ');
 }
 
-static int solve(const struct clauses *c, uint64_t budget)
+static void print_sheet(const uint8_t *drawing, size_t cells)
+{
+    uint8_t sheet[YAJILIN_MOST_SHEET_BYTES] = {0};
+    uint64_t answer[4];
+    uint64_t number = yajilin_sheet(record, record_bytes, drawing, cells, sheet, sizeof sheet, answer);
+    if (number != 0)
+        refuse("writing the sheet", number, answer);
+    fwrite(sheet, 1, answer[0], stdout);
+}
+
+static void print_drawing(const int32_t *trail, uint64_t variables, int as_sheet)
+{
+    uint8_t drawing[YAJILIN_MOST_CELLS] = {0};
+    size_t cells = decode(trail, variables, drawing);
+    if (as_sheet)
+        print_sheet(drawing, cells);
+    else
+        print_bytes(drawing, cells);
+}
+
+static int solve(const struct clauses *c, uint64_t budget, int as_sheet)
 {
     int32_t *trail = room(c->variables, sizeof *trail);
     uint8_t *marks = room(c->variables, 1);
@@ -142,7 +169,7 @@ static int solve(const struct clauses *c, uint64_t budget)
     if (number != 0)
         refuse("searching", number, answer);
     if (answer[0] == YAJILIN_FOUND)
-        print_drawing(trail, c->variables);
+        print_drawing(trail, c->variables, as_sheet);
     else
         puts(answer[0] == YAJILIN_NONE ? "none" : "halted");
     free(trail);
@@ -152,7 +179,7 @@ static int solve(const struct clauses *c, uint64_t budget)
 
 static int usage(void)
 {
-    fputs("usage: yajilin [--solve [--steps N]] FILE\n", stderr);
+    fputs("usage: yajilin [--solve [--steps N] [--sheet]] FILE\n", stderr);
     return USAGE;
 }
 
@@ -167,24 +194,44 @@ static int read_steps(const char *word, uint64_t *steps)
     return errno == 0 && *end == '\0';
 }
 
-int main(int argc, char **argv)
+/* What the command line asks for. */
+struct request {
+    int solving;
+    int as_sheet;
+    uint64_t budget;
+    const char *name;
+};
+
+/* The options of --solve come after it, in any order. */
+static int read_words(int argc, char **argv, struct request *r)
 {
-    int i = 1, solving = 0;
-    uint64_t budget = UINT64_MAX;
+    int i = 1;
     if (i < argc && strcmp(argv[i], "--solve") == 0) {
-        solving = 1;
+        r->solving = 1;
         i++;
     }
-    if (solving && i + 1 < argc && strcmp(argv[i], "--steps") == 0) {
-        if (!read_steps(argv[i + 1], &budget))
-            return usage();
-        i += 2;
+    for (; r->solving && i < argc; i++) {
+        if (strcmp(argv[i], "--sheet") == 0)
+            r->as_sheet = 1;
+        else if (strcmp(argv[i], "--steps") == 0 && i + 1 < argc && read_steps(argv[i + 1], &r->budget))
+            i++;
+        else
+            break;
     }
     if (i + 1 != argc || strncmp(argv[i], "--", 2) == 0)
+        return 0;
+    r->name = argv[i];
+    return 1;
+}
+
+int main(int argc, char **argv)
+{
+    struct request r = {.budget = UINT64_MAX};
+    if (!read_words(argc, argv, &r))
         return usage();
-    read_record(argv[i]);
-    struct clauses c = encode(argv[i]);
-    int status = solving ? solve(&c, budget) : print_text(&c);
+    read_record(r.name);
+    struct clauses c = encode(r.name);
+    int status = r.solving ? solve(&c, r.budget, r.as_sheet) : print_text(&c);
     free(c.list);
     if (fflush(stdout) != 0 || ferror(stdout)) {
         fprintf(stderr, "yajilin: standard output: %s\n", strerror(errno));
