@@ -109,7 +109,8 @@ fn first_beyond(list: &[i32], v: usize) -> Place
     Place::Nowhere
 }
 
-fn is_unclosed(list: &[i32]) -> bool
+// Is the list not empty, and does it not end in 0?
+pub fn is_unclosed(list: &[i32]) -> bool
     ensures { λ r. ⌜ r ≡ unclosed (now (list .entry)) ⌝ }
 {
     let n = list.len();
