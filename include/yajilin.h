@@ -1,6 +1,6 @@
 /*
- * Yajilin: judge, proof sheet, encoder, decoder, search and DIMACS text. docs/REFERENCE.md has the formats, clauses, steps
- * and refusals in full, with examples.
+ * Yajilin: judge, proof sheet, encoder, decoder, search, batches of value lists and DIMACS text. docs/REFERENCE.md has
+ * the formats, clauses, steps and refusals in full, with examples.
  *
  * Link with target/staticlib/libffi.a, which `rt staticlib ffi` writes (x86-64, System V calls). Of the C library it
  * needs memcpy and memset. It allocates nothing, keeps nothing between calls and does no input or output, so calls may
@@ -79,7 +79,8 @@ enum yajilin_refusal {
                                     the first such entry's index */
     YAJILIN_TEXT = 19,           /* text outside the form of yajilin_read: the first byte where no accepted text can go
                                     on, or the text's length if it ends too soon */
-    YAJILIN_UNTRUE = 20          /* trail not full, or some clause without a true literal under it: 0 */
+    YAJILIN_UNTRUE = 20,         /* trail not full, or some clause without a true literal under it: 0 */
+    YAJILIN_WORDS = 21           /* words not V long: 0 */
 };
 
 /* What yajilin_search and yajilin_next answer. */
@@ -183,6 +184,19 @@ uint64_t yajilin_next(uint64_t variables,
                       uint8_t *marks, size_t marks_bytes,
                       uint64_t used, uint64_t budget,
                       uint64_t answer[4]);
+
+/*
+ * Which of 64 value lists satisfy the clause list? One reading of it tells for all of them. words has one word for each
+ * variable, in their order; bit i of a word, the one of weight 2^i, is the variable's value in value list i.
+ *
+ * Answered: answer[0] is a word whose bit i is set exactly if value list i satisfies every clause. An empty list sets all
+ * 64 bits, a list with an empty clause none. A caller with fewer value lists looks at their bits alone.
+ * Refused: 17 (V too large), 21, 16.
+ */
+uint64_t yajilin_satisfied(uint64_t variables,
+                           const int32_t *list, size_t list_length,
+                           const uint64_t *words, size_t words_length,
+                           uint64_t answer[4]);
 
 /*
  * Writes the DIMACS text of V and a clause list into text: `p cnf V C`, then a clause a line, single spaces, a line feed

@@ -189,6 +189,16 @@ pub fn dealt_shaded_in(kind: Kind, side: usize, seed: u64) -> (Vec<u8>, Vec<u8>)
     (kind.record_of(Sides { rows: side, columns: side }, &cells), drawing)
 }
 
+/// A drawing of an open grid: a loop that grew as far as it goes, and black cells. It is a solution where no two of these touch.
+pub fn drawn_open(side: usize, seed: u64) -> Vec<u8> {
+    let sides = Sides { rows: side, columns: side };
+    let mut drawing = Region::grown(side - 1, sides.size(), &mut Dice(seed)).outline(sides);
+    for byte in drawing.iter_mut().filter(|byte| **byte == 0) {
+        *byte = BLACK;
+    }
+    drawing
+}
+
 /// A grid with a loop through four cells and a clue whose line has so many black cells, all others shaded; and its solution. The line is
 /// the rest of the last row or the last column. None where the kind has no such side.
 pub fn counted_in(kind: Kind, d: usize, number: usize) -> Option<(Vec<u8>, Vec<u8>)> {

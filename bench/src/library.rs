@@ -28,6 +28,7 @@ mod c {
             budget: u64,
             answer: *mut u64,
         ) -> u64;
+        pub fn yajilin_satisfied(variables: u64, list: *const i32, l: usize, words: *const u64, w: usize, answer: *mut u64) -> u64;
         pub fn yajilin_write(variables: u64, list: *const i32, l: usize, text: *mut u8, t: usize, answer: *mut u64) -> u64;
         pub fn yajilin_read(text: *const u8, t: usize, list: *mut i32, l: usize, answer: *mut u64) -> u64;
     }
@@ -96,6 +97,13 @@ pub fn search(variables: usize, list: &[i32], trail: &mut [i32], marks: &mut [u8
             answer.as_mut_ptr(),
         )
     };
+    (number, answer)
+}
+
+pub fn satisfied(variables: usize, list: &[i32], words: &[u64]) -> Told {
+    let mut answer = [0; 4];
+    let number =
+        unsafe { c::yajilin_satisfied(variables as u64, list.as_ptr(), list.len(), words.as_ptr(), words.len(), answer.as_mut_ptr()) };
     (number, answer)
 }
 

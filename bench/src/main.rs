@@ -1,5 +1,6 @@
 //! The library beside plain Rust, plain copies and outside solvers. See bench/run and docs/PERFORMANCE.md.
 
+mod batches;
 mod clock;
 mod files;
 mod grid;
@@ -210,6 +211,22 @@ fn trail_row() -> Row {
     time_row(&what, times, |seconds| format!("{:.1} ns/entry", seconds * 1e9 / V as f64), Goal::Shown)
 }
 
+/// One call for 64 value lists against a reading for each. All are solutions, so that no reading stops before the last clause.
+fn batch_row(side: usize, goal: Goal) -> Row {
+    let record = grid::open(side);
+    let Clauses { list, variables } = clauses_of("batch of 64 value lists", &record);
+    let what = format!("batch of 64 value lists, open {side}×{side}: {} elements", list.len());
+    let lists = batches::solutions(side);
+    let words = batches::words(variables, &lists);
+    let times = side_by_side(
+        ROUNDS,
+        &mut || same(&what, &library::satisfied(variables, black_box(&list), black_box(&words)), &(0, [u64::MAX, 0, 0, 0])),
+        &mut || same(&what, &lists.iter().all(|values| plain::satisfies(black_box(&list), black_box(values))), &true),
+    );
+    let shown = |seconds: f64| format!("{:.1} thousand lists/s", lists.len() as f64 / seconds / 1e3);
+    row(&what, "plain Rust, a list at a time", times, shown, 1.0 / times.ratio, goal)
+}
+
 /// The judge on a solved grid; and on the drawings with one byte changed, where it must refuse as plain Rust does.
 fn judge_row(side: usize, goal: Goal) -> Row {
     let what = format!("judge, solved {side}×{side}");
@@ -296,6 +313,8 @@ fn main() {
     texts::compare();
     search_rows(&mut rows);
     rows.push(trail_row());
+    batches::compare();
+    rows.push(batch_row(12, Goal::AtLeast(30.0)));
     compare_kinds();
     rows.push(judge_row(24, Goal::AtMost(2.0)));
     rows.push(judge_row(45, Goal::Shown));

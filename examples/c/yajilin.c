@@ -3,8 +3,10 @@
  * yajilin --solve [--steps N] [--sheet] FILE  searches them, and prints the drawing's bytes in hexadecimal, a row a line,
  *                                             or with --sheet the proof sheet in place of them;
  *                                             or `none`, or `halted` after N steps (without --steps there is no limit)
+ * yajilin --satisfied FILE                    reads value lists, each its literals and 0, on standard input, and prints a
+ *                                             line for each: `yes` if it satisfies the clauses, else `no`
  *
- * Exit status: 0 written, found or none; 1 bad input; 2 bad usage; 3 halted.
+ * Exit status: 0 written, found or none, lists read; 1 bad input; 2 bad usage; 3 halted.
  */
 #include <errno.h>
 #include <stdio.h>
@@ -17,6 +19,9 @@ enum { FAILED = 1, USAGE = 2, HALTED = 3 };
 
 /* A record's length field has 16 bits. One byte more is read, so that a longer file is refused. */
 enum { MOST_BYTES = 65536 };
+
+/* The value lists of a batch, one for each bit of a word. */
+enum { LISTS = 64 };
 
 static uint8_t record[MOST_BYTES];
 static size_t record_bytes;
@@ -177,9 +182,68 @@ static int solve(const struct clauses *c, uint64_t budget, int as_sheet)
     return answer[0] == YAJILIN_HALTED ? HALTED : 0;
 }
 
+static void refuse_lists(const char *why)
+{
+    fprintf(stderr, "yajilin: value lists: %s\n", why);
+    exit(FAILED);
+}
+
+/* The next literal or closing 0 on standard input. A literal has at most nine characters. */
+static int read_literal(uint64_t variables, long *literal)
+{
+    char word[11];
+    char *end;
+    if (scanf("%10s", word) != 1) {
+        if (ferror(stdin))
+            refuse_lists(strerror(errno));
+        return 0;
+    }
+    *literal = strtol(word, &end, 10);
+    if (strlen(word) == 10 || *end != '\0' || (uint64_t)labs(*literal) > variables)
+        refuse_lists("not a literal of the grid's variables");
+    return 1;
+}
+
+/*
+ * Reads up to 64 value lists, list i into bit i of each word, and returns their number. A variable is true in a list that
+ * has its literal without minus, else false.
+ */
+static int read_lists(uint64_t *words, uint64_t variables)
+{
+    int lists = 0;
+    long literal = 0;
+    memset(words, 0, variables * sizeof *words);
+    while (lists < LISTS && read_literal(variables, &literal)) {
+        if (literal > 0)
+            words[literal - 1] |= (uint64_t)1 << lists;
+        if (literal == 0)
+            lists++;
+    }
+    if (literal != 0)
+        refuse_lists("the last one has no 0");
+    return lists;
+}
+
+/* One call for each batch. Bits without a list are not looked at. */
+static int print_satisfied(const struct clauses *c)
+{
+    uint64_t *words = room(c->variables, sizeof *words);
+    uint64_t answer[4];
+    int lists;
+    while ((lists = read_lists(words, c->variables)) > 0) {
+        uint64_t number = yajilin_satisfied(c->variables, c->list, c->length, words, c->variables, answer);
+        if (number != 0)
+            refuse("reading the clauses", number, answer);
+        for (int i = 0; i < lists; i++)
+            puts(answer[0] >> i & 1 ? "yes" : "no");
+    }
+    free(words);
+    return 0;
+}
+
 static int usage(void)
 {
-    fputs("usage: yajilin [--solve [--steps N] [--sheet]] FILE\n", stderr);
+    fputs("usage: yajilin [--solve [--steps N] [--sheet] | --satisfied] FILE\n", stderr);
     return USAGE;
 }
 
@@ -198,6 +262,7 @@ static int read_steps(const char *word, uint64_t *steps)
 struct request {
     int solving;
     int as_sheet;
+    int satisfied;
     uint64_t budget;
     const char *name;
 };
@@ -208,6 +273,9 @@ static int read_words(int argc, char **argv, struct request *r)
     int i = 1;
     if (i < argc && strcmp(argv[i], "--solve") == 0) {
         r->solving = 1;
+        i++;
+    } else if (i < argc && strcmp(argv[i], "--satisfied") == 0) {
+        r->satisfied = 1;
         i++;
     }
     for (; r->solving && i < argc; i++) {
@@ -224,6 +292,15 @@ static int read_words(int argc, char **argv, struct request *r)
     return 1;
 }
 
+static int answer_request(const struct request *r, const struct clauses *c)
+{
+    if (r->solving)
+        return solve(c, r->budget, r->as_sheet);
+    if (r->satisfied)
+        return print_satisfied(c);
+    return print_text(c);
+}
+
 int main(int argc, char **argv)
 {
     struct request r = {.budget = UINT64_MAX};
@@ -231,7 +308,7 @@ int main(int argc, char **argv)
         return usage();
     read_record(r.name);
     struct clauses c = encode(r.name);
-    int status = r.solving ? solve(&c, r.budget, r.as_sheet) : print_text(&c);
+    int status = answer_request(&r, &c);
     free(c.list);
     if (fflush(stdout) != 0 || ferror(stdout)) {
         fprintf(stderr, "yajilin: standard output: %s\n", strerror(errno));

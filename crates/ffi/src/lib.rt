@@ -1,7 +1,8 @@
 // The library as a C program sees it. Every function returns 0 if the call was answered, else the refusal's number, and writes all four
 // words of `answer`: on a refusal the value beside it and three zeros, else what the call answers, filled up with zeros.
 ghost use mathlib.Core.Path.{_≡_};
-ghost use Rattle.answers.specs.Outcome.{words};
+ghost use Rattle.answers.specs.Outcome.{words, words as fourWords};
+ghost use Rattle.cnf_batch.specs.Call.{batchAnswer};
 ghost use Rattle.rules.specs.Judge.{judgeAnswer};
 ghost use Rattle.sheet.specs.SheetCall.{sheetAnswer, sheetLeaves};
 ghost use Rattle.dimacs.specs.Calls.{writerAnswer, writerLeaves, readerAnswer, readerLeaves};
@@ -50,6 +51,22 @@ pub extern "C" fn yajilin_write(
 {
     let written = dimacs_writer::write(variables as usize, list, text);
     written.outcome().write(answer)
+}
+
+// Which of sixty-four value lists satisfy a clause list? Bit i of a variable's word is its value in list i. Answered: the word whose bit i says
+// that list i does. (In its contract the parameter hides the `words` of an outcome, so that has another name.)
+#[no_mangle]
+pub extern "C" fn yajilin_satisfied(
+    variables: u64,
+    list: &[i32],
+    words: &[u64],
+    answer: &mut [u64; 4],
+) -> u64
+    ensures { λ r. ⌜ r ≡ batchAnswer variables (now (list .entry)) (now (words .entry)) .number ⌝ }
+    ensures { λ r. ⌜ now (answer .exit) ≡ fourWords (batchAnswer variables (now (list .entry)) (now (words .entry))) ⌝ }
+{
+    let satisfied = cnf_batch::satisfied(variables as usize, list, words);
+    satisfied.outcome().write(answer)
 }
 
 // The clause list of a DIMACS text. Answered: the count of elements written, V, the number of clauses.
