@@ -186,11 +186,13 @@ uint64_t yajilin_next(uint64_t variables,
                       uint64_t answer[4]);
 
 /*
- * Which of 64 value lists satisfy the clause list? One reading of it tells for all of them. words has one word for each
- * variable, in their order; bit i of a word, the one of weight 2^i, is the variable's value in value list i.
+ * Which of 64 value lists satisfy the clause list? One reading of it tells for all of them. A value list has 0 or 1 for
+ * each variable. words has one word for each variable, in their order; bit i of a word, the one of weight 2^i, is the
+ * variable's value in value list i.
  *
- * Answered: answer[0] is a word whose bit i is set exactly if value list i satisfies every clause. An empty list sets all
- * 64 bits, a list with an empty clause none. A caller with fewer value lists looks at their bits alone.
+ * Answered: answer[0] is a word whose bit i is set exactly if value list i satisfies every clause. An empty clause list
+ * sets all 64 bits, one with an empty clause none. A caller with fewer value lists may leave anything in the other bits of
+ * the words, and looks at its own bits of the answer.
  * Refused: 17 (V too large), 21, 16.
  */
 uint64_t yajilin_satisfied(uint64_t variables,

@@ -3,8 +3,9 @@
  * yajilin --solve [--steps N] [--sheet] FILE  searches them, and prints the drawing's bytes in hexadecimal, a row a line,
  *                                             or with --sheet the proof sheet in place of them;
  *                                             or `none`, or `halted` after N steps (without --steps there is no limit)
- * yajilin --satisfied FILE                    reads value lists, each its literals and 0, on standard input, and prints a
- *                                             line for each: `yes` if it satisfies the clauses, else `no`
+ * yajilin --satisfied FILE                    reads value lists on standard input, each its literals and 0 (a variable that
+ *                                             isn't named is false), and prints a line for each: `yes` if it satisfies
+ *                                             the clauses, else `no`
  *
  * Exit status: 0 written, found or none, lists read; 1 bad input; 2 bad usage; 3 halted.
  */
@@ -188,18 +189,22 @@ static void refuse_lists(const char *why)
     exit(FAILED);
 }
 
-/* The next literal or closing 0 on standard input. A literal has at most nine characters. */
+/*
+ * The next literal or closing 0 on standard input. It has at most nine characters: V has at most eight digits, and there
+ * may be a minus. A NUL byte ends what strtol reads but not the word, so the word's length is counted as it is read.
+ */
 static int read_literal(uint64_t variables, long *literal)
 {
     char word[11];
     char *end;
-    if (scanf("%10s", word) != 1) {
+    int begin = 0, stop = 0;
+    if (scanf(" %n%10s%n", &begin, word, &stop) != 1) {
         if (ferror(stdin))
             refuse_lists(strerror(errno));
         return 0;
     }
     *literal = strtol(word, &end, 10);
-    if (strlen(word) == 10 || *end != '\0' || (uint64_t)labs(*literal) > variables)
+    if (stop - begin == 10 || end != word + (stop - begin) || (uint64_t)labs(*literal) > variables)
         refuse_lists("not a literal of the grid's variables");
     return 1;
 }
