@@ -19,6 +19,10 @@ abbrev pub codeOf : ℤ → ℕ
 codeOf (pos n) = n * 2
 codeOf (negsuc n) = suc n * 2 + 1
 
+-- the variable of the literal at a place
+abbrev pub variableAt : List ℤ → ℕ → ℕ
+variableAt ls i = natAbs (getD ls i (pos 0))
+
 -- V is at most 16,777,216
 abbrev pub mostVariables : ℕ
 mostVariables = 16777216

@@ -24,7 +24,7 @@ use Rattle.encoder.specs.Decoding.{valueOf, drawnAt, drawnByte, drawnLink, deco
 use Rattle.encoder.specs.Cases as grids
 use Rattle.encoder.proofs.Known.{Known, of-variables}
 use Rattle.search.specs.Trail.{trailOf, variableValue}
-use Rattle.search.specs.Step.{everyLiteral, firstClause, forcedAt, failedClause, forcedPlace, lowestUnassigned, undo, step}
+use Rattle.search.specs.Step.{everyLiteral, overClauses, forcedAt, failedClause, forcedPlace, lowestUnassigned, undo, step}
 use Rattle.search.specs.Run.{run}
 use Rattle.demands.specs.Stars.{GridStar, GridHolds, gridCase}
 use Rattle.demands.specs.RequestE5.{variableCell, shadedGrids, RequestE5}
@@ -37,7 +37,7 @@ use Rattle.demands.proofs.Stars.{at-each, computes, claims, none-holds,
 
 -- the grids, computed
 computed : map computes shadedGrids ≡ map claims shadedGrids
-unfolding firstFrom outward same variables place clauses clauseList trailOf variableValue everyLiteral firstClause forcedAt failedClause forcedPlace
+unfolding firstFrom outward same variables place clauses clauseList trailOf variableValue everyLiteral overClauses forcedAt failedClause forcedPlace
     lowestUnassigned undo step run
 computed = refl
 

@@ -26,7 +26,7 @@ use Rattle.encoder.specs.Cases as grids
 use Rattle.encoder.proofs.Cases.{cases-hold}
 use Rattle.answers.proofs.Elements.{all-append}
 use Rattle.search.specs.Trail.{trailOf, variableValue}
-use Rattle.search.specs.Step.{everyLiteral, firstClause, forcedAt, failedClause, forcedPlace, lowestUnassigned, undo, step}
+use Rattle.search.specs.Step.{everyLiteral, overClauses, forcedAt, failedClause, forcedPlace, lowestUnassigned, undo, step}
 use Rattle.search.specs.Run.{None, endingNumber, run, following}
 use Rattle.search.specs.Call.{Search, Handed, searchOn, Searching, bySearch}
 use Rattle.search.specs.Cases as lists
@@ -63,13 +63,13 @@ abbrev pub claims : GridStar → Facts
 claims g = record { number = 0; variables = g .grid .outcome .second; clauses = g .grid .list; says = g .says }
 
 computed : map computes gridStars ≡ map claims gridStars
-unfolding firstFrom outward same variables place clauses clauseList trailOf variableValue everyLiteral firstClause forcedAt failedClause forcedPlace
+unfolding firstFrom outward same variables place clauses clauseList trailOf variableValue everyLiteral overClauses forcedAt failedClause forcedPlace
     lowestUnassigned undo step run
 computed = refl
 
 -- 2×2 open: after "found" comes "none"
 pub ends-none : following 32 (gridCase 4 .list) 1000000 (run 32 (gridCase 4 .list) 1000000 [] .trail) .ending ≡ None
-unfolding firstFrom variableValue everyLiteral firstClause forcedAt failedClause forcedPlace lowestUnassigned undo step run following
+unfolding firstFrom variableValue everyLiteral overClauses forcedAt failedClause forcedPlace lowestUnassigned undo step run following
 ends-none = refl
 
 -- and the drawing that program 2 prints is judged

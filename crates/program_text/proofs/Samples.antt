@@ -9,7 +9,7 @@ use Rattle.dimacs.specs.Sample.{oneCellText}
 use Rattle.encoder.specs.Variables.{variables, same, place}
 use Rattle.encoder.specs.Clauses.{clauses, clauseList}
 use Rattle.search.specs.Trail.{variableValue, valuesFrom}
-use Rattle.search.specs.Step.{everyLiteral, firstClause, forcedAt, failedClause, forcedPlace, lowestUnassigned, undo, step}
+use Rattle.search.specs.Step.{everyLiteral, overClauses, forcedAt, failedClause, forcedPlace, lowestUnassigned, undo, step}
 use Rattle.search.specs.Run.{run}
 use Rattle.program_text.specs.Lines.{drawingFrom}
 use Rattle.program_text.specs.Programs.{printedClauses, printedSolution}
@@ -30,6 +30,6 @@ fourText =
     []
 
 pub samples : (printedClauses oneOpen ≡ oneCellText) × (printedSolution fourOpen ≡ fourText)
-unfolding firstFrom decimalIn lines variables same place clauses clauseList variableValue valuesFrom everyLiteral firstClause
+unfolding firstFrom decimalIn lines variables same place clauses clauseList variableValue valuesFrom everyLiteral overClauses
     forcedAt failedClause forcedPlace lowestUnassigned undo step run drawingFrom
 samples = (refl, refl)

@@ -5,7 +5,7 @@ use mathlib.Core.List.{[], _∷_}
 use Rattle.answers.specs.First.{firstFrom}
 use Rattle.answers.specs.Outcome.{refusal, answer}
 use Rattle.search.specs.Trail.{laid, trailOf, variableValue}
-use Rattle.search.specs.Step.{everyLiteral, firstClause, forcedAt, failedClause, forcedPlace, lowestUnassigned, undo, step}
+use Rattle.search.specs.Step.{everyLiteral, overClauses, forcedAt, failedClause, forcedPlace, lowestUnassigned, undo, step}
 use Rattle.search.specs.Run.{run}
 use Rattle.search.specs.Call.{searchOn, bySearch}
 
@@ -21,16 +21,16 @@ list-first = refl
 
 -- after −1 was forced, the clause 1 has failed and the clause 2 would force: none at step 2
 pub failed-first : bySearch (searchOn 2 (negsuc 0 ∷ pos 0 ∷ pos 1 ∷ pos 0 ∷ pos 2 ∷ pos 0 ∷ []) (pos 0 ∷ pos 0 ∷ []) (0 ∷ 0 ∷ []) 0) 9 .outcome ≡ answer 2 2 1
-unfolding firstFrom trailOf variableValue everyLiteral firstClause forcedAt failedClause forcedPlace lowestUnassigned undo step run
+unfolding firstFrom trailOf variableValue everyLiteral overClauses forcedAt failedClause forcedPlace lowestUnassigned undo step run
 failed-first = refl
 
 -- a choice is appended negated and marked 1
 pub choice-negated : bySearch (searchOn 1 [] (pos 0 ∷ []) (0 ∷ []) 0) 1 .slices .trail ≡ negsuc 0 ∷ []
-unfolding firstFrom laid trailOf variableValue everyLiteral firstClause forcedAt failedClause forcedPlace lowestUnassigned undo step run
+unfolding firstFrom laid trailOf variableValue everyLiteral overClauses forcedAt failedClause forcedPlace lowestUnassigned undo step run
 choice-negated = refl
 
 pub choice-marked : bySearch (searchOn 1 [] (pos 0 ∷ []) (0 ∷ []) 0) 1 .slices .marks ≡ 1 ∷ []
-unfolding firstFrom laid trailOf variableValue everyLiteral firstClause forcedAt failedClause forcedPlace lowestUnassigned undo step run
+unfolding firstFrom laid trailOf variableValue everyLiteral overClauses forcedAt failedClause forcedPlace lowestUnassigned undo step run
 choice-marked = refl
 
 -- with budget 0 the unused entries and marks are written 0

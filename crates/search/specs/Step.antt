@@ -18,12 +18,13 @@ everyLiteral p (l ∷ ls) =
     let on : Bool = p l && rest in
     closes l || on
 
--- the first clause in list order at which something is found: `look` gets the place where a clause begins, and the list from there on
-unfoldable pub firstClause : (ℕ → List ℤ → Option ℕ) → Bool → ℕ → List ℤ → Option ℕ
-firstClause look begins i [] = none
-firstClause look begins i (l ∷ ls) =
-    let rest : Option ℕ = firstClause look (closes l) (suc i) ls in
-    cond begins (orElse (look i (l ∷ ls)) rest) rest
+-- what is found at the clauses in list order: `look` gets the place where a clause begins, and the list from there on; `join` gets what it finds, and what is
+-- found at the clauses after it
+unfoldable pub overClauses : (Option ℕ → Option ℕ → Option ℕ) → (ℕ → List ℤ → Option ℕ) → Bool → ℕ → List ℤ → Option ℕ
+overClauses join look begins i [] = none
+overClauses join look begins i (l ∷ ls) =
+    let rest : Option ℕ = overClauses join look (closes l) (suc i) ls in
+    cond begins (join (look i (l ∷ ls)) rest) rest
 
 -- a false literal
 abbrev pub fails : Values → ℤ → Bool
@@ -54,11 +55,11 @@ forcedAt w i (l ∷ ls) =
 
 -- the first failed clause: the place where it begins
 unfoldable pub failedClause : Values → List ℤ → Option ℕ
-failedClause w ls = firstClause (failedAt w) true 0 ls
+failedClause w ls = overClauses orElse (failedAt w) true 0 ls
 
 -- the first clause that forces a literal: the place, in the list, of the literal to append
 unfoldable pub forcedPlace : Values → List ℤ → Option ℕ
-forcedPlace w ls = firstClause (forcedAt w) true 0 ls
+forcedPlace w ls = overClauses orElse (forcedAt w) true 0 ls
 
 -- the lowest unassigned variable, by its index from 0
 unfoldable pub lowestUnassigned : ℕ → Values → Option ℕ

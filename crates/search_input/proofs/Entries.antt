@@ -9,11 +9,11 @@ use mathlib.Core.Path.{_≡_, refl, sym, _∙_, ap}
 use mathlib.Core.Bool.{Bool, true, false, not, _||_, cond, or-comm}
 use mathlib.Core.List.{List}
 use Rattle.answers.proofs.Bools.{clash, or-neither}
-use Rattle.cnf.specs.Literals.{closes, codeOf}
+use Rattle.cnf.specs.Literals.{closes, codeOf, variableAt}
 use Rattle.cnf.proofs.Lists.{code-closes, code-beyond, code-within}
 use Rattle.search.specs.Trail.{slices, isUnassigned, made, trailOf, variableValue}
 use Rattle.search.specs.Call.{wrongEntryAt}
-use Rattle.search_input.specs.Entries.{Until, faultyAt, variableAt, usedBefore, usedAt, Inside}
+use Rattle.search_input.specs.Entries.{Until, faultyAt, usedBefore, usedAt, Inside}
 use Rattle.search_input.proofs.Bounds.{until-both, until-same}
 
 -- a variable has a value exactly if an entry stands on it

@@ -8,7 +8,8 @@ use borrow.Author.Tests.{lt-ltb, le-ltb, le-leb, lt-leb}
 use mathlib.Core.Path.{_≡_}
 use mathlib.Core.Bool.{Bool, true, false, _&&_, _||_, or-false}
 use mathlib.Core.List.{List}
-use Rattle.search_input.specs.Entries.{Until, variableAt, usedBefore, usedAt, Inside}
+use Rattle.cnf.specs.Literals.{variableAt}
+use Rattle.search_input.specs.Entries.{Until, usedBefore, usedAt, Inside}
 use Rattle.search_input.specs.Flags.{againAt}
 use Rattle.search_input.proofs.Bounds.{until-both, until-same}
 

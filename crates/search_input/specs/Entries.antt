@@ -1,12 +1,12 @@
 -- What may be wrong with an entry of the trail handed in: by itself, or for the entries before it.
 use Prim.Native.Nat.{ℕ, zero, suc, _≤_, _<_}
 use lib.Dec.{eqb, ltb}
-use lib.IntN.{ℤ, pos, natAbs}
+use lib.IntN.{ℤ, pos}
 use lib.ListN.{getD}
 use mathlib.Core.Path.{_≡_}
 use mathlib.Core.Bool.{Bool, true, false, _||_}
 use mathlib.Core.List.{List}
-use Rattle.cnf.specs.Literals.{closes, beyond}
+use Rattle.cnf.specs.Literals.{closes, variableAt, beyond}
 
 -- m is the first place below n at which the test holds, or n if there is none
 pub record Until (p : ℕ → Bool) (n m : ℕ) : Type 0 where
@@ -17,9 +17,6 @@ pub record Until (p : ℕ → Bool) (n m : ℕ) : Type 0 where
 -- an entry that is 0, beyond V, or with a mark not 0 or 1
 abbrev pub faultyAt : ℕ → List ℤ → List ℕ → ℕ → Bool
 faultyAt v ts ms i = closes (getD ts i (pos 0)) || beyond v (getD ts i (pos 0)) || ltb 1 (getD ms i 0)
-
-abbrev pub variableAt : List ℤ → ℕ → ℕ
-variableAt ts i = natAbs (getD ts i (pos 0))
 
 -- one of the first n entries stands on a variable
 unfoldable pub usedBefore : List ℤ → ℕ → ℕ → Bool

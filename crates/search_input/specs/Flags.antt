@@ -6,7 +6,8 @@ use lib.ListN.{getD, set}
 use mathlib.Core.Path.{_≡_}
 use mathlib.Core.Bool.{Bool, cond, _&&_}
 use mathlib.Core.List.{List}
-use Rattle.search_input.specs.Entries.{variableAt, usedAt}
+use Rattle.cnf.specs.Literals.{variableAt}
+use Rattle.search_input.specs.Entries.{usedAt}
 
 pub record NoFlag (fs : List ℕ) : Type 0 where
   pub each : (k : ℕ) → getD fs k 0 ≡ 0

@@ -14,7 +14,7 @@ use Rattle.answers.specs.declared.Place.the-variants.{At, Nowhere}
 use Rattle.answers.specs.First.{found, orElse}
 use Rattle.cnf.specs.Literals.{closes, codeOf}
 use Rattle.search.specs.Trail.{True, False, Unassigned, Values}
-use Rattle.search.specs.Step.{everyLiteral, firstClause, fails, failedAt, failsBut, byValue, forcedAt, failedClause, forcedPlace}
+use Rattle.search.specs.Step.{everyLiteral, overClauses, fails, failedAt, failsBut, byValue, forcedAt, failedClause, forcedPlace}
 use Rattle.search_scan.specs.declared.Clause.{Clause}
 use Rattle.search_scan.specs.declared.Clause.the-variants.{Fails, Forces, Passed}
 use Rattle.search_scan.specs.PackedValues.{packedValues}
@@ -33,14 +33,14 @@ length-most (l ∷ r) = by (closes l) (length-most r)
     by false h = omega arith
 
 -- what is left of the clause is passed over
-passed-over : (look : ℕ → List ℤ → Option ℕ) (i : ℕ) (r : List ℤ)
-    → firstClause look true (i + clauseLength r) (drop (clauseLength r) r) ≡ firstClause look false i r
-unfolding firstClause clauseLength
-passed-over look i [] = refl
-passed-over look i (l ∷ r) = by (closes l) (passed-over look (suc i) r)
+passed-over : (join : Option ℕ → Option ℕ → Option ℕ) (look : ℕ → List ℤ → Option ℕ) (i : ℕ) (r : List ℤ)
+    → overClauses join look true (i + clauseLength r) (drop (clauseLength r) r) ≡ overClauses join look false i r
+unfolding overClauses clauseLength
+passed-over join look i [] = refl
+passed-over join look i (l ∷ r) = by (closes l) (passed-over join look (suc i) r)
   where
-    by : (b : Bool) → firstClause look true (suc i + clauseLength r) (drop (clauseLength r) r) ≡ firstClause look false (suc i) r
-        → firstClause look true (i + cond b 1 (suc (clauseLength r))) (drop (cond b 1 (suc (clauseLength r))) (l ∷ r)) ≡ firstClause look b (suc i) r
+    by : (b : Bool) → overClauses join look true (suc i + clauseLength r) (drop (clauseLength r) r) ≡ overClauses join look false (suc i) r
+        → overClauses join look true (i + cond b 1 (suc (clauseLength r))) (drop (cond b 1 (suc (clauseLength r))) (l ∷ r)) ≡ overClauses join look b (suc i) r
     by true h = rw add-one
     by false h = let e : i + suc (clauseLength r) ≡ suc i + clauseLength r = omega arith in rw e h
 
@@ -79,12 +79,12 @@ module _ {ls : List ℤ} {i j : ℕ} (p : Passing ls i j) where
 -- in a clause that begins at start and whose literals so far are all false
 pub record Failing (w : Values) (ls : List ℤ) (start i : ℕ) : Type 0 where
   pub seen : i ≤ length ls
-  pub rest : found (everyLiteral (fails w) (drop i ls)) start (firstClause (failedAt w) false i (drop i ls)) ≡ failedClause w ls
+  pub rest : found (everyLiteral (fails w) (drop i ls)) start (overClauses orElse (failedAt w) false i (drop i ls)) ≡ failedClause w ls
 
-begin : (w : Values) (i : ℕ) (r : List ℤ) → found (everyLiteral (fails w) r) i (firstClause (failedAt w) false i r) ≡ firstClause (failedAt w) true i r
-unfolding firstClause everyLiteral
+begin : (w : Values) (i : ℕ) (r : List ℤ) → found (everyLiteral (fails w) r) i (overClauses orElse (failedAt w) false i r) ≡ overClauses orElse (failedAt w) true i r
+unfolding overClauses everyLiteral
 begin w i [] = refl
-begin w i (l ∷ r) = by (closes l || (fails w l && everyLiteral (fails w) r)) (firstClause (failedAt w) (closes l) (suc i) r)
+begin w i (l ∷ r) = by (closes l || (fails w l && everyLiteral (fails w) r)) (overClauses orElse (failedAt w) (closes l) (suc i) r)
   where
     by : (b : Bool) (o : Option ℕ) → found b i o ≡ orElse (found b i none) o
     by true o = refl
@@ -96,11 +96,11 @@ fail-start {w} {ls} = record { seen = omega arith; rest = begin w 0 ls }
 
 module _ {w : Values} {ls : List ℤ} {start i : ℕ} (f : Failing w ls start i) where
   pub fail-none : length ls ≤ i → none ≡ failedClause w ls
-  unfolding firstClause everyLiteral
+  unfolding overClauses everyLiteral
   fail-none h = rw (drop-of-length-le ls h) at (f .rest)
 
   module _ (h : i < length ls) where
-    here : found (everyLiteral (fails w) (getD ls i (pos 0) ∷ drop (suc i) ls)) start (firstClause (failedAt w) false i (getD ls i (pos 0) ∷ drop (suc i) ls))
+    here : found (everyLiteral (fails w) (getD ls i (pos 0) ∷ drop (suc i) ls)) start (overClauses orElse (failedAt w) false i (getD ls i (pos 0) ∷ drop (suc i) ls))
         ≡ failedClause w ls
     here = rw (drop-cons ls i (pos 0) h) at (f .rest)
 
@@ -110,36 +110,36 @@ module _ {w : Values} {ls : List ℤ} {start i : ℕ} (f : Failing w ls start i)
 
     module _ (z : closes (getD ls i (pos 0)) ≡ false) where
       pub fail-false : fails w (getD ls i (pos 0)) ≡ true → Failing w ls start (i + 1)
-      unfolding firstClause everyLiteral
+      unfolding overClauses everyLiteral
       fail-false k = record { seen = omega arith; rest = rw add-one (rw (z, k) at here) }
 
       -- a literal that is not false: the next clause
       pub fail-other : {r : ℕ} → fails w (getD ls i (pos 0)) ≡ false → r ≡ i + 1 + clauseLength (drop (i + 1) ls) → Failing w ls r r
-      unfolding firstClause everyLiteral
+      unfolding overClauses everyLiteral
       fail-other {r} k e =
           let rest : List ℤ = drop (suc i) ls in
           let m = length-most rest in
           let l = length-drop (suc i) ls in
           let q : r ≡ suc i + clauseLength rest = e ∙ (rw add-one refl) in
-          let past : firstClause (failedAt w) false (suc i) rest ≡ failedClause w ls = (rw (z, k) at here) in
+          let past : overClauses orElse (failedAt w) false (suc i) rest ≡ failedClause w ls = (rw (z, k) at here) in
           let next : ℕ = suc i + clauseLength rest in
-          let same = ap (firstClause (failedAt w) true next) (sym (drop-drop (clauseLength rest) (suc i) ls)) in
-          record { seen = omega arith; rest = rw q (begin w next (drop next ls) ∙ same ∙ passed-over (failedAt w) (suc i) rest ∙ past) }
+          let same = ap (overClauses orElse (failedAt w) true next) (sym (drop-drop (clauseLength rest) (suc i) ls)) in
+          record { seen = omega arith; rest = rw q (begin w next (drop next ls) ∙ same ∙ passed-over orElse (failedAt w) (suc i) rest ∙ past) }
 
 -- 3. Forced literals
 
 -- the rest of the list, after a part of a clause
 abbrev forcedRest : Values → Clause → ℕ → List ℤ → Option ℕ
-forcedRest w Fails i r = orElse (forcedAt w i r) (firstClause (forcedAt w) false i r)
-forcedRest w (Forces c p) i r = orElse (found (everyLiteral (λ l. eqb (codeOf l) c || fails w l) r) p none) (firstClause (forcedAt w) false i r)
-forcedRest w Passed i r = firstClause (forcedAt w) false i r
+forcedRest w Fails i r = orElse (forcedAt w i r) (overClauses orElse (forcedAt w) false i r)
+forcedRest w (Forces c p) i r = orElse (found (everyLiteral (λ l. eqb (codeOf l) c || fails w l) r) p none) (overClauses orElse (forcedAt w) false i r)
+forcedRest w Passed i r = overClauses orElse (forcedAt w) false i r
 
 pub record Forcing (w : Values) (ls : List ℤ) (i : ℕ) (c : Clause) : Type 0 where
   pub seen : i ≤ length ls
   pub rest : forcedRest w c i (drop i ls) ≡ forcedPlace w ls
 
-fresh : (w : Values) (i : ℕ) (r : List ℤ) → forcedRest w Fails i r ≡ firstClause (forcedAt w) true i r
-unfolding firstClause forcedAt
+fresh : (w : Values) (i : ℕ) (r : List ℤ) → forcedRest w Fails i r ≡ overClauses orElse (forcedAt w) true i r
+unfolding overClauses forcedAt
 fresh w i [] = refl
 fresh w i (l ∷ r) = refl
 
@@ -149,7 +149,7 @@ force-start {w} {ls} = record { seen = omega arith; rest = fresh w 0 ls }
 
 module _ {w : Values} {ls : List ℤ} {i : ℕ} {c : Clause} (f : Forcing w ls i c) where
   pub force-none : length ls ≤ i → none ≡ forcedPlace w ls
-  unfolding firstClause everyLiteral forcedAt
+  unfolding overClauses everyLiteral forcedAt
   force-none h = by c (rw (drop-of-length-le ls h) at (f .rest))
     where
       by : (c : Clause) → forcedRest w c i [] ≡ forcedPlace w ls → none ≡ forcedPlace w ls
@@ -171,11 +171,11 @@ module _ {w : Values} {ls : List ℤ} {i : ℕ} {c : Clause} (f : Forcing w ls i
         by Passed e r = let z : _≡_ {A = ℕ} 0 1 = cc in absurd (omega arith)
 
     pub force-next : closes (getD ls i (pos 0)) ≡ true → closed c ≡ Nowhere → Forcing w ls (i + 1) Fails
-    unfolding firstClause everyLiteral forcedAt
+    unfolding overClauses everyLiteral forcedAt
     force-next z e = record { seen = omega arith; rest = rw add-one (fresh w (suc i) (drop (suc i) ls) ∙ by c e here-forced) }
       where
         by : (c : Clause) → closed c ≡ Nowhere → forcedRest w c i (getD ls i (pos 0) ∷ drop (suc i) ls) ≡ forcedPlace w ls
-            → firstClause (forcedAt w) true (suc i) (drop (suc i) ls) ≡ forcedPlace w ls
+            → overClauses orElse (forcedAt w) true (suc i) (drop (suc i) ls) ≡ forcedPlace w ls
         by Fails e r = rw z at r
         by (Forces k p) e r = let z : _≡_ {A = ℕ} 0 1 = cc in absurd (omega arith)
         by Passed e r = rw z at r
@@ -195,7 +195,7 @@ module _ {ms : List ℕ} {ls : List ℤ} {i k n : ℕ} {c : Clause} (f : Forcing
   -- all false before it
   on-fails : (a b : Bool)
       → orElse (byValue (cond a False (cond b True Unassigned)) (found (everyLiteral (failsBut w literal) after) i none) (forcedAt w (suc i) after))
-      (firstClause (forcedAt w) false (suc i) after)
+      (overClauses orElse (forcedAt w) false (suc i) after)
       ≡ forcedPlace w ls
       → forcedRest w (cond a Fails (cond b Passed (Forces k i))) (suc i) after ≡ forcedPlace w ls
   on-fails true b e = e
@@ -204,7 +204,7 @@ module _ {ms : List ℕ} {ls : List ℤ} {i k n : ℕ} {c : Clause} (f : Forcing
 
   -- one unassigned before it, perhaps the same
   on-forces : (q p : ℕ) (a b : Bool)
-      → orElse (found ((a || b) && everyLiteral (λ l. eqb (codeOf l) q || fails w l) after) p none) (firstClause (forcedAt w) false (suc i) after)
+      → orElse (found ((a || b) && everyLiteral (λ l. eqb (codeOf l) q || fails w l) after) p none) (overClauses orElse (forcedAt w) false (suc i) after)
       ≡ forcedPlace w ls
       → forcedRest w (cond a (Forces q p) (cond b (Forces q p) Passed)) (suc i) after ≡ forcedPlace w ls
   on-forces q p true b e = e
@@ -213,7 +213,7 @@ module _ {ms : List ℕ} {ls : List ℤ} {i k n : ℕ} {c : Clause} (f : Forcing
 
   turn : (c : Clause) → forcedRest w c i (literal ∷ after) ≡ forcedPlace w ls
       → forcedRest w (met c k n i) (suc i) after ≡ forcedPlace w ls
-  unfolding firstClause everyLiteral forcedAt
+  unfolding overClauses everyLiteral forcedAt
   turn Fails e = on-fails (eqb n (2 - k % 2)) (eqb n (1 + k % 2)) (rw (code-not literal (r .code) (r .some), read-value literal r) at e)
   turn (Forces q p) e =
       rw (← fails-is literal r, ap (λ x. eqb x q) (r .code))

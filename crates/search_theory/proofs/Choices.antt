@@ -13,7 +13,7 @@ use mathlib.Core.Bool.{Bool, true, false, cond}
 use mathlib.Core.Logic.{_⊎_, inl, inr, ⊎-elim, _↔_}
 use mathlib.Core.Option.{Option, none, some}
 use mathlib.Core.List.{List, [], _∷_, List·Memᴰ·head, List·Memᴰ·tail, List·Memᴰ·cases-cons, List·Memᴰ·not-nil}
-use Rattle.answers.specs.First.{found}
+use Rattle.answers.specs.First.{found, orElse, FirstIn, here, later, NoneIn}
 use Rattle.answers.specs.Lists.{All, Some, _∈_}
 use Rattle.answers.proofs.Bools.{clash, off, or-cases, or-neither}
 use Rattle.answers.proofs.Elements.{all-at}
@@ -27,7 +27,7 @@ use Rattle.search_theory.specs.Choices.{AllFalse, Forces, ForcesOne, Fai
 use Rattle.search_theory.specs.Choices.{NoneUnassigned}
 use Rattle.search_theory.proofs.Lists.{all-map, all-zip, meet}
 use Rattle.search_theory.proofs.Legal.{AllAssigned, unassigned}
-use Rattle.search_theory.proofs.FirstClauses.{Begins, begins-closed, begins-same, begins-more, Tested, every, tail-drop, Looked, FirstAt, clause-first}
+use Rattle.search_theory.proofs.OverClauses.{Begins, begins-closed, begins-same, begins-more, Tested, every, tail-drop, over-clauses}
 
 -- the laws, of any way to choose
 pub record Laws (v : ℕ) (ls : List ℤ) (w : Values) : Type 0 where
@@ -73,18 +73,20 @@ module _ (w : Values) {l : ℤ} (c : List ℤ) where
 
 module _ (w : Values) (whole : List ℤ) where
   abbrev FailedHere : Option ℕ → List ℤ → Type 0
-  FailedHere o c = Looked (failedAt w) whole (AllFalse w) (λ p c. Unit) o c
+  FailedHere none c = AllFalse w c → ⊥
+  FailedHere (some p) c = AllFalse w c
 
   failed-at : (i : ℕ) (l : ℤ) (ls : List ℤ) → unclosed (l ∷ ls) ≡ false → (l ∷ ls) ≡ drop i whole → Begins (FailedHere (failedAt w i (l ∷ ls))) (l ∷ ls)
   failed-at i l ls u e = by (everyLiteral (fails w) (l ∷ ls)) (every (fails w) l ls u)
     where
       by : (t : Bool) → Begins (Tested (fails w) t) (l ∷ ls) → Begins (FailedHere (found t i none)) (l ∷ ls)
-      by true b = begins-same (λ c h. (all-map (λ k. is-false (literalValue w k)) c h, tt)) b
+      by true b = begins-same (λ c h. all-map (λ k. is-false (literalValue w k)) c h) b
       by false b = begins-same (λ c h f. meet (λ k x y. clash (ap isFalse y) x) c h f) b
 
   -- the place that is answered is that of the literal which the clause forces
   abbrev ForcedHere : Option ℕ → List ℤ → Type 0
-  ForcedHere o c = Looked (forcedAt w) whole (ForcesOne w) (λ p. Forces w (getD whole p (pos 0))) o c
+  ForcedHere none c = ForcesOne w c → ⊥
+  ForcedHere (some p) c = Forces w (getD whole p (pos 0)) c
 
   not-empty : {A : Type 0} → ForcesOne w [] → A
   not-empty f = absurd (List·Memᴰ·not-nil (f .1 .holds))
@@ -131,27 +133,39 @@ module _ (w : Values) (whole : List ℤ) where
       by true q x r rest go t b = begins-closed l (m ∷ ls) q not-empty
       by false q True r rest go t b = begins-more l (m ∷ ls) q (λ c h f. f .1 .none-true .0 r) go
       by false q False r none go t b = begins-more l (m ∷ ls) q (λ c h f. h (f .0, fewer r c (f .1))) go
-      by false q False r (some p) go t b = begins-more l (m ∷ ls) q (λ c h. ((h .0 .0, further r c (h .0 .1)), further r c (h .1))) go
+      by false q False r (some p) go t b = begins-more l (m ∷ ls) q (λ c h. further r c h) go
       by false q Unassigned r rest go true b =
-          begins-more l (m ∷ ls) q (λ c h. ((l, first r c h), subst (λ k. Forces w k (l ∷ c)) is (first r c h))) b
+          begins-more l (m ∷ ls) q (λ c h. subst (λ k. Forces w k (l ∷ c)) is (first r c h)) b
       by false q Unassigned r rest go false b = begins-more l (m ∷ ls) q (second r) b
 
 -- 2. The laws
 
 module _ (v : ℕ) (ls : List ℤ) (w : Values) (closed : unclosed ls ≡ false) where
-  abbrev Failed : Option ℕ → Type 0
-  Failed o = FirstAt (failedAt w) ls (AllFalse w) (λ p c. Unit) o (split ls)
+  abbrev Failed : Option ℕ → List (List ℤ) → Type 0
+  Failed none cs = NoneIn (AllFalse w) cs
+  Failed (some p) cs = (k : ℕ) × (c : List ℤ) × FirstIn (AllFalse w) cs k c
 
-  first-failed : Failed (failedClause w ls)
+  failed-joins : (o rest : Option ℕ) (c : List ℤ) (cs : List (List ℤ)) → FailedHere w ls o c → Failed rest cs → Failed (orElse o rest) (c ∷ cs)
+  failed-joins (some p) rest c cs h go = (0, c, here h)
+  failed-joins none none c cs h go = (h, go)
+  failed-joins none (some p) c cs h go = let (k, d, f) = go in (suc k, d, later h f)
+
+  first-failed : Failed (failedClause w ls) (split ls)
   unfolding failedClause
-  first-failed = clause-first (failedAt w) ls (AllFalse w) (λ p c. Unit) (failed-at w ls) true 0 ls closed refl
+  first-failed = over-clauses orElse (failedAt w) ls (FailedHere w ls) Failed tt failed-joins (failed-at w ls) true 0 ls closed refl
 
-  abbrev Forced : Option ℕ → Type 0
-  Forced o = FirstAt (forcedAt w) ls (ForcesOne w) (λ p. Forces w (getD ls p (pos 0))) o (split ls)
+  abbrev Forced : Option ℕ → List (List ℤ) → Type 0
+  Forced none cs = NoneIn (ForcesOne w) cs
+  Forced (some p) cs = (k : ℕ) × (c : List ℤ) × FirstIn (ForcesOne w) cs k c × Forces w (getD ls p (pos 0)) c
 
-  first-forced : Forced (forcedPlace w ls)
+  forced-joins : (o rest : Option ℕ) (c : List ℤ) (cs : List (List ℤ)) → ForcedHere w ls o c → Forced rest cs → Forced (orElse o rest) (c ∷ cs)
+  forced-joins (some p) rest c cs h go = (0, c, here (_, h), h)
+  forced-joins none none c cs h go = (h, go)
+  forced-joins none (some p) c cs h go = let (k, d, f, x) = go in (suc k, d, later h f, x)
+
+  first-forced : Forced (forcedPlace w ls) (split ls)
   unfolding forcedPlace
-  first-forced = clause-first (forcedAt w) ls (ForcesOne w) (λ p. Forces w (getD ls p (pos 0))) (forced-at w ls) true 0 ls closed refl
+  first-forced = over-clauses orElse (forcedAt w) ls (ForcedHere w ls) Forced tt forced-joins (forced-at w ls) true 0 ls closed refl
 
   unassigned-at : (n : ℕ) → n < v → isUnassigned (w (suc n)) ≡ true ↔ w (suc n) ≡ Unassigned
   unassigned-at n h = (unassigned (w (suc n)), ap isUnassigned)
@@ -160,10 +174,10 @@ module _ (v : ℕ) (ls : List ℤ) (w : Values) (closed : unclosed ls ≡ false)
   unfolding lowestUnassigned
   choice-laws =
       record {
-        failed = λ e. let (k, c, f, x) = subst Failed e first-failed in (k, record { clause = c; first = f });
-        none-failed = λ e. subst Failed e first-failed;
-        forced = λ e. let (k, c, f, x) = subst Forced e first-forced in (k, record { clause = c; first = f; forces = x });
-        none-forced = λ e. subst Forced e first-forced;
+        failed = λ e. let (k, c, f) = subst (λ o. Failed o (split ls)) e first-failed in (k, record { clause = c; first = f });
+        none-failed = λ e. subst (λ o. Failed o (split ls)) e first-failed;
+        forced = λ e. let (k, c, f, x) = subst (λ o. Forced o (split ls)) e first-forced in (k, record { clause = c; first = f; forces = x });
+        none-forced = λ e. subst (λ o. Forced o (split ls)) e first-forced;
         free = λ {n} e.
             let l = first-with _ (λ n. w (suc n) ≡ Unassigned) v unassigned-at n .0 e in
             let b = l .below in

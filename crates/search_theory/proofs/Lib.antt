@@ -4,7 +4,7 @@ pub mod Theorems
 pub mod Lists
 pub mod Values
 pub mod Legal
-pub mod FirstClauses
+pub mod OverClauses
 pub mod Choices
 pub mod Full
 pub mod Measure

@@ -1,4 +1,4 @@
--- The first clause of a list with a property, sought in the list as it stands: literals, and a 0 after each clause. Assumes nothing.
+-- What is found at the clauses of a list, in the list as it stands: literals, and a 0 after each clause. Assumes nothing.
 use Prim.Native.Nat.{ℕ, suc}
 use native.Mathlib.Numerals.{add-one}
 use lib.IntN.{ℤ}
@@ -10,12 +10,11 @@ use mathlib.Core.Bool.{Bool, true, false, _&&_, _||_, cond}
 use mathlib.Core.Logic.{inl, inr}
 use mathlib.Core.Option.{Option, none, some}
 use mathlib.Core.List.{List, [], _∷_}
-use Rattle.answers.specs.First.{orElse, FirstIn, here, later, NoneIn}
 use Rattle.answers.specs.Lists.{All, Some}
 use Rattle.cnf.specs.Literals.{closes, unclosed}
 use Rattle.cnf.specs.Clauses.{splitStep, split}
 use Rattle.cnf.proofs.Lists.{closed-rest}
-use Rattle.search.specs.Step.{everyLiteral, firstClause}
+use Rattle.search.specs.Step.{everyLiteral, overClauses}
 
 -- the first clause of a list, with what holds of it
 pub record Begins (P : List ℤ → Type 0) (ls : List ℤ) : Type 0 where
@@ -73,31 +72,20 @@ beginning-rest l ls = by (closes l) (split ls) refl
 pub tail-drop : (whole : List ℤ) (i : ℕ) (l : ℤ) (ls : List ℤ) → (l ∷ ls) ≡ drop i whole → ls ≡ drop (suc i) whole
 tail-drop whole i l ls e = ap (drop 1) e ∙ drop-drop 1 i whole ∙ ap (λ k. drop k whole) (add-one i)
 
--- what is looked for is a clause with P; a place p that is answered has Q there
-module _ (look : ℕ → List ℤ → Option ℕ) (whole : List ℤ) (P : List ℤ → Type 0) (Q : ℕ → List ℤ → Type 0) where
-  abbrev pub Looked : Option ℕ → List ℤ → Type 0
-  Looked none c = P c → ⊥
-  Looked (some p) c = P c × Q p c
-
-  abbrev pub FirstAt : Option ℕ → List (List ℤ) → Type 0
-  FirstAt none cs = NoneIn P cs
-  FirstAt (some p) cs = (k : ℕ) × (c : List ℤ) × FirstIn P cs k c × Q p c
-
-  module _ (right : (i : ℕ) (l : ℤ) (ls : List ℤ) → unclosed (l ∷ ls) ≡ false → (l ∷ ls) ≡ drop i whole → Begins (Looked (look i (l ∷ ls))) (l ∷ ls)) where
-    pub clause-first : (b : Bool) (i : ℕ) (ls : List ℤ) → unclosed ls ≡ false → ls ≡ drop i whole → FirstAt (firstClause look b i ls) (beginning b ls)
-    unfolding firstClause split
-    clause-first true i [] u e = tt
-    clause-first false i [] u e = tt
-    clause-first b i (l ∷ ls) u e =
-        by b (look i (l ∷ ls)) (right i l ls u e) (firstClause look (closes l) (suc i) ls)
-        (rw (beginning-rest l ls) (clause-first (closes l) (suc i) ls (closed-rest l ls u) (tail-drop whole i l ls e)))
-      where
-        first : (o rest : Option ℕ) (c : List ℤ) (cs : List (List ℤ)) → Looked o c → FirstAt rest cs → FirstAt (orElse o rest) (c ∷ cs)
-        first (some p) rest c cs h go = (0, c, here (h .0), h .1)
-        first none none c cs h go = (h, go)
-        first none (some p) c cs h go = let (k, d, f, q) = go in (suc k, d, later h f, q)
-
-        by : (b : Bool) (o : Option ℕ) → Begins (Looked o) (l ∷ ls) → (rest : Option ℕ) → FirstAt rest (drop 1 (split (l ∷ ls)))
-            → FirstAt (cond b (orElse o rest) rest) (beginning b (l ∷ ls))
-        by true o f rest go = rw (f .splits) (first o rest (f .clause) (f .others) (f .holds) (rw (f .splits) at go))
-        by false o f rest go = go
+-- what holds of what is found at a clause, and of what is found at the clauses of a list
+module _ (join : Option ℕ → Option ℕ → Option ℕ) (look : ℕ → List ℤ → Option ℕ) (whole : List ℤ)
+    (At : Option ℕ → List ℤ → Type 0) (Over : Option ℕ → List (List ℤ) → Type 0) (nothing : Over none [])
+    (joins : (o rest : Option ℕ) (c : List ℤ) (cs : List (List ℤ)) → At o c → Over rest cs → Over (join o rest) (c ∷ cs))
+    (looks : (i : ℕ) (l : ℤ) (ls : List ℤ) → unclosed (l ∷ ls) ≡ false → (l ∷ ls) ≡ drop i whole → Begins (At (look i (l ∷ ls))) (l ∷ ls)) where
+  pub over-clauses : (b : Bool) (i : ℕ) (ls : List ℤ) → unclosed ls ≡ false → ls ≡ drop i whole → Over (overClauses join look b i ls) (beginning b ls)
+  unfolding overClauses split
+  over-clauses true i [] u e = nothing
+  over-clauses false i [] u e = nothing
+  over-clauses b i (l ∷ ls) u e =
+      by b (look i (l ∷ ls)) (looks i l ls u e) (overClauses join look (closes l) (suc i) ls)
+      (rw (beginning-rest l ls) (over-clauses (closes l) (suc i) ls (closed-rest l ls u) (tail-drop whole i l ls e)))
+    where
+      by : (b : Bool) (o : Option ℕ) → Begins (At o) (l ∷ ls) → (rest : Option ℕ) → Over rest (drop 1 (split (l ∷ ls)))
+          → Over (cond b (join o rest) rest) (beginning b (l ∷ ls))
+      by true o f rest go = rw (f .splits) (joins o rest (f .clause) (f .others) (f .holds) (rw (f .splits) at go))
+      by false o f rest go = go
