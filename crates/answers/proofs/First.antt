@@ -44,6 +44,18 @@ from-cases p a (suc n) = by (p a) refl (from-cases p (suc a) n)
     by false q (inl r) = let l = r .1 in inl (r .0, record { low = omega arith; below = omega arith; holds = l .holds; first = split q (l .first) }, r .2)
     by false q (inr r) = inr (split q (λ k lo hi. r .0 k lo (omega arith)), r .1)
 
+-- a property has one least number
+pub only-least : (P : ℕ → Type 0) {m n : ℕ} → P m → NoneBelow P m → P n → NoneBelow P n → m ≡ n
+only-least P {m} {n} p f q g = by (decLt m n) (decLt n m)
+  where
+    by : Dec (m < n) → Dec (n < m) → m ≡ n
+    by (yes h) d = absurd (g m h p)
+    by (no h) (yes k) = absurd (f n k q)
+    by (no h) (no k) = omega arith
+
+pub one-least : {p : ℕ → Bool} {n i j : ℕ} → Least p n i → Least p n j → i ≡ j
+one-least {p} f g = only-least (λ k. p k ≡ true) (f .holds) (λ k h e. clash e (f .first k h)) (g .holds) (λ k h e. clash e (g .first k h))
+
 module _ (p : ℕ → Bool) (n : ℕ) where
   first-cases : ((m : ℕ) × Least p n m × (firstWhere p n ≡ some m)) ⊎ (((k : ℕ) → k < n → p k ≡ false) × (firstWhere p n ≡ none))
   unfolding NoneFrom
@@ -87,17 +99,9 @@ module _ (p : ℕ → Bool) (n : ℕ) where
   pub some-first : {m : ℕ} → Least p n m → firstWhere p n ≡ some m
   some-first {m} l = by first-cases
     where
-      one : (i j : ℕ) → Least p n i → Least p n j → i < j → ⊥
-      one i j f g h = clash (f .holds) (g .first i h)
-
       by : ((m : ℕ) × Least p n m × (firstWhere p n ≡ some m)) ⊎ (((k : ℕ) → k < n → p k ≡ false) × (firstWhere p n ≡ none)) → firstWhere p n ≡ some m
       by (inr r) = clash (l .holds) (r .0 m (l .below))
-      by (inl r) = r .2 ∙ ap some (same (decLt (r .0) m) (decLt m (r .0)))
-        where
-          same : Dec (r .0 < m) → Dec (m < r .0) → r .0 ≡ m
-          same (yes h) d = absurd (one (r .0) m (r .1) l h)
-          same (no h) (yes k) = absurd (one m (r .0) l (r .1) k)
-          same (no h) (no k) = omega arith
+      by (inl r) = r .2 ∙ ap some (one-least (r .1) l)
 
 pub first-below : (p : ℕ → Bool) (n : ℕ) {m : ℕ} → some m ≡ firstWhere p n → m < n
 first-below p n {m} e = first-some p n m (sym e) .below

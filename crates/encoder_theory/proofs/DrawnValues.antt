@@ -13,6 +13,7 @@ use mathlib.Core.List.{List, [], _∷_, List·Memᴰ·cases-cons, List·Memᴰ·
 use Rattle.answers.specs.First.{Least}
 use Rattle.answers.specs.Lists.{_∈_, ApartBy}
 use Rattle.answers.proofs.Bools.{clash, off, same-tests}
+use Rattle.answers.proofs.First.{one-least}
 use Rattle.rules.specs.declared.Direction.{Direction}
 use Rattle.rules.specs.Board.{Clue, Board}
 use Rattle.rules.specs.Drawing.{Drawing, white, blacksNearest, Solution}
@@ -30,7 +31,7 @@ use Rattle.encoder_theory.specs.Valuations.{Holds}
 use Rattle.encoder_theory.proofs.Oriented.{Sent}
 use Rattle.encoder_theory.proofs.Settled.{goesOf, aheadOf, Whole, steps, ahead-white, walk-draws, walk-sent, settled-goes, settled-count}
 use Rattle.encoder_theory.proofs.Valuations.{Proper}
-use Rattle.encoder_theory.proofs.Read.{white-of, of-white, least-one, some-start, start-first, start-is, black-nowhere, sent}
+use Rattle.encoder_theory.proofs.Read.{white-of, of-white, some-start, start-first, start-is, black-nowhere, sent}
 use Rattle.encoder_theory.proofs.Sound.{counted}
 
 abbrev pick : {A B : Type 0} → Dec A → B → B → B
@@ -117,7 +118,7 @@ module _ (b : Board) (law : Laws b) (D : Drawing) (sol : Solution b D) where
     start-at-first : w (S first) ≡ true
     start-at-first =
         let (s, h) = some-start b law w proper holds in
-        ap (λ x. w (S x)) (least-one leads (subst (λ f. Least (white b f) (b .size) s) black-path (start-first b law w proper holds s h))) ∙ h
+        ap (λ x. w (S x)) (one-least leads (subst (λ f. Least (white b f) (b .size) s) black-path (start-first b law w proper holds s h))) ∙ h
 
     w-sent : Sent (b .size) (b .next) (white b (D .black)) first (openCount b) (λ x d. w (E x d)) (λ x k. w (Q x k) ≡ true)
     w-sent =

@@ -1,7 +1,6 @@
 -- What the clauses of a board say of a valuation that makes them true: families 1, 3, 4 and 5. Assumes nothing.
 use Prim.Native.Nat.{ℕ, suc, _-_, _<_}
 use native.Mathlib.Omega.{arith}
-use native.Mathlib.Decide.{decLt}
 use mathlib.Core.Path.{_≡_, refl, sym, _∙_, ap}
 use mathlib.Core.Bool.{Bool, true, false, not, _&&_}
 use mathlib.Core.Option.{some, Option·some-injective}
@@ -9,6 +8,7 @@ use mathlib.Core.List.{List, [], _∷_, map, List·Memᴰ·head, List·Memᴰ·t
 use Rattle.answers.specs.First.{Least}
 use Rattle.answers.specs.Lists.{All, _∈_, upTo}
 use Rattle.answers.proofs.Bools.{clash, off}
+use Rattle.answers.proofs.First.{one-least}
 use Rattle.rules.specs.declared.Direction.{Direction}
 use Rattle.rules.specs.declared.Direction.the-variants.{North as north, East as east, South as south, West as west}
 use Rattle.rules.specs.Directions.{opposite}
@@ -37,15 +37,6 @@ of-white b black x h = by (b .isOpen x) (black x) h
     by true true h = clash h refl
     by true false h = (refl, refl)
     by false c h = clash h refl
-
--- there is one least
-pub least-one : {p : ℕ → Bool} {n x y : ℕ} → Least p n x → Least p n y → x ≡ y
-least-one {x = x} {y = y} h k = by (decLt x y) (decLt y x)
-  where
-    by : Dec (x < y) → Dec (y < x) → x ≡ y
-    by (yes l) e = clash (h .holds) (k .first x l)
-    by (no l) (yes m) = clash (k .holds) (h .first y m)
-    by (no l) (no m) = omega arith
 
 -- what holds of each cell and its east and south neighbour, and then of the neighbour and the cell, holds in every direction
 either-way : {b : Board} → Laws b → (P : Direction → ℕ → ℕ → Type 0) → ((d : Direction) → d ∈ eastSouth → (x y : ℕ) → b .next d x ≡ some y → P d x y)
@@ -186,7 +177,7 @@ module _ (b : Board) (law : Laws b) (w : Variable → Bool) (proper : Proper b w
       ap (λ d. w (E s d)) (sym (List·Memᴰ·eq-of-singleton (of-neighbours b s (east ∷ []) (q .0) (q .1) .0))) ∙ ap w (q .2) ∙ r .2
 
   pub start-is : (s x : ℕ) → w (S s) ≡ true → w (S x) ≡ true → x ≡ s
-  start-is s x h k = least-one (start-first x k) (start-first s h)
+  start-is s x h k = one-least (start-first x k) (start-first s h)
 
   -- 5. Distance
   counted : (s : ℕ) → w (S s) ≡ true → Counted (b .size) (b .next) bright goes s (openCount b) (λ x k. w (Q x k) ≡ true)
