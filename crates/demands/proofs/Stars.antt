@@ -78,7 +78,7 @@ unfolding firstFrom outward around among
 square-drawn = refl
 
 -- the text of 1×1 open
-printed-text : TextIs 3 (gridCase 0 .list) (some oneCellText)
+pub printed-text : TextIs 3 (gridCase 0 .list) (some oneCellText)
 unfolding decimalIn lines
 printed-text = refl
 

@@ -1,13 +1,13 @@
 -- "One step does the first that applies", and the choices of a step. What a `let` binds is computed only where it is read.
 use Prim.Native.Nat.{ℕ, suc}
-use lib.Dec.{eqb}
+use lib.Dec.{eqb, ltb}
 use lib.IntN.{ℤ, pos, negsuc, negℤ}
 use lib.ListN.{getD}
 use mathlib.Core.Bool.{Bool, true, false, _&&_, _||_, cond}
 use mathlib.Core.Option.{Option, none, some}
 use mathlib.Core.List.{List, [], _∷_}
 use Rattle.answers.specs.First.{found, firstWhere, orElse}
-use Rattle.cnf.specs.Literals.{closes, codeOf}
+use Rattle.cnf.specs.Literals.{closes, codeOf, variableAt}
 use Rattle.search.specs.Trail.{Entry, entry, Trail, Value, True, False, Unassigned, isFalse, isUnassigned, variableValue, Values, literalValue}
 
 -- the literals of the clause at hand, up to the 0 that closes it (in an accepted list there is one), all pass a test
@@ -19,7 +19,7 @@ everyLiteral p (l ∷ ls) =
     closes l || on
 
 -- what is found at the clauses in list order: `look` gets the place where a clause begins, and the list from there on; `join` gets what it finds, and what is
--- found at the clauses after it
+-- found at the clauses after it; `begins` tells whether a clause begins at i
 unfoldable pub overClauses : (Option ℕ → Option ℕ → Option ℕ) → (ℕ → List ℤ → Option ℕ) → Bool → ℕ → List ℤ → Option ℕ
 overClauses join look begins i [] = none
 overClauses join look begins i (l ∷ ls) =
@@ -57,9 +57,15 @@ forcedAt w i (l ∷ ls) =
 unfoldable pub failedClause : Values → List ℤ → Option ℕ
 failedClause w ls = overClauses orElse (failedAt w) true 0 ls
 
--- the first clause that forces a literal: the place, in the list, of the literal to append
+-- of two places the one with the lower variable; the first, where it is the same
+abbrev pub lowerPlace : List ℤ → Option ℕ → Option ℕ → Option ℕ
+lowerPlace ls none o = o
+lowerPlace ls (some p) none = some p
+lowerPlace ls (some p) (some q) = found (ltb (variableAt ls q) (variableAt ls p)) q (some p)
+
+-- of the clauses that force a literal the one with the lowest variable, and the earliest of those: the place, in the list, of the literal to append
 unfoldable pub forcedPlace : Values → List ℤ → Option ℕ
-forcedPlace w ls = overClauses orElse (forcedAt w) true 0 ls
+forcedPlace w ls = overClauses (lowerPlace ls) (forcedAt w) true 0 ls
 
 -- the lowest unassigned variable, by its index from 0
 unfoldable pub lowestUnassigned : ℕ → Values → Option ℕ

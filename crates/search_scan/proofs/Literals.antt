@@ -8,9 +8,10 @@ use borrow.Author.Tests.{eq-eqb, ne-eqb, eqb-true, ltb-false}
 use mathlib.Core.Path.{_≡_, refl, sym, _∙_, ap}
 use mathlib.Core.Bool.{Bool, true, false, cond}
 use mathlib.Core.List.{List}
+use Rattle.answers.proofs.Bools.{clash}
 use Rattle.cnf.specs.Literals.{closes, codeOf}
 use Rattle.cnf.proofs.Lists.{code-variable, code-closes}
-use Rattle.search.specs.Trail.{Value, True, False, Unassigned, isFalse, opposite, literalValue}
+use Rattle.search.specs.Trail.{Value, True, False, Unassigned, isTrue, isFalse, opposite, literalValue}
 use Rattle.search.specs.Step.{fails}
 use Rattle.search_scan.specs.PackedValues.{packedValues, Within}
 
@@ -20,7 +21,7 @@ pub record Read (ms : List ℕ) (l : ℤ) (k n : ℕ) : Type 0 where
   pub some : k ≡ 0 → ⊥
   pub number : n ≡ getD ms (k / 2 - 1) 0 / 2
 
-abbrev pub codeValue : ℕ → ℕ → Value
+abbrev codeValue : ℕ → ℕ → Value
 codeValue k n = cond (eqb n (2 - k % 2)) False (cond (eqb n (1 + k % 2)) True Unassigned)
 
 -- a code that is not 0 is at least 2, and its variable has a byte
@@ -43,7 +44,10 @@ code-not l e z = code-closes l ∙ ne-eqb (codeOf l) 0 (λ q. z (e ∙ q))
 pub code-zero : {k : ℕ} (l : ℤ) → k ≡ codeOf l → k ≡ 0 → closes l ≡ true
 code-zero l e z = code-closes l ∙ eq-eqb (codeOf l) 0 (sym e ∙ z)
 
-pub read-value : {ms : List ℕ} {k n : ℕ} (l : ℤ) → Read ms l k n → literalValue (packedValues ms) l ≡ codeValue k n
+pub not-zero : {k : ℕ} (l : ℤ) → k ≡ codeOf l → closes l ≡ false → k ≡ 0 → ⊥
+not-zero l e z q = clash (code-zero l e q) z
+
+read-value : {ms : List ℕ} {k n : ℕ} (l : ℤ) → Read ms l k n → literalValue (packedValues ms) l ≡ codeValue k n
 read-value {ms} {k} {n} l r = by l (r .code) (r .number) (r .some)
   where
     plus : (x : ℕ) (a b : Bool) → eqb x 1 ≡ a → eqb x 2 ≡ b → cond a True (cond b False Unassigned) ≡ cond b False (cond a True Unassigned)
@@ -70,7 +74,7 @@ read-value {ms} {k} {n} l r = by l (r .code) (r .number) (r .some)
 
 -- a false literal, and one that is not
 module _ {ms : List ℕ} {k n : ℕ} (l : ℤ) (r : Read ms l k n) where
-  pub fails-is : fails (packedValues ms) l ≡ eqb n (2 - k % 2)
+  fails-is : fails (packedValues ms) l ≡ eqb n (2 - k % 2)
   fails-is = ap isFalse (read-value l r) ∙ by (eqb n (2 - k % 2)) (eqb n (1 + k % 2))
     where
       by : (a c : Bool) → isFalse (cond a False (cond c True Unassigned)) ≡ a
@@ -83,3 +87,14 @@ module _ {ms : List ℕ} {k n : ℕ} (l : ℤ) (r : Read ms l k n) where
 
   pub read-stands : (n ≡ 2 - k % 2 → ⊥) → fails (packedValues ms) l ≡ false
   read-stands e = fails-is ∙ ne-eqb _ _ e
+
+  -- a true literal, and one that is not
+  pub read-true : n ≡ 1 + k % 2 → literalValue (packedValues ms) l ≡ True
+  read-true e = read-value l r ∙ (rw (ne-eqb n (2 - k % 2) (λ q. omega arith), eq-eqb n (1 + k % 2) e))
+
+  pub read-untrue : (n ≡ 1 + k % 2 → ⊥) → literalValue (packedValues ms) l ≡ True → ⊥
+  read-untrue m e = by (eqb n (2 - k % 2)) (sym (read-value l r ∙ (rw (ne-eqb n (1 + k % 2) m))) ∙ e)
+    where
+      by : (a : Bool) → cond a False Unassigned ≡ True → ⊥
+      by true q = clash refl (sym (ap isTrue q))
+      by false q = clash refl (sym (ap isTrue q))

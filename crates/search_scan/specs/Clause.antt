@@ -1,25 +1,17 @@
--- What the clause at hand may force, after each of its literals. A literal comes by its code k, the number n of its variable's value, and its place i.
-use Prim.Native.Nat.{ℕ, suc, _+_, _-_, _%_}
-use lib.Dec.{eqb}
-use lib.IntN.{ℤ}
-use mathlib.Core.Bool.{cond}
+-- What is asked of the clause at hand, from a place in it on.
+use Prim.Native.Nat.{ℕ, suc}
+use lib.Dec.{ltb}
+use lib.IntN.{ℤ, natAbs}
+use mathlib.Core.Bool.{Bool, false, not, _&&_, cond}
 use mathlib.Core.List.{List, [], _∷_}
-use Rattle.answers.specs.declared.Place.{Place}
-use Rattle.answers.specs.declared.Place.the-variants.{At, Nowhere}
 use Rattle.cnf.specs.Literals.{closes}
-use Rattle.search_scan.specs.declared.Clause.{Clause}
-use Rattle.search_scan.specs.declared.Clause.the-variants.{Fails, Forces, Passed}
+use Rattle.search.specs.Trail.{Values, isTrue, literalValue}
+use Rattle.search.specs.Step.{everyLiteral, failsBut}
 
-abbrev pub met : Clause → ℕ → ℕ → ℕ → Clause
-met Fails k n i = cond (eqb n (2 - k % 2)) Fails (cond (eqb n (1 + k % 2)) Passed (Forces k i))
-met (Forces c p) k n i = cond (eqb k c) (Forces c p) (cond (eqb n (2 - k % 2)) (Forces c p) Passed)
-met Passed k n i = Passed
-
--- the place of the literal that the clause forces, once it is closed
-abbrev pub closed : Clause → Place
-closed Fails = Nowhere
-closed (Forces c p) = At p
-closed Passed = Nowhere
+-- the first literal here has a variable up to `most`, it is not true, and those after it are false, or the same
+abbrev pub forcedUpTo : Values → ℕ → List ℤ → Bool
+forcedUpTo w most [] = false
+forcedUpTo w most (l ∷ ls) = ltb (natAbs l) (suc most) && (not (isTrue (literalValue w l)) && everyLiteral (failsBut w l) ls)
 
 -- the elements of the clause at hand, with the 0 that closes it (in an accepted list there is one)
 unfoldable pub clauseLength : List ℤ → ℕ

@@ -1,23 +1,18 @@
 // What a step of the search chooses: functions that only read.
 ghost use mathlib.Core.Path.{_≡_};
-ghost use Prim.Native.Nat.{_+_, _-_, _/_, _≤_};
+ghost use Prim.Native.Nat.{suc, _+_, _-_, _/_, _≤_, _<_};
+ghost use lib.IntN.{pos};
 ghost use lib.ListN.{length, getD, drop};
+ghost use mathlib.Core.Bool.{false};
 ghost use Rattle.answers.specs.First.{placed};
+ghost use Rattle.cnf.specs.Literals.{closes};
 ghost use Rattle.search.specs.Trail.{isUnassigned};
-ghost use Rattle.search.specs.Step.{failedClause, forcedPlace, lowestUnassigned};
+ghost use Rattle.search.specs.Step.{everyLiteral, failsBut, failedClause, forcedPlace, lowestUnassigned};
 ghost use Rattle.search_scan.specs.PackedValues.{valueOf, packedValues, lastMarked, Within};
-ghost use Rattle.search_scan.specs.Clause.{met, closed, clauseLength};
+ghost use Rattle.search_scan.specs.Clause.{forcedUpTo, clauseLength};
 use answers::Place;
 use cnf::closes_at;
 use cnf::code_at;
-
-// The clause at hand: its literals so far are all false; or false but for one, unassigned, with this code and this first place;
-// or it forces nothing.
-pub enum Clause {
-    Fails,
-    Forces(usize, usize),
-    Passed,
-}
 
 // The number of the value of a code's variable: 1 true, 2 false, else unassigned.
 fn number(marks: &[u8], k: usize) -> usize
@@ -69,69 +64,74 @@ pub fn first_failed(list: &[i32], marks: &[u8]) -> Place
     found
 }
 
-impl Clause {
-    // The clause after one literal more.
-    fn met(self, k: usize, n: usize, i: usize) -> Clause
-        ensures { λ r. ⌜ r ≡ met self k n i ⌝ }
-    {
-        match self {
-            Clause::Fails => {
-                if n == 2 - k % 2 {
-                    return Clause::Fails;
-                }
-                if n == 1 + k % 2 {
-                    return Clause::Passed;
-                }
-                Clause::Forces(k, i)
-            }
-            Clause::Forces(c, p) => {
-                if k == c {
-                    return Clause::Forces(c, p);
-                }
-                if n == 2 - k % 2 {
-                    return Clause::Forces(c, p);
-                }
-                Clause::Passed
-            }
-            Clause::Passed => Clause::Passed,
+// Are the literals after that at a place, up to the end of the clause, all false or the same one?
+fn others_fail(list: &[i32], marks: &[u8], place: usize) -> bool
+    requires { ⌜ Within (length (now marks)) (now list) ⌝ }
+    requires { ⌜ place < length (now list) ⌝ }
+    ensures { λ r. let ls = now (list .entry) in
+        ⌜ r ≡ everyLiteral (failsBut (packedValues (now (marks .entry))) (getD ls place (pos 0))) (drop (suc place) ls) ⌝ }
+{
+    let same = code_at(list, place);
+    let mut i = place + 1;
+    while i < list.len() {
+        let k = code_at(list, i);
+        if k == 0 {
+            return true;
+        }
+        i += 1;
+        if k == same {
+            continue;
+        }
+        if number(marks, k) != 2 - k % 2 {
+            return false;
         }
     }
-
-    // The place of the literal that the clause forces, once it is closed.
-    fn closed(self) -> Place
-        ensures { λ r. ⌜ r ≡ closed self ⌝ }
-    {
-        match self {
-            Clause::Fails => Place::Nowhere,
-            Clause::Forces(_, p) => Place::At(p),
-            Clause::Passed => Place::Nowhere,
-        }
-    }
+    false
 }
 
-// The place of the literal that the first clause to force one forces.
+// Does a clause force the literal at a place, the first in it that is not false, and is its variable at most `most`?
+fn is_forced(list: &[i32], marks: &[u8], place: usize, most: usize) -> bool
+    requires { ⌜ Within (length (now marks)) (now list) ⌝ }
+    requires { ⌜ place < length (now list) ⌝ }
+    requires { ⌜ closes (getD (now list) place (pos 0)) ≡ false ⌝ }
+    ensures { λ r. ⌜ r ≡ forcedUpTo (packedValues (now (marks .entry))) most (drop place (now (list .entry))) ⌝ }
+{
+    let k = code_at(list, place);
+    if k / 2 > most {
+        return false;
+    }
+    if number(marks, k) == 1 + k % 2 {
+        return false;
+    }
+    others_fail(list, marks, place)
+}
+
+// The place of the literal to append: of the clauses that force one, that with the lowest variable, and the earliest of those.
+// The variables up to `most` are lower than the lowest so far. At its first literal that is not false a clause is settled, and its rest passed over.
 pub fn forced_place(list: &[i32], marks: &[u8]) -> Place
     requires { ⌜ Within (length (now marks)) (now list) ⌝ }
     ensures { λ r. ⌜ placed r ≡ forcedPlace (packedValues (now (marks .entry))) (now (list .entry)) ⌝ }
 {
-    let mut clause = Clause::Fails;
+    let mut lowest = Place::Nowhere;
+    let mut most = marks.len();
     let mut i: usize = 0;
     while i < list.len() {
         let k = code_at(list, i);
         if k == 0 {
-            let forced = clause.closed();
-            if let Place::At(p) = forced {
-                return Place::At(p);
-            }
-            clause = Clause::Fails;
             i += 1;
             continue;
         }
-        let n = number(marks, k);
-        clause = clause.met(k, n, i);
-        i += 1;
+        if number(marks, k) == 2 - k % 2 {
+            i += 1;
+            continue;
+        }
+        if is_forced(list, marks, i, most) {
+            lowest = Place::At(i);
+            most = k / 2 - 1;
+        }
+        i = after_clause(list, i + 1);
     }
-    Place::Nowhere
+    lowest
 }
 
 fn is_unassigned(byte: u8) -> bool

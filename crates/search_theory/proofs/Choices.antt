@@ -1,13 +1,12 @@
--- The laws of a step's three choices: what is found is the first failed clause, the first that forces a literal, the lowest unassigned variable, and where
--- nothing is found there is none. The theory rests on the record `Laws` and never looks at how a choice is sought. Assumes nothing.
+-- The laws of a step's three choices: what is found is the first failed clause, the clause that forces a literal and is to be taken, the lowest unassigned
+-- variable, and where nothing is found there is none. The theory rests on the record `Laws` and never looks at how a choice is sought. Assumes nothing.
 use Prim.Native.Nat.{ℕ, zero, suc, _+_, _≤_, _<_}
 use native.Mathlib.Omega.{arith}
-use native.Mathlib.Decide.{decLt}
-use lib.Dec.{eqb}
-use lib.IntN.{ℤ, pos, negsuc}
+use lib.Dec.{eqb, ltb}
+use lib.IntN.{ℤ, pos, negsuc, natAbs}
 use lib.ListN.{getD, drop}
 use lib.Seq.{getD-drop}
-use borrow.Author.Tests.{eqb-true, eq-eqb, not-false}
+use borrow.Author.Tests.{eqb-true, eq-eqb, not-false, ltb-true, ltb-false}
 use mathlib.Core.Path.{_≡_, refl, sym, _∙_, ap, subst}
 use mathlib.Core.Bool.{Bool, true, false, cond}
 use mathlib.Core.Logic.{_⊎_, inl, inr, ⊎-elim, _↔_}
@@ -17,14 +16,15 @@ use Rattle.answers.specs.First.{found, orElse, FirstIn, here, later, NoneIn}
 use Rattle.answers.specs.Lists.{All, Some, _∈_}
 use Rattle.answers.proofs.Bools.{clash, off, or-cases, or-neither}
 use Rattle.answers.proofs.Elements.{all-at}
-use Rattle.answers.proofs.First.{first-with, none-with, first-holds, first-some-in, not-none, only-first}
-use Rattle.cnf.specs.Literals.{closes, codeOf, unclosed}
+use Rattle.answers.proofs.First.{first-with, none-with, first-holds, first-some-in, not-none, only-first, only-least}
+use Rattle.cnf.specs.Literals.{closes, codeOf, variableAt, unclosed}
 use Rattle.cnf.specs.Clauses.{split}
 use Rattle.cnf.proofs.Lists.{closed-rest}
 use Rattle.search.specs.Trail.{Value, True, False, Unassigned, isFalse, isUnassigned, literalValue, Values}
-use Rattle.search.specs.Step.{everyLiteral, fails, failedAt, failsBut, byValue, forcedAt, failedClause, forcedPlace, lowestUnassigned}
-use Rattle.search_theory.specs.Choices.{AllFalse, Forces, ForcesOne, FailedClause, NoneFailed, ForcingClause, NoneForcing, LowestUnassigned}
-use Rattle.search_theory.specs.Choices.{NoneUnassigned}
+use Rattle.search.specs.Step.{everyLiteral, fails, failedAt, failsBut, byValue, forcedAt, failedClause, lowerPlace, forcedPlace}
+use Rattle.search.specs.Step.{lowestUnassigned}
+use Rattle.search_theory.specs.Choices.{AllFalse, Forces, ForcesOne, ForcesVariable, FailedClause, NoneFailed, LowestForced, ForcingClause}
+use Rattle.search_theory.specs.Choices.{NoneForcing, LowestUnassigned, NoneUnassigned}
 use Rattle.search_theory.proofs.Lists.{all-map, all-zip, meet}
 use Rattle.search_theory.proofs.Legal.{AllAssigned, unassigned}
 use Rattle.search_theory.proofs.OverClauses.{Begins, begins-closed, begins-same, begins-more, Tested, every, tail-drop, over-clauses}
@@ -138,7 +138,58 @@ module _ (w : Values) (whole : List ℤ) where
           begins-more l (m ∷ ls) q (λ c h. subst (λ k. Forces w k (l ∷ c)) is (first r c h)) b
       by false q Unassigned r rest go false b = begins-more l (m ∷ ls) q (second r) b
 
--- 2. The laws
+-- 2. Of clauses that force a literal, the first of those with the lowest variable
+
+module _ (w : Values) where
+  one-literal : {k l : ℤ} (c : List ℤ) → Forces w k c → Forces w l c → k ≡ l
+  one-literal {l = l} c f g = all-at (λ k. literalValue w k ≡ Unassigned → k ≡ l) (g .all-one) (f .holds) (f .unassigned)
+
+  -- so it forces no other variable
+  other-variable : {l : ℤ} {m : ℕ} (c : List ℤ) → Forces w l c → (natAbs l ≡ m → ⊥) → ForcesVariable w m c → ⊥
+  other-variable c f n g = n (ap natAbs (one-literal c f (g .1)) ∙ g .2)
+
+  record LowestIn (l : ℤ) (cs : List (List ℤ)) : Type 0 where
+    index : ℕ
+    clause : List ℤ
+    first : FirstIn (ForcesVariable w (natAbs l)) cs index clause
+    forces : Forces w l clause
+    lower : (m : ℕ) → m < natAbs l → NoneIn (ForcesVariable w m) cs
+
+  -- a clause before them: it is the one,
+  module _ {l : ℤ} {cs : List (List ℤ)} (c : List ℤ) where
+    lowest-here : Forces w l c → ((m : ℕ) → m < natAbs l → NoneIn (ForcesVariable w m) cs) → LowestIn l (c ∷ cs)
+    lowest-here f low =
+        record {
+          index = 0;
+          clause = c;
+          first = here (l, f, refl);
+          forces = f;
+          lower = λ m b. (other-variable c f (omega arith), low m b);
+        }
+
+    -- or forces neither that variable nor a lower one
+    lowest-later : LowestIn l cs → ((m : ℕ) → m ≤ natAbs l → ForcesVariable w m c → ⊥) → LowestIn l (c ∷ cs)
+    lowest-later x not =
+        record {
+          index = suc (x .index);
+          clause = x .clause;
+          first = later (not (natAbs l) (omega arith)) (x .first);
+          forces = x .forces;
+          lower = λ m b. (not m (omega arith), x .lower m b);
+        }
+
+  forcing : {l : ℤ} {ls : List ℤ} → LowestIn l (split ls) → (k : ℕ) × ForcingClause w ls k l
+  forcing {l} x = (
+    x .index,
+    record {
+      clause = x .clause;
+      lowest = record { forced = first-some-in (ForcesVariable w (natAbs l)) (x .first) (first-holds (x .first)); lower = x .lower };
+      first = x .first;
+      forces = x .forces;
+    },
+  )
+
+-- 3. The laws
 
 module _ (v : ℕ) (ls : List ℤ) (w : Values) (closed : unclosed ls ≡ false) where
   abbrev Failed : Option ℕ → List (List ℤ) → Type 0
@@ -156,16 +207,21 @@ module _ (v : ℕ) (ls : List ℤ) (w : Values) (closed : unclosed ls ≡ false)
 
   abbrev Forced : Option ℕ → List (List ℤ) → Type 0
   Forced none cs = NoneIn (ForcesOne w) cs
-  Forced (some p) cs = (k : ℕ) × (c : List ℤ) × FirstIn (ForcesOne w) cs k c × Forces w (getD ls p (pos 0)) c
+  Forced (some p) cs = LowestIn w (getD ls p (pos 0)) cs
 
-  forced-joins : (o rest : Option ℕ) (c : List ℤ) (cs : List (List ℤ)) → ForcedHere w ls o c → Forced rest cs → Forced (orElse o rest) (c ∷ cs)
-  forced-joins (some p) rest c cs h go = (0, c, here (_, h), h)
+  forced-joins : (o rest : Option ℕ) (c : List ℤ) (cs : List (List ℤ)) → ForcedHere w ls o c → Forced rest cs → Forced (lowerPlace ls o rest) (c ∷ cs)
   forced-joins none none c cs h go = (h, go)
-  forced-joins none (some p) c cs h go = let (k, d, f, x) = go in (suc k, d, later h f, x)
+  forced-joins none (some q) c cs h go = lowest-later w c go (λ m b f. h (f .0, f .1))
+  forced-joins (some p) none c cs h go = lowest-here w c h (λ m l. all-map (λ d n f. n (f .0, f .1)) cs go)
+  forced-joins (some p) (some q) c cs h go = by (ltb (variableAt ls q) (variableAt ls p)) refl
+    where
+      by : (b : Bool) → ltb (variableAt ls q) (variableAt ls p) ≡ b → Forced (found b q (some p)) (c ∷ cs)
+      by true e = let l = ltb-true (variableAt ls q) (variableAt ls p) e in lowest-later w c go (λ m b. other-variable w c h (omega arith))
+      by false e = let l = ltb-false (variableAt ls q) (variableAt ls p) e in lowest-here w c h (λ m b. go .lower m (omega arith))
 
-  first-forced : Forced (forcedPlace w ls) (split ls)
+  lowest-forced : Forced (forcedPlace w ls) (split ls)
   unfolding forcedPlace
-  first-forced = over-clauses orElse (forcedAt w) ls (ForcedHere w ls) Forced tt forced-joins (forced-at w ls) true 0 ls closed refl
+  lowest-forced = over-clauses (lowerPlace ls) (forcedAt w) ls (ForcedHere w ls) Forced tt forced-joins (forced-at w ls) true 0 ls closed refl
 
   unassigned-at : (n : ℕ) → n < v → isUnassigned (w (suc n)) ≡ true ↔ w (suc n) ≡ Unassigned
   unassigned-at n h = (unassigned (w (suc n)), ap isUnassigned)
@@ -176,8 +232,8 @@ module _ (v : ℕ) (ls : List ℤ) (w : Values) (closed : unclosed ls ≡ false)
       record {
         failed = λ e. let (k, c, f) = subst (λ o. Failed o (split ls)) e first-failed in (k, record { clause = c; first = f });
         none-failed = λ e. subst (λ o. Failed o (split ls)) e first-failed;
-        forced = λ e. let (k, c, f, x) = subst (λ o. Forced o (split ls)) e first-forced in (k, record { clause = c; first = f; forces = x });
-        none-forced = λ e. subst (λ o. Forced o (split ls)) e first-forced;
+        forced = λ e. forcing w (subst (λ o. Forced o (split ls)) e lowest-forced);
+        none-forced = λ e. subst (λ o. Forced o (split ls)) e lowest-forced;
         free = λ {n} e.
             let l = first-with _ (λ n. w (suc n) ≡ Unassigned) v unassigned-at n .0 e in
             let b = l .below in
@@ -190,23 +246,27 @@ module _ (v : ℕ) (ls : List ℤ) (w : Values) (closed : unclosed ls ≡ false)
       variables n f zero h l = absurd (omega arith)
       variables n f (suc m) h l = f m (omega arith)
 
--- 3. The forcing clause: here and in its two laws is said which it is of the clauses that force a literal, and nowhere else
+-- 4. No other is taken
 
 module _ (w : Values) {ls : List ℤ} where
   pub forcing-some : {k : ℕ} {l : ℤ} → ForcingClause w ls k l → Some (Forces w l) (split ls)
   forcing-some {l = l} f = first-some-in (Forces w l) (f .first) (f .forces)
 
   -- one clause, one literal
-  one-forcing : {i j : ℕ} {k l : ℤ} → ForcingClause w ls i k → ForcingClause w ls j l → (i ≡ j) × (k ≡ l)
-  one-forcing {l = l} f g =
-      let (e, same) = only-first (g .first) (f .first) in
-      let all = subst (Forces w l) same (g .forces) .all-one in
-      (sym e, all-at (λ k. literalValue w k ≡ Unassigned → k ≡ l) all (f .forces .holds) (f .forces .unassigned))
+  pub only-forcing : {i j : ℕ} {k l : ℤ} → ForcingClause w ls i k → ForcingClause w ls j l → (i ≡ j) × (k ≡ l)
+  only-forcing {i} {l = l} f g =
+      let forced : ℕ → Type 0 = λ n. Some (ForcesVariable w n) (split ls) in
+      let variable = only-least forced (f .lowest .forced) (none-lower (f .lowest)) (g .lowest .forced) (none-lower (g .lowest)) in
+      let (e, same) = only-first (g .first) (subst (λ n. FirstIn (ForcesVariable w n) (split ls) i (f .clause)) variable (f .first)) in
+      (sym e, one-literal w (f .clause) (f .forces) (subst (Forces w l) same (g .forces)))
+    where
+      none-lower : {n : ℕ} → LowestForced w ls n → (m : ℕ) → m < n → Some (ForcesVariable w m) (split ls) → ⊥
+      none-lower x m h s = meet (λ c p q. q p) (split ls) s (x .lower m h)
 
 not-none-forcing : (w : Values) (ls : List ℤ) {k : ℕ} {l : ℤ} → ForcingClause w ls k l → NoneForcing w ls → ⊥
 not-none-forcing w ls {l = l} f n = meet (λ c h no-one. no-one (l, h)) (split ls) (forcing-some w f) n
 
--- 4. So a clause or a variable is found exactly if there is one
+-- 5. So a clause or a variable is found exactly if there is one
 
 is-none : (o : Option ℕ) → ((i : ℕ) → o ≡ some i → ⊥) → o ≡ none
 is-none none f = refl
@@ -233,25 +293,29 @@ module _ {v : ℕ} {ls : List ℤ} {w : Values} (law : Laws v ls w) where
   pub failed-found : {k : ℕ} → FailedClause w ls k → (i : ℕ) × (failedClause w ls ≡ some i)
   failed-found f = is-some (failedClause w ls) (λ e. not-none (f .first) (law .none-failed e))
 
+  pub forcing-found : Some (ForcesOne w) (split ls) → (k : ℕ) × (l : ℤ) × ForcingClause w ls k l
+  forcing-found s =
+      let (i, e) = is-some (forcedPlace w ls) (λ e. meet (λ c f n. n f) (split ls) s (law .none-forced e)) in
+      let (k, f) = law .forced e in
+      (k, getD ls i (pos 0), f)
+
   pub forced-found : {k : ℕ} {l : ℤ} → ForcingClause w ls k l → (i : ℕ) × (forcedPlace w ls ≡ some i) × (l ≡ getD ls i (pos 0))
   forced-found f =
       let (i, e) = is-some (forcedPlace w ls) (λ e. not-none-forcing w ls f (law .none-forced e)) in
-      (i, e, one-forcing w f (law .forced e .1) .1)
+      (i, e, only-forcing w f (law .forced e .1) .1)
 
   pub free-found : {n : ℕ} → LowestUnassigned w v n → (i : ℕ) × (lowestUnassigned v w ≡ some i) × (n ≡ suc i)
   free-found {n} f =
       let (i, e) = is-some (lowestUnassigned v w) (λ e. law .none-free e n (f .from-1) (f .to-V) (f .unassigned)) in
-      (i, e, one (suc i) (law .free e))
+      (i, e, one (law .free e))
     where
-      one : (m : ℕ) → LowestUnassigned w v m → n ≡ m
-      one m g = by (decLt m n) (decLt n m)
-        where
-          by : Dec (m < n) → Dec (n < m) → n ≡ m
-          by (yes h) d = absurd (f .lower m (g .from-1) h (g .unassigned))
-          by (no h) (yes k) = absurd (g .lower n (f .from-1) k (f .unassigned))
-          by (no h) (no k) = omega arith
+      lower : {m : ℕ} → LowestUnassigned w v m → (k : ℕ) → k < m → (1 ≤ k) × (w k ≡ Unassigned) → ⊥
+      lower x k h u = x .lower k (u .0) h (u .1)
 
--- 5. What the theory takes from them
+      one : {m : ℕ} → LowestUnassigned w v m → n ≡ m
+      one g = only-least (λ k. (1 ≤ k) × (w k ≡ Unassigned)) (f .from-1, f .unassigned) (lower f) (g .from-1, g .unassigned) (lower g)
+
+-- 6. What the theory takes from them
 
 module _ (w : Values) where
   pub failed-some : {ls : List ℤ} {k : ℕ} → FailedClause w ls k → Some (AllFalse w) (split ls)

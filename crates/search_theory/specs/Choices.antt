@@ -1,10 +1,11 @@
--- What a step chooses, in document 01's words: w has the values of the variables, and k is the index of a clause among the clauses of the list.
+-- What a step chooses, in the words of document 01 and, where several clauses force a literal, of document 02's E9: w has the values of the variables, and k
+-- is the index of a clause among the clauses of the list.
 use Prim.Native.Nat.{ℕ, _≤_, _<_}
-use lib.IntN.{ℤ}
+use lib.IntN.{ℤ, natAbs}
 use mathlib.Core.Path.{_≡_}
 use mathlib.Core.List.{List}
 use Rattle.answers.specs.First.{FirstIn, NoneIn}
-use Rattle.answers.specs.Lists.{All, _∈_}
+use Rattle.answers.specs.Lists.{All, Some, _∈_}
 use Rattle.cnf.specs.Clauses.{split}
 use Rattle.search.specs.Trail.{True, False, Unassigned, Values, literalValue}
 
@@ -24,6 +25,10 @@ module _ (w : Values) where
   abbrev pub ForcesOne : List ℤ → Type 0
   ForcesOne c = (l : ℤ) × Forces l c
 
+  -- a clause that forces a variable, to one value or the other
+  abbrev pub ForcesVariable : ℕ → List ℤ → Type 0
+  ForcesVariable n c = (l : ℤ) × Forces l c × (natAbs l ≡ n)
+
   module _ (ls : List ℤ) where
     -- a failed clause, that is, the first clause in list order whose literals are all false
     pub record FailedClause (k : ℕ) : Type 0 where
@@ -33,10 +38,16 @@ module _ (w : Values) where
     abbrev pub NoneFailed : Type 0
     NoneFailed = NoneIn AllFalse (split ls)
 
-    -- the first clause without a true literal whose unassigned literals are all one literal, l
+    -- the lowest variable that some clause forces
+    pub record LowestForced (n : ℕ) : Type 0 where
+      pub forced : Some (ForcesVariable n) (split ls)
+      pub lower : (m : ℕ) → m < n → NoneIn (ForcesVariable m) (split ls)
+
+    -- where several clauses force a literal, the lowest variable; if several force that variable, the earliest clause; and l, the literal that it forces
     pub record ForcingClause (k : ℕ) (l : ℤ) : Type 0 where
       pub clause : List ℤ
-      pub first : FirstIn ForcesOne (split ls) k clause
+      pub lowest : LowestForced (natAbs l)
+      pub first : FirstIn (ForcesVariable (natAbs l)) (split ls) k clause
       pub forces : Forces l clause
 
     abbrev pub NoneForcing : Type 0

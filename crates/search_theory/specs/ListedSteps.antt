@@ -1,4 +1,5 @@
--- Document 01's "One step does the first that applies" as relations: the listed steps, what they lead to, and what a call comes to by them.
+-- Document 01's "One step does the first that applies", with E9's order of forced literals, as relations: the listed steps, what they lead to, and what a
+-- call comes to by them.
 use Prim.Native.Nat.{ℕ, suc, _<_}
 use lib.IntN.{ℤ, pos, negℤ}
 use lib.ListN.{drop}
@@ -27,7 +28,7 @@ module _ (v : ℕ) (ls : List ℤ) where
     -- a failed clause, that is, the first clause in list order whose literals are all false: undo back to the last entry marked 1, negate it, mark it 0;
     -- if no mark is 1, answer "none";
     undoes : {k : ℕ} {x : Next} → FailedClause (variableValue t) ls k → Undoes t x → ListedStep t x
-    -- the first clause without a true literal whose unassigned literals are all one literal: append that, mark 0;
+    -- a clause without a true literal whose unassigned literals are all one literal (of several such clauses the one that E9 takes): append that, mark 0;
     forces : {k : ℕ} {l : ℤ} → NoneFailed (variableValue t) ls → ForcingClause (variableValue t) ls k l → ListedStep t (Moved (entry l 0 ∷ t))
     -- an unassigned variable: append the lowest, negated, mark 1;
     chooses : {n : ℕ} → NoneFailed (variableValue t) ls → NoneForcing (variableValue t) ls → LowestUnassigned (variableValue t) v n
