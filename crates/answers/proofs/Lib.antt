@@ -2,6 +2,7 @@
 pub mod Bools
 pub mod Elements
 pub mod First
+pub mod Bounds
 pub mod Lent
 pub mod Lists
 pub mod OneToOne

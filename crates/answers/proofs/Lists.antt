@@ -1,7 +1,7 @@
--- Counting in a list. Assumes nothing.
+-- Counting in a list, and a list of one element n times. Assumes nothing.
 use Prim.Native.Nat.{ℕ, zero, suc, _≤_, _<_}
 use native.Mathlib.Omega.{arith}
-use lib.ListN.{length, getD, take}
+use lib.ListN.{length, getD, take, replicate}
 use lib.Seq.{take-length}
 use mathlib.Core.Path.{_≡_, refl, _∙_, ap}
 use mathlib.Core.Bool.{Bool, true, false}
@@ -31,3 +31,9 @@ many-next p (x ∷ xs) d (suc j) h = ap (tally (p x)) (many-next p xs d j (omega
 -- and all of them
 pub many-all : {A : Type 0} (p : A → Bool) (xs : List A) {j : ℕ} → j ≡ length xs → howMany p (take j xs) ≡ howMany p xs
 many-all p xs e = ap (howMany p) (ap (λ n. take n xs) e ∙ take-length xs)
+
+-- one element n times, and past them what stands for no element: the same everywhere
+pub blank : {A : Type 0} (d : A) (n k : ℕ) → getD (replicate n d) k d ≡ d
+blank d zero k = refl
+blank d (suc n) zero = refl
+blank d (suc n) (suc k) = blank d n k

@@ -1,6 +1,6 @@
 -- "First": the least number below n at which a test holds, as the code seeks it. And "first" of a property, of numbers or of the elements of a list, for what
 -- document 01 says without a test.
-use Prim.Native.Nat.{ℕ, zero, suc, _<_}
+use Prim.Native.Nat.{ℕ, zero, suc, _≤_, _<_}
 use mathlib.Core.Path.{_≡_}
 use mathlib.Core.Bool.{Bool, true, false}
 use mathlib.Core.Option.{Option, none, some}
@@ -31,6 +31,12 @@ pub record Least (p : ℕ → Bool) (n m : ℕ) : Type 0 where
   pub below : m < n
   pub holds : p m ≡ true
   pub first : (k : ℕ) → k < m → p k ≡ false
+
+-- m is the first place below n at which the test holds, or n if there is none
+pub record Until (p : ℕ → Bool) (n m : ℕ) : Type 0 where
+  pub within : m ≤ n
+  pub none-yet : (k : ℕ) → k < m → p k ≡ false
+  pub stops : m < n → p m ≡ true
 
 -- the code's answer to such a search
 abbrev pub placed : Place → Option ℕ

@@ -25,6 +25,12 @@ code-variable (pos n) = omega arith
 code-variable (negsuc n) = omega arith
 
 -- the code that closes a clause
+-- a literal has a variable
+pub some-variable : (l : ℤ) → closes l ≡ false → 1 ≤ natAbs l
+some-variable (pos zero) z = clash refl z
+some-variable (pos (suc m)) z = omega arith
+some-variable (negsuc m) z = omega arith
+
 pub code-closes : (l : ℤ) → closes l ≡ eqb (codeOf l) 0
 code-closes (pos zero) = refl
 code-closes (pos (suc n)) = sym (ne-eqb (suc n * 2) 0 (omega arith))

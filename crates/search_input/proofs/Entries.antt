@@ -8,13 +8,14 @@ use borrow.Author.Tests.{eq-eqb, ne-eqb, ltb-false}
 use mathlib.Core.Path.{_≡_, refl, sym, _∙_, ap}
 use mathlib.Core.Bool.{Bool, true, false, not, _||_, cond, or-comm}
 use mathlib.Core.List.{List}
-use Rattle.answers.proofs.Bools.{clash, or-neither}
+use Rattle.answers.proofs.Bools.{or-neither}
 use Rattle.cnf.specs.Literals.{closes, codeOf, variableAt}
-use Rattle.cnf.proofs.Lists.{code-closes, code-beyond, code-within}
+use Rattle.cnf.proofs.Lists.{some-variable, code-closes, code-beyond, code-within}
 use Rattle.search.specs.Trail.{slices, isUnassigned, made, trailOf, variableValue}
 use Rattle.search.specs.Call.{wrongEntryAt}
-use Rattle.search_input.specs.Entries.{Until, faultyAt, usedBefore, usedAt, Inside}
-use Rattle.search_input.proofs.Bounds.{until-both, until-same}
+use Rattle.answers.specs.First.{Until}
+use Rattle.search_input.specs.Entries.{faultyAt, usedBefore, usedAt, Inside}
+use Rattle.answers.proofs.Bounds.{until-both, until-same}
 
 -- a variable has a value exactly if an entry stands on it
 used-before : (ts : List ℤ) (ms : List ℕ) (n x : ℕ) → not (isUnassigned (variableValue (trailOf (slices ts ms) n) x)) ≡ usedBefore ts n x
@@ -48,15 +49,10 @@ module _ (v : ℕ) (ts : List ℤ) (ms : List ℕ) (i : ℕ) {k : ℕ} (read : k
 
 -- entries without such a fault stand on variables 1 to V
 pub faulty-inside : (v : ℕ) (ts : List ℤ) (ms : List ℕ) {used n : ℕ} → Until (faultyAt v ts ms) used n → Inside v ts n
-faulty-inside v ts ms {used} {n} u = record { low = λ i h. some (getD ts i (pos 0)) (both i h .0); high = λ i h. ltb-false v _ (both i h .1) }
+faulty-inside v ts ms {used} {n} u = record { low = λ i h. some-variable (getD ts i (pos 0)) (both i h .0); high = λ i h. ltb-false v _ (both i h .1) }
   where
     both : (i : ℕ) → i < n → (closes (getD ts i (pos 0)) ≡ false) × (ltb v (variableAt ts i) ≡ false)
     both i h = or-neither (closes (getD ts i (pos 0))) _ (or-neither _ (ltb 1 (getD ms i 0)) (u .none-yet i h) .0)
-
-    some : (l : ℤ) → closes l ≡ false → 1 ≤ natAbs l
-    some (pos zero) z = clash refl z
-    some (pos (suc m)) z = omega arith
-    some (negsuc m) z = omega arith
 
 -- an entry is wrong by itself, or for the entries before it
 pub wrong-entries : (v : ℕ) (ts : List ℤ) (ms : List ℕ) {used n m : ℕ} → Until (faultyAt v ts ms) used n → Until (usedAt ts) n m

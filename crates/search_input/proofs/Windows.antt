@@ -9,9 +9,10 @@ use mathlib.Core.Path.{_≡_}
 use mathlib.Core.Bool.{Bool, true, false, _&&_, _||_, or-false}
 use mathlib.Core.List.{List}
 use Rattle.cnf.specs.Literals.{variableAt}
-use Rattle.search_input.specs.Entries.{Until, usedBefore, usedAt, Inside}
+use Rattle.answers.specs.First.{Until}
+use Rattle.search_input.specs.Entries.{usedBefore, usedAt, Inside}
 use Rattle.search_input.specs.Flags.{againAt}
-use Rattle.search_input.proofs.Bounds.{until-both, until-same}
+use Rattle.answers.proofs.Bounds.{until-both, until-same}
 
 module _ (ts : List ℤ) where
   -- no entry is before the first

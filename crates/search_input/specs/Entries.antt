@@ -8,12 +8,6 @@ use mathlib.Core.Bool.{Bool, true, false, _||_}
 use mathlib.Core.List.{List}
 use Rattle.cnf.specs.Literals.{closes, variableAt, beyond}
 
--- m is the first place below n at which the test holds, or n if there is none
-pub record Until (p : ℕ → Bool) (n m : ℕ) : Type 0 where
-  pub within : m ≤ n
-  pub none-yet : (k : ℕ) → k < m → p k ≡ false
-  pub stops : m < n → p m ≡ true
-
 -- an entry that is 0, beyond V, or with a mark not 0 or 1
 abbrev pub faultyAt : ℕ → List ℤ → List ℕ → ℕ → Bool
 faultyAt v ts ms i = closes (getD ts i (pos 0)) || beyond v (getD ts i (pos 0)) || ltb 1 (getD ms i 0)

@@ -2,11 +2,11 @@
 ghost use mathlib.Core.Path.{_≡_};
 ghost use Prim.Native.Nat.{_+_, _<_, _≤_};
 ghost use lib.ListN.{length};
-ghost use Rattle.answers.specs.First.{firstWhere, placed};
+ghost use Rattle.answers.specs.First.{firstWhere, placed, Until};
 ghost use Rattle.cnf.specs.Literals.{mostVariables};
 ghost use Rattle.search.specs.Trail.{slices};
 ghost use Rattle.search.specs.Call.{wrongLengths, wrongEntryAt};
-ghost use Rattle.search_input.specs.Entries.{Until, faultyAt, usedAt, Inside};
+ghost use Rattle.search_input.specs.Entries.{faultyAt, usedAt, Inside};
 ghost use Rattle.search_input.specs.Flags.{NoFlag, isMet, met, metBy, againAt};
 use answers::Place;
 use cnf::code_at;

@@ -1,7 +1,7 @@
 -- `search_input::first_again` meets its contract: below `low` no variable comes again before `first`. Assumes nothing.
 use native.Mathlib.Omega.{arith}
 use Prim.Native.Nat.{ℕ, _+_, _-_, _≤_}
-use Rattle.search_input.specs.Entries.{Until}
+use Rattle.answers.specs.First.{Until}
 use Rattle.search_input.specs.Flags.{againAt}
 use Rattle.search_input.proofs.Windows.{few-entries, windows-start, windows-on, windows-all}
 use Rattle.search_input.proofs.first_again.Statement.{statement}

@@ -4,7 +4,7 @@ use Prim.Native.Nat.{_-_}
 use mathlib.Core.Path.{sym, _∙_}
 use Rattle.answers.proofs.First.{Seeking, seek-start, seek-on}
 use Rattle.search_input.specs.Entries.{faultyAt}
-use Rattle.search_input.proofs.Bounds.{until-here, until-end}
+use Rattle.answers.proofs.Bounds.{until-here, until-end}
 use Rattle.search_input.proofs.first_faulty.Statement.{statement}
 use Rattle.search_input.proofs.first_faulty.Tie as tie
 

@@ -2,8 +2,8 @@
 use native.Mathlib.Omega.{arith}
 use Rattle.search.specs.Trail.{slices}
 use Rattle.search.specs.Call.{wrongEntryAt}
-use Rattle.search_input.specs.Entries.{Until}
-use Rattle.search_input.proofs.Bounds.{until-found, until-none}
+use Rattle.answers.specs.First.{Until}
+use Rattle.answers.proofs.Bounds.{until-found, until-none}
 use Rattle.search_input.proofs.Entries.{faulty-inside, wrong-entries}
 use borrow.Author.Needs.{needs}
 use Rattle.search_input.proofs.first_wrong_entry.Statement.{statement}

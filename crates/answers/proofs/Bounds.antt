@@ -5,10 +5,9 @@ use native.Mathlib.Decide.{decLt}
 use mathlib.Core.Path.{_≡_, refl, sym, _∙_}
 use mathlib.Core.Bool.{Bool, true, _||_}
 use mathlib.Core.Option.{none, some}
-use Rattle.answers.specs.First.{firstWhere}
+use Rattle.answers.specs.First.{firstWhere, Until}
 use Rattle.answers.proofs.Bools.{or-left, or-right}
 use Rattle.answers.proofs.First.{Seeking, seek-found, seek-none}
-use Rattle.search_input.specs.Entries.{Until}
 
 -- where a loop that seeks it stops
 module _ {p : ℕ → Bool} {n i : ℕ} (s : Seeking p n i) where
