@@ -2,6 +2,7 @@
 use Prim.Native.Nat.{ℕ, zero, suc, _+_, _≤_, _<_}
 use native.Mathlib.Omega.{arith}
 use native.Mathlib.Decide.{ℕ-discrete, decLt}
+use lib.ListN.{length, getD}
 use mathlib.Core.Path.{_≡_, refl, sym, _∙_, ap, subst}
 use mathlib.Core.Bool.{Bool, true, false}
 use mathlib.Core.Logic.{_⊎_, inl, inr, _↔_}
@@ -153,6 +154,11 @@ module _ {A : Type 0} {P : A → Type 0} where
   pub first-some-in : (Q : A → Type 0) {xs : List A} {k : ℕ} {x : A} → FirstIn P xs k x → Q x → Some Q xs
   first-some-in Q (here h) q = inl q
   first-some-in Q (later n f) q = inr (first-some-in Q f q)
+
+  -- it stands at its index
+  pub first-index : (d : A) {xs : List A} {k : ℕ} {x : A} → FirstIn P xs k x → (k < length xs) × (getD xs k d ≡ x)
+  first-index d (here h) = (omega arith, refl)
+  first-index d (later n f) = let (b, e) = first-index d f in (omega arith, e)
 
   pub not-none : {xs : List A} {k : ℕ} {x : A} → FirstIn P xs k x → NoneIn P xs → ⊥
   not-none (here h) n = n .0 h

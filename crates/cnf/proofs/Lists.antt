@@ -1,4 +1,4 @@
--- Laws of codes, of the number of clauses, and of the loop that counts them. Assumes nothing.
+-- Laws of codes, of the number of clauses, of the loop that counts them, and of the places where clauses begin. Assumes nothing.
 use Prim.Native.Nat.{ℕ, zero, suc, _+_, _*_, _-_, _/_, _≤_, _<_}
 use native.Mathlib.Omega.{arith}
 use native.Mathlib.Numerals.{add-one}
@@ -8,7 +8,7 @@ use lib.IntN.{ℤ, pos, negsuc, natAbs}
 use lib.ListN.{length, getD, drop, drop-of-length-le}
 use lib.Seq.{drop-cons}
 use mathlib.Core.Path.{_≡_, refl, sym, _∙_, ap}
-use mathlib.Core.Bool.{Bool, true, false, not}
+use mathlib.Core.Bool.{Bool, true, false, not, cond}
 use mathlib.Core.Option.{Option}
 use mathlib.Core.List.{List, [], _∷_}
 use Rattle.answers.specs.declared.Place.{Place}
@@ -17,7 +17,7 @@ use Rattle.answers.specs.First.{placed, orElse}
 use Rattle.answers.specs.Lists.{tally}
 use Rattle.answers.proofs.Bools.{clash}
 use Rattle.cnf.specs.Literals.{closes, codeOf, beyond, unclosed}
-use Rattle.cnf.specs.Clauses.{splitStep, split, clauseCount}
+use Rattle.cnf.specs.Clauses.{splitStep, split, clauseCount, placeAfter}
 
 -- the variable of a code
 pub code-variable : (l : ℤ) → codeOf l / 2 ≡ natAbs l
@@ -109,3 +109,30 @@ module _ {ls : List ℤ} {i n : ℕ} (c : ClausesCounted ls i n) where
 
   pub count-end : length ls ≤ i → n ≡ clauseCount ls
   count-end h = let r : n + 0 ≡ clauseCount ls = ap (λ r. n + clauseCount r) (sym (drop-of-length-le ls h)) ∙ c .rest in omega arith
+
+-- the place after some clauses
+pub place-zero : (ls : List ℤ) → placeAfter 0 ls ≡ 0
+unfolding placeAfter
+place-zero [] = refl
+place-zero (l ∷ ls) = refl
+
+-- an element more
+pub place-step : (n : ℕ) (l : ℤ) (ls : List ℤ) → (n ≡ 0 → ⊥) → placeAfter n (l ∷ ls) ≡ suc (placeAfter (cond (closes l) (n - 1) n) ls)
+unfolding placeAfter
+place-step n l ls z = rw (ne-eqb n 0 z)
+
+-- over m clauses, and then over n more
+pub place-more : (m n : ℕ) (ls : List ℤ) → placeAfter m ls + placeAfter n (drop (placeAfter m ls) ls) ≡ placeAfter (m + n) ls
+unfolding placeAfter
+place-more m n [] = refl
+place-more zero n (l ∷ ls) = let e : 0 + n ≡ n = omega arith in rw (place-zero (l ∷ ls), e) (omega arith)
+place-more (suc m) n (l ∷ ls) =
+    rw (place-step (suc m) l ls (λ q. omega arith), place-step (suc m + n) l ls (λ q. omega arith))
+    (by (closes l) (place-more m n ls) (place-more (suc m) n ls))
+  where
+    by : (b : Bool) → placeAfter m ls + placeAfter n (drop (placeAfter m ls) ls) ≡ placeAfter (m + n) ls
+        → placeAfter (suc m) ls + placeAfter n (drop (placeAfter (suc m) ls) ls) ≡ placeAfter (suc m + n) ls
+        → suc (placeAfter (cond b (suc m - 1) (suc m)) ls) + placeAfter n (drop (placeAfter (cond b (suc m - 1) (suc m)) ls) ls)
+        ≡ suc (placeAfter (cond b (suc m + n - 1) (suc m + n)) ls)
+    by true h k = let e : suc m + n - 1 ≡ m + n = omega arith in let d : suc m - 1 ≡ m = omega arith in rw (e, d) (omega arith)
+    by false h k = omega arith

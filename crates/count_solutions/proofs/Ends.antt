@@ -22,27 +22,30 @@ use Rattle.program_text.proofs.Encoded.{Encodes, read, variables, listed, unref
 use Rattle.count_solutions.specs.Printed.{countLine, printedCount}
 
 module _ {s : List ℕ} {new : List ℤ} {c : Counts} (w : Encodes s (countsOutcome c) new) (h : c .variables ≤ variableLimit) where
-  -- the parts of trail and marks that are lent on
+  -- the parts of trail, marks and clause numbers that are lent on
   part-long : {A : Type 0} (x : A) → length (take (c .variables) (replicate variableLimit x)) ≡ variableCount (boardOf s)
   part-long x = length-take-le (c .variables) (replicate variableLimit x) (omega (arith, length-replicate variableLimit x)) ∙ variables w refl
 
   abbrev ts : List ℤ
   ts = take (c .variables) (replicate variableLimit (pos 0))
 
-  abbrev ms : List ℕ
-  ms = take (c .variables) (replicate variableLimit 0)
+  abbrev ns : List ℕ
+  ns = take (c .variables) (replicate variableLimit 0)
 
-  pub taken : IsTaken Searching (searchOn (length ts) (take (c .elements) new) ts ms 0)
+  same-long : length ns ≡ length ts
+  same-long = part-long 0 ∙ sym (part-long (pos 0))
+
+  pub taken : IsTaken Searching (searchOn (length ts) (take (c .elements) new) ts ns ns 0)
   taken = begun.begun-taken s _ on
     where
-      on : BegunOn s (searchOn (length ts) (take (c .elements) new) ts ms 0)
+      on : BegunOn s (searchOn (length ts) (take (c .elements) new) ts ns ns 0)
       on =
           record {
             grid = read w refl;
             variables = part-long (pos 0);
             list = listed w refl;
             empty = refl;
-            slices = record { trail = refl; marks = part-long 0 ∙ sym (part-long (pos 0)) };
+            slices = record { trail = refl; marks = same-long; numbers = same-long };
           }
 
   pub ends-counted : {m : SolutionCount} {buf after : List ℕ} {r : ℕ} → m ≡ solutionCountIn (length ts) (take (c .elements) new) budget

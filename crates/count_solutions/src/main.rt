@@ -43,7 +43,14 @@ fn count_text(record: &[u8], text: &mut [u8; 4096]) -> usize
     }
     let mut trail = [0i32; VARIABLE_LIMIT];
     let mut marks = [0u8; VARIABLE_LIMIT];
-    let many = count_solutions(&list[..elements], &mut trail[..v], &mut marks[..v], BUDGET);
+    let mut numbers = [0u64; VARIABLE_LIMIT];
+    let many = count_solutions(
+        &list[..elements],
+        &mut trail[..v],
+        &mut marks[..v],
+        &mut numbers[..v],
+        BUDGET,
+    );
     put_count(text, many)
 }
 

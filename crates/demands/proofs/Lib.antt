@@ -1,4 +1,4 @@
--- Read Demands.antt, the three demands, RequestE1.antt to RequestE9.antt, document 02's requests, and Stars.antt, the starred cases: short proofs that
+-- Read Demands.antt, the three demands, RequestE1.antt to RequestE10.antt, document 02's requests, and Stars.antt, the starred cases: short proofs that
 -- cite the theories and solver.
 pub mod Demands
 pub mod RequestE1
@@ -10,5 +10,6 @@ pub mod RequestE6
 pub mod RequestE7
 pub mod RequestE8
 pub mod RequestE9
+pub mod RequestE10
 pub mod Stars
 pub mod DecoderTable

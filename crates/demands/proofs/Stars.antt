@@ -84,7 +84,7 @@ printed-text = refl
 
 -- the search begun empty on its clauses
 abbrev begun : GridStar → Search
-begun g = let v : ℕ = g .grid .outcome .second in searchOn v (g .grid .list) (replicate v (pos 0)) (replicate v 0) 0
+begun g = let v : ℕ = g .grid .outcome .second in searchOn v (g .grid .list) (replicate v (pos 0)) (replicate v 0) (replicate v 0) 0
 
 -- what is computed of a grid, with the number of its solutions
 module _ (g : GridStar) (e : computes g ≡ claims g) (encoded : grids.encodes (g .grid) ≡ g .grid)
@@ -96,7 +96,9 @@ module _ (g : GridStar) (e : computes g ≡ claims g) (encoded : grids.encodes (
         variables = sym (ap (λ (f : Facts). f .variables) e);
         list = sym (ap (λ (f : Facts). f .clauses) e);
         empty = refl;
-        slices = record { trail = length-replicate (g .grid .outcome .second) (pos 0); marks = length-replicate (g .grid .outcome .second) 0 };
+        slices =
+            let v : ℕ = g .grid .outcome .second in
+            record { trail = length-replicate v (pos 0); marks = length-replicate v 0; numbers = length-replicate v 0 };
       }
 
   says : bySearch (begun g) 1000000 .outcome ≡ g .says

@@ -61,7 +61,7 @@ pub record Demand1 : Type 0 where
       → ByRows (1 ∷ 2 ∷ 3 ∷ 4 ∷ 5 ∷ 8 ∷ 7 ∷ 9 ∷ 10 ∷ 11 ∷ 12 ∷ 13 ∷ 14 ∷ 15 ∷ []) (decoderTable s values lent) (decoderAnswer s values lent)
       (decoderLeaves s values lent ≡ lent)
   pub search : (c : Search) (budget : ℕ)
-      → ByRows (17 ∷ 16 ∷ 18 ∷ []) (rowsOf c Searching) (bySearch c budget .outcome) (bySearch c budget .slices ≡ c .slices)
+      → ByRows (17 ∷ 16 ∷ 18 ∷ 22 ∷ []) (rowsOf c Searching) (bySearch c budget .outcome) (bySearch c budget .slices ≡ c .slices)
   pub writer : (v : ℕ) (ls : List ℤ) (out : List ℕ)
       → ByRows (17 ∷ 16 ∷ 6 ∷ []) (writerRows v ls (length out)) (writerAnswer v ls out) (writerLeaves v ls out ≡ out)
   pub text-reader : (text : List ℕ) (out : List ℤ) → ByRows (19 ∷ 6 ∷ []) (readerRows text (length out)) (readerAnswer text out) (readerLeaves text out ≡ out)

@@ -55,7 +55,7 @@ pub record RequestE1 : Type 0 where
       → (budget : ℕ) → (Says (byNext (resumed c (bySearch c first)) budget) Halted → ⊥)
       → Says (byNext (resumed c (bySearch c first)) budget) None ↔ OneSolution s
   pub one-listed : (s : List ℕ) (c : Search) → BegunOn s c → (found : List (List Bool)) → Lists Searching c found → length found ≡ 1 ↔ OneSolution s
-  -- "Errors: 20, trail not full or some clause untrue under it, beside it 0, after 18."
+  -- "Errors: 20, trail not full or some clause untrue under it, beside it 0, after 18." (By E10 22 stands between them.)
   pub turned-down : (c : Search) (budget : ℕ)
-      → ByRows (17 ∷ 16 ∷ 18 ∷ 20 ∷ []) (rowsOf c Following) (byNext c budget .outcome) (byNext c budget .slices ≡ c .slices)
+      → ByRows (17 ∷ 16 ∷ 18 ∷ 22 ∷ 20 ∷ []) (rowsOf c Following) (byNext c budget .outcome) (byNext c budget .slices ≡ c .slices)
   pub taken-exactly : (c : Search) → IsTaken Following c ↔ (IsTaken Searching c × (c .used ≡ c .variables) × Satisfies (given c) (c .list))

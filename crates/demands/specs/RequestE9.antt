@@ -2,7 +2,7 @@
 -- A step of `search`, and of `next` after its drop, is `step`, of V, a clause list and a trail. A clause forces a literal if it has no true literal and its
 -- unassigned literals are all that one: `Forces` of search_theory/specs/Choices.antt. Where a step alone is spoken of, it is asked of the list only that its
 -- last clause is closed, as it is in each that is accepted.
-use Prim.Native.Nat.{ℕ}
+use Prim.Native.Nat.{ℕ, suc}
 use lib.IntN.{ℤ}
 use mathlib.Core.Path.{_≡_}
 use mathlib.Core.Bool.{Bool, false}
@@ -33,13 +33,13 @@ pub record RequestE9 : Type 0 where
   -- "Editors who follow a trail on the board find the forced entries jumping about. Where several clauses force a literal, the step now takes the lowest
   -- variable; if several clauses force that variable, to the same value or to different ones, the earliest clause."
   -- (`ForcingClause` says this of the index k of a clause and of the literal l that it forces. There is exactly one, wherever some clause forces a literal;
-  -- and unless a clause has failed, the step appends that literal, marked 0.)
+  -- and unless a clause has failed, the step appends that literal, marked 0 and, by E10, with the number of the clause, from 1.)
   pub one-forcing : (ls : List ℤ) → unclosed ls ≡ false → (t : Trail) → Some (ForcesOne (variableValue t)) (split ls)
       → (k : ℕ) × (l : ℤ) × ForcingClause (variableValue t) ls k l
   pub no-other-forcing : (ls : List ℤ) (t : Trail) (i j : ℕ) (k l : ℤ) → ForcingClause (variableValue t) ls i k → ForcingClause (variableValue t) ls j l
       → (i ≡ j) × (k ≡ l)
   pub takes : (v : ℕ) (ls : List ℤ) → unclosed ls ≡ false → (t : Trail) → NoneFailed (variableValue t) ls
-      → (k : ℕ) (l : ℤ) → ForcingClause (variableValue t) ls k l → step v ls t ≡ Moved (entry l 0 ∷ t)
+      → (k : ℕ) (l : ℤ) → ForcingClause (variableValue t) ls k l → step v ls t ≡ Moved (entry l 0 (suc k) ∷ t)
   -- "Falsified clauses keep list order."
   -- (`FailedClause` is the first in list order. Whatever other clauses force, the step undoes.)
   pub undoes-first : (v : ℕ) (ls : List ℤ) → unclosed ls ≡ false → (t : Trail) (k : ℕ) → FailedClause (variableValue t) ls k → step v ls t ≡ undoes t

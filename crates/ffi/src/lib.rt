@@ -114,18 +114,20 @@ pub extern "C" fn yajilin_search(
     list: &[i32],
     trail: &mut [i32],
     marks: &mut [u8],
+    numbers: &mut [u64],
     used: u64,
     budget: u64,
     answer: &mut [u64; 4],
 ) -> u64
-    ensures { λ r. ⌜ r ≡ bySearch (searchOn variables (now (list .entry)) (now (trail .entry)) (now (marks .entry)) used) budget .outcome .number ⌝ }
-    ensures { λ r. ⌜ slices (now (trail .exit)) (now (marks .exit)) ≡
-        bySearch (searchOn variables (now (list .entry)) (now (trail .entry)) (now (marks .entry)) used) budget .slices ⌝ }
+    ensures { λ r. ⌜ r ≡
+        bySearch (searchOn variables (now (list .entry)) (now (trail .entry)) (now (marks .entry)) (now (numbers .entry)) used) budget .outcome .number ⌝ }
+    ensures { λ r. ⌜ slices (now (trail .exit)) (now (marks .exit)) (now (numbers .exit)) ≡
+        bySearch (searchOn variables (now (list .entry)) (now (trail .entry)) (now (marks .entry)) (now (numbers .entry)) used) budget .slices ⌝ }
     ensures { λ r. ⌜ now (answer .exit) ≡
-        words (bySearch (searchOn variables (now (list .entry)) (now (trail .entry)) (now (marks .entry)) used) budget .outcome) ⌝ }
+        words (bySearch (searchOn variables (now (list .entry)) (now (trail .entry)) (now (marks .entry)) (now (numbers .entry)) used) budget .outcome) ⌝ }
 {
     let v = variables as usize;
-    let found = search_call::search(v, list, trail, marks, used as usize, budget);
+    let found = search_call::search(v, list, trail, marks, numbers, used as usize, budget);
     found.outcome().write(answer)
 }
 
@@ -136,17 +138,19 @@ pub extern "C" fn yajilin_next(
     list: &[i32],
     trail: &mut [i32],
     marks: &mut [u8],
+    numbers: &mut [u64],
     used: u64,
     budget: u64,
     answer: &mut [u64; 4],
 ) -> u64
-    ensures { λ r. ⌜ r ≡ byNext (searchOn variables (now (list .entry)) (now (trail .entry)) (now (marks .entry)) used) budget .outcome .number ⌝ }
-    ensures { λ r. ⌜ slices (now (trail .exit)) (now (marks .exit)) ≡
-        byNext (searchOn variables (now (list .entry)) (now (trail .entry)) (now (marks .entry)) used) budget .slices ⌝ }
+    ensures { λ r. ⌜ r ≡
+        byNext (searchOn variables (now (list .entry)) (now (trail .entry)) (now (marks .entry)) (now (numbers .entry)) used) budget .outcome .number ⌝ }
+    ensures { λ r. ⌜ slices (now (trail .exit)) (now (marks .exit)) (now (numbers .exit)) ≡
+        byNext (searchOn variables (now (list .entry)) (now (trail .entry)) (now (marks .entry)) (now (numbers .entry)) used) budget .slices ⌝ }
     ensures { λ r. ⌜ now (answer .exit) ≡
-        words (byNext (searchOn variables (now (list .entry)) (now (trail .entry)) (now (marks .entry)) used) budget .outcome) ⌝ }
+        words (byNext (searchOn variables (now (list .entry)) (now (trail .entry)) (now (marks .entry)) (now (numbers .entry)) used) budget .outcome) ⌝ }
 {
     let v = variables as usize;
-    let found = search_next::next(v, list, trail, marks, used as usize, budget);
+    let found = search_next::next(v, list, trail, marks, numbers, used as usize, budget);
     found.outcome().write(answer)
 }

@@ -57,7 +57,7 @@ abbrev lent : List ℕ → Lent
 lent ds =
     record {
       list = replicate elementLimit (pos 0);
-      slices = slices (replicate variableLimit (pos 0)) (replicate variableLimit 0);
+      slices = slices (replicate variableLimit (pos 0)) (replicate variableLimit 0) (replicate variableLimit 0);
       values = replicate variableLimit 0;
       drawing = ds;
     }

@@ -33,6 +33,7 @@ pub fn solve_record(record: &[u8], drawing: &mut [u8; MOST_CELLS], text: &mut [u
     let mut list = [0i32; ELEMENT_LIMIT];
     let mut trail = [0i32; VARIABLE_LIMIT];
     let mut marks = [0u8; VARIABLE_LIMIT];
+    let mut numbers = [0u64; VARIABLE_LIMIT];
     let mut values = [0u8; VARIABLE_LIMIT];
     let answer = solve_grid(
         g,
@@ -40,6 +41,7 @@ pub fn solve_record(record: &[u8], drawing: &mut [u8; MOST_CELLS], text: &mut [u
         &mut list,
         &mut trail,
         &mut marks,
+        &mut numbers,
         &mut values,
         drawing,
         BUDGET,

@@ -15,6 +15,7 @@ use Rattle.answers.specs.Lent.{unlessRefused}
 use Rattle.cnf.specs.Literals.{closes, tooManyVariables, beyond, wrongList}
 use Rattle.search.specs.Trail.{Entry, Trail, Slices, slices, image, entryAt, trailOf, isUnassigned, variableValue, valuesOf}
 use Rattle.search.specs.Step.{failedClause}
+use Rattle.search.specs.Reasons.{wrongNumbers}
 use Rattle.search.specs.Run.{Ending, Done, run, following, endingNumber, doneOutcome}
 
 -- what a search gets, beside its budget: V, a clause list, the slices with a trail, its used count
@@ -24,16 +25,16 @@ pub record Search : Type 0 where
   pub slices : Slices
   pub used : ℕ
 
-abbrev pub searchOn : ℕ → List ℤ → List ℤ → List ℕ → ℕ → Search
-searchOn variables list trail marks used = record { variables = variables; list = list; slices = slices trail marks; used = used }
+abbrev pub searchOn : ℕ → List ℤ → List ℤ → List ℕ → List ℕ → ℕ → Search
+searchOn variables list trail marks numbers used = record { variables = variables; list = list; slices = slices trail marks numbers; used = used }
 
 -- all that a call hands out: what it tells, and what it leaves in the lent slices
 pub record Handed : Type 0 where
   pub outcome : Outcome
   pub slices : Slices
 
-abbrev pub handed : Outcome → List ℤ → List ℕ → Handed
-handed outcome trail marks = record { outcome = outcome; slices = slices trail marks }
+abbrev pub handed : Outcome → List ℤ → List ℕ → List ℕ → Handed
+handed outcome trail marks numbers = record { outcome = outcome; slices = slices trail marks numbers }
 
 -- 17: V too large, trail or marks not V long, used over V
 abbrev pub wrongLengths : ℕ → Slices → ℕ → Bool
@@ -60,15 +61,16 @@ pub data Call : Type 0 where
   Following : Call
 
 module _ (s : Search) where
-  -- search 17, 16, 18
+  -- search 17, 16, 18, 22
   abbrev pub searchRows : List Row
   searchRows =
       row 17 (cause (wrongLengths (s .variables) (s .slices) (s .used))) ∷
       row 16 (wrongList (s .variables) (s .list)) ∷
       row 18 (firstWhere (wrongEntryAt (s .variables) (s .slices)) (s .used)) ∷
+      row 22 (wrongNumbers (s .variables) (s .list) (s .slices) (s .used)) ∷
       []
 
-  -- next 17, 16, 18, 20
+  -- next 17, 16, 18, 22, 20
   abbrev pub rowsOf : Call → List Row
   rowsOf Searching = searchRows
   rowsOf Following = searchRows ++ (row 20 (cause (untrue (s .variables) (s .list) (s .slices) (s .used))) ∷ [])

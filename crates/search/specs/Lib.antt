@@ -3,6 +3,7 @@
 -- Cases: the starred lists, and lists that tell in which order forced literals are appended.
 pub mod Trail
 pub mod Step
+pub mod Reasons
 pub mod Run
 pub mod Call
 pub mod Cases

@@ -8,6 +8,7 @@ use mathlib.Core.Option.{Option, none, some}
 use mathlib.Core.List.{List, [], _∷_}
 use Rattle.answers.specs.First.{found, firstWhere, orElse}
 use Rattle.cnf.specs.Literals.{closes, codeOf, variableAt}
+use Rattle.cnf.specs.Clauses.{clauseNumber}
 use Rattle.search.specs.Trail.{Entry, entry, Trail, Value, True, False, Unassigned, isFalse, isUnassigned, variableValue, Values, literalValue}
 
 -- the literals of the clause at hand, up to the 0 that closes it (in an accepted list there is one), all pass a test
@@ -71,9 +72,9 @@ forcedPlace w ls = overClauses (lowerPlace ls) (forcedAt w) true 0 ls
 unfoldable pub lowestUnassigned : ℕ → Values → Option ℕ
 lowestUnassigned v w = firstWhere (λ n. isUnassigned (w (suc n))) v
 
--- negate it, mark it 0
+-- negate it, mark it 0; the number of a negated choice is 0
 abbrev pub negated : Entry → Entry
-negated e = entry (negℤ (e .literal)) 0
+negated e = entry (negℤ (e .literal)) 0 0
 
 -- undo back to the last entry marked 1, negate it, mark it 0
 unfoldable pub undo : Trail → Option Trail
@@ -101,14 +102,14 @@ abbrev pub onFailed : Option ℕ → Trail → Next → Next
 onFailed (some i) t later = undoes t
 onFailed none t later = later
 
--- a clause that forces a literal: append that, mark 0
+-- a clause that forces a literal: append that, mark 0, with the clause's number
 abbrev pub onForced : Option ℕ → List ℤ → Trail → Next → Next
-onForced (some i) ls t later = Moved (entry (getD ls i (pos 0)) 0 ∷ t)
+onForced (some i) ls t later = Moved (entry (getD ls i (pos 0)) 0 (clauseNumber ls i) ∷ t)
 onForced none ls t later = later
 
--- an unassigned variable: append the lowest, negated, mark 1; else answer "found"
+-- an unassigned variable: append the lowest, negated, mark 1 (the number of a choice is 0); else answer "found"
 abbrev pub onUnassigned : Option ℕ → Trail → Next
-onUnassigned (some n) t = Moved (entry (negsuc n) 1 ∷ t)
+onUnassigned (some n) t = Moved (entry (negsuc n) 1 0 ∷ t)
 onUnassigned none t = AnsweredFound
 
 -- one step does the first that applies

@@ -11,13 +11,15 @@ use Rattle.answers.specs.Lists.{All}
 use Rattle.answers.specs.Lent.{filled}
 use Rattle.cnf.specs.Clauses.{value}
 
--- a used entry is a literal marked 1 (choice, other value untried) or 0
+-- a used entry is a literal marked 1 (choice, other value untried) or 0; and, by document 02's E10, for an entry appended by a clause that clause's number
+-- from 1, for a choice or a negated choice 0
 pub record Entry : Type 0 where
   pub literal : ℤ
   pub mark : ℕ
+  pub number : ℕ
 
-abbrev pub entry : ℤ → ℕ → Entry
-entry l m = record { literal = l; mark = m }
+abbrev pub entry : ℤ → ℕ → ℕ → Entry
+entry l m n = record { literal = l; mark = m; number = n }
 
 -- the used entries, the latest first
 abbrev pub Trail : Type 0
@@ -27,18 +29,20 @@ Trail = List Entry
 pub record Slices : Type 0 where
   pub trail : List ℤ
   pub marks : List ℕ
+  pub numbers : List ℕ
 
-abbrev pub slices : List ℤ → List ℕ → Slices
-slices trail marks = record { trail = trail; marks = marks }
+abbrev pub slices : List ℤ → List ℕ → List ℕ → Slices
+slices trail marks numbers = record { trail = trail; marks = marks; numbers = numbers }
 
 -- each of them has V elements
 pub record HasLength (v : ℕ) (s : Slices) : Type 0 where
   pub trail : length (s .trail) ≡ v
   pub marks : length (s .marks) ≡ v
+  pub numbers : length (s .numbers) ≡ v
 
 -- each is written from its first place on; elements past what is written are untouched
 abbrev pub filledSlices : Slices → Slices → Slices
-filledSlices before s = slices (filled (before .trail) (s .trail)) (filled (before .marks) (s .marks))
+filledSlices before s = slices (filled (before .trail) (s .trail)) (filled (before .marks) (s .marks)) (filled (before .numbers) (s .numbers))
 
 -- one field of the entries in the order of a slice, the earliest first, and after the latest the rest
 unfoldable pub laid : {A : Type 0} → (Entry → A) → Trail → List A → List A
@@ -49,13 +53,13 @@ laid field (e ∷ t) rest = laid field t (field e ∷ rest)
 abbrev pub imageBy : {A : Type 0} → (Entry → A) → A → ℕ → Trail → List A
 imageBy field unused v t = laid field t (replicate (v - length t) unused)
 
--- the image of a trail in slices of V elements: unused entries and marks are 0
+-- the image of a trail in slices of V elements: unused entries, marks and numbers are 0
 abbrev pub image : ℕ → Trail → Slices
-image v t = slices (imageBy (λ e. e .literal) (pos 0) v t) (imageBy (λ e. e .mark) 0 v t)
+image v t = slices (imageBy (λ e. e .literal) (pos 0) v t) (imageBy (λ e. e .mark) 0 v t) (imageBy (λ e. e .number) 0 v t)
 
 -- the trail read from slices with a used count
 abbrev pub entryAt : Slices → ℕ → Entry
-entryAt s i = entry (getD (s .trail) i (pos 0)) (getD (s .marks) i 0)
+entryAt s i = entry (getD (s .trail) i (pos 0)) (getD (s .marks) i 0) (getD (s .numbers) i 0)
 
 unfoldable pub trailOf : Slices → ℕ → Trail
 trailOf s zero = []

@@ -10,7 +10,7 @@ use Rattle.search_call.specs.declared.Ending.{Ending}
 use Rattle.search_call.specs.declared.Ending.the-variants.{Found, None, Halted}
 use Rattle.search_call.specs.declared.End.{End}
 use Rattle.search_call.specs.declared.SearchRefusal.{SearchRefusal}
-use Rattle.search_call.specs.declared.SearchRefusal.the-variants.{Lengths, List, Entry, Untrue}
+use Rattle.search_call.specs.declared.SearchRefusal.the-variants.{Lengths, List, Entry, Number, Untrue}
 use Rattle.search_call.specs.declared.Answer.{Answer}
 use Rattle.search_call.specs.declared.Answer.the-variants.{Ended, Refused}
 use Rattle.search_call.specs.Answers.{endingOf, endOutcome, searchRefusalOutcome, answerOutcome}
@@ -23,7 +23,9 @@ abbrev pub endFrom : Outcome → End
 endFrom t = record { ending = endingFrom (t .first); steps = t .second; used = t .third }
 
 abbrev refusalFrom : Outcome → SearchRefusal
-refusalFrom t = cond (eqb (t .number) 17) Lengths (cond (eqb (t .number) 16) (List (t .first)) (cond (eqb (t .number) 18) (Entry (t .first)) Untrue))
+refusalFrom t =
+    let later : SearchRefusal = cond (eqb (t .number) 18) (Entry (t .first)) (cond (eqb (t .number) 22) (Number (t .first)) Untrue) in
+    cond (eqb (t .number) 17) Lengths (cond (eqb (t .number) 16) (List (t .first)) later)
 
 abbrev answerFrom : Outcome → Answer
 answerFrom t = cond (eqb (t .number) 0) (Ended (endFrom t)) (Refused (refusalFrom t))
@@ -41,6 +43,7 @@ back (Ended e) = ap Ended (end-back e)
 back (Refused Lengths) = refl
 back (Refused (List i)) = refl
 back (Refused (Entry i)) = refl
+back (Refused (Number i)) = refl
 back (Refused Untrue) = refl
 
 -- Two ends, or two answers, with the same outcome are the same.

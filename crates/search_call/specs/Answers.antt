@@ -7,7 +7,7 @@ use Rattle.search_call.specs.declared.Ending.{Ending}
 use Rattle.search_call.specs.declared.Ending.the-variants.{Found, None, Halted}
 use Rattle.search_call.specs.declared.End.{End}
 use Rattle.search_call.specs.declared.SearchRefusal.{SearchRefusal}
-use Rattle.search_call.specs.declared.SearchRefusal.the-variants.{Lengths, List, Entry, Untrue}
+use Rattle.search_call.specs.declared.SearchRefusal.the-variants.{Lengths, List, Entry, Number, Untrue}
 use Rattle.search_call.specs.declared.Answer.{Answer}
 use Rattle.search_call.specs.declared.Answer.the-variants.{Ended, Refused}
 use Rattle.search_call.specs.declared.Checked.{Checked}
@@ -22,11 +22,12 @@ endingOf Halted = meaning.Halted
 abbrev pub endOutcome : End → Outcome
 endOutcome e = answer (endingNumber (endingOf (e .ending))) (e .steps) (e .used)
 
--- 17, 16, 18, and 20 of `next`
+-- 17, 16, 18, 22, and 20 of `next`
 abbrev pub searchRefusalOutcome : SearchRefusal → Outcome
 searchRefusalOutcome Lengths = refusal 17 0
 searchRefusalOutcome (List i) = refusal 16 i
 searchRefusalOutcome (Entry i) = refusal 18 i
+searchRefusalOutcome (Number i) = refusal 22 i
 searchRefusalOutcome Untrue = refusal 20 0
 
 abbrev pub answerOutcome : Answer → Outcome

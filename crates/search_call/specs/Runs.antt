@@ -3,11 +3,11 @@ use Prim.Native.Nat.{ℕ, zero, suc}
 use lib.IntN.{ℤ}
 use lib.ListN.{length}
 use mathlib.Core.List.{List}
-use Rattle.search.specs.Trail.{Trail, Slices, slices}
+use Rattle.search.specs.Trail.{Trail, Slices}
 use Rattle.search.specs.Step.{Next, Moved, AnsweredFound, AnsweredNone, step}
 use Rattle.search.specs.Run.{run, doneOutcome}
 use Rattle.search.specs.Call.{Handed}
-use Rattle.search_trail.specs.Packed.{packedTrail}
+use Rattle.search_trail.specs.Packed.{runningTrail}
 use Rattle.search_step.specs.Steps.{leaves}
 
 -- a run goes on from the trail that a step moved to; an answer ends it
@@ -24,7 +24,8 @@ runLeaves v ls (suc budget) t s =
     unlessAnswered (step v ls t) left (λ u. runLeaves v ls budget u left)
 
 -- what it hands out from the trail in the buffers
-abbrev pub handsRun : List ℤ → ℕ → List ℤ → List ℕ → ℕ → Handed
-handsRun ls budget ts ms used =
-    let t : Trail = packedTrail ts ms used in
-    record { outcome = doneOutcome (run (length ms) ls budget t); slices = runLeaves (length ms) ls budget t (slices ts ms) }
+abbrev pub handsRun : List ℤ → ℕ → Slices → ℕ → Handed
+handsRun ls budget s used =
+    let v : ℕ = length (s .marks) in
+    let t : Trail = runningTrail s used in
+    record { outcome = doneOutcome (run v ls budget t); slices = runLeaves v ls budget t s }

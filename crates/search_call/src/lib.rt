@@ -3,9 +3,10 @@ ghost use mathlib.Core.Path.{_≡_};
 ghost use lib.ListN.{length};
 ghost use Rattle.answers.specs.declared.Outcome.{Outcome};
 ghost use Rattle.answers.specs.Outcome.{firstRefusal};
+ghost use Rattle.search.specs.Trail.{slices};
 ghost use Rattle.search.specs.Run.{endingNumber};
 ghost use Rattle.search.specs.Call.{searchOn, handed, Searching, searchRows, IsTaken, handsTaken, bySearch};
-ghost use Rattle.search_trail.specs.Packed.{Packed};
+ghost use Rattle.search_trail.specs.Packed.{Running};
 ghost use Rattle.search_step.specs.Steps.{ListFits};
 ghost use Rattle.search_call.specs.Answers.{endingOf, endOutcome, searchRefusalOutcome, answerOutcome, checkedTells};
 ghost use Rattle.search_call.specs.Runs.{handsRun};
@@ -16,9 +17,11 @@ use answers::refused;
 use cnf::wrong_list;
 use search_input::first_wrong_entry;
 use search_input::wrong_lengths;
+use search_numbers::wrong_numbers;
 use search_step::Stepped;
 use search_step::step;
 use search_trail::clear_marks;
+use search_trail::clear_numbers;
 use search_trail::clear_trail;
 use search_trail::pack_values;
 
@@ -36,11 +39,12 @@ pub struct End {
     pub used: usize,
 }
 
-// Why a call is turned down: 17, 16 and 18 of document 01's table, and 20 of document 02, of `next` only.
+// Why a call is turned down: 17, 16 and 18 of document 01's table, 22 of document 02, and 20 of it, of `next` only.
 pub enum SearchRefusal {
     Lengths,
     List(usize),
     Entry(usize),
+    Number(usize),
     Untrue,
 }
 
@@ -88,6 +92,7 @@ impl SearchRefusal {
             SearchRefusal::Lengths => refused(17, 0),
             SearchRefusal::List(i) => refused(16, i as u64),
             SearchRefusal::Entry(i) => refused(18, i as u64),
+            SearchRefusal::Number(i) => refused(22, i as u64),
             SearchRefusal::Untrue => refused(20, 0),
         }
     }
@@ -105,10 +110,18 @@ impl Answer {
     }
 }
 
-// 17, 16 and 18: the first cause against a list and a trail.
-pub fn check(variables: usize, list: &[i32], trail: &[i32], marks: &[u8], used: usize) -> Checked
+// 17, 16, 18 and 22: the first cause against a list and a trail.
+pub fn check(
+    variables: usize,
+    list: &[i32],
+    trail: &[i32],
+    marks: &[u8],
+    numbers: &[u64],
+    used: usize,
+) -> Checked
     ensures { λ r. ⌜ ((t : Outcome) → checkedTells r t
-        ≡ firstRefusal (searchRows (searchOn variables (now (list .entry)) (now (trail .entry)) (now (marks .entry)) used)) t) ⌝ }
+        ≡ firstRefusal (searchRows
+        (searchOn variables (now (list .entry)) (now (trail .entry)) (now (marks .entry)) (now (numbers .entry)) used)) t) ⌝ }
 {
     if wrong_lengths(variables, trail, marks, used) {
         return Checked::Refused(SearchRefusal::Lengths);
@@ -121,20 +134,31 @@ pub fn check(variables: usize, list: &[i32], trail: &[i32], marks: &[u8], used: 
     if let Place::At(i) = p {
         return Checked::Refused(SearchRefusal::Entry(i));
     }
+    let p = wrong_numbers(variables, list, trail, marks, numbers, used);
+    if let Place::At(i) = p {
+        return Checked::Refused(SearchRefusal::Number(i));
+    }
     Checked::Accepted
 }
 
 // Steps until one answers, or the budget is used up.
-fn run(list: &[i32], trail: &mut [i32], marks: &mut [u8], first: usize, budget: u64) -> End
-    requires { ⌜ Packed (length (now marks)) (now trail) (now marks) first ⌝ }
+fn run(
+    list: &[i32],
+    trail: &mut [i32],
+    marks: &mut [u8],
+    numbers: &mut [u64],
+    first: usize,
+    budget: u64,
+) -> End
+    requires { ⌜ Running (length (now marks)) (slices (now trail) (now marks) (now numbers)) first ⌝ }
     requires { ⌜ ListFits (length (now marks)) (now list) ⌝ }
-    ensures { λ r. ⌜ handed (endOutcome r) (now (trail .exit)) (now (marks .exit))
-        ≡ handsRun (now (list .entry)) budget (now (trail .entry)) (now (marks .entry)) first ⌝ }
+    ensures { λ r. ⌜ handed (endOutcome r) (now (trail .exit)) (now (marks .exit)) (now (numbers .exit))
+        ≡ handsRun (now (list .entry)) budget (slices (now (trail .entry)) (now (marks .entry)) (now (numbers .entry))) first ⌝ }
 {
     let mut used = first;
     let mut n: u64 = 0;
     while n < budget {
-        let s = step(list, trail, marks, used);
+        let s = step(list, trail, marks, numbers, used);
         let steps = n + 1;
         match s {
             Stepped::MovedTo(u) => used = u,
@@ -163,35 +187,45 @@ fn run(list: &[i32], trail: &mut [i32], marks: &mut [u8], first: usize, budget: 
 }
 
 // The search of an accepted list from an accepted trail. V is the marks' length.
-pub fn searched(list: &[i32], trail: &mut [i32], marks: &mut [u8], used: usize, budget: u64) -> End
-    requires { ⌜ IsTaken Searching (searchOn (length (now marks)) (now list) (now trail) (now marks) used) ⌝ }
-    ensures { λ r. ⌜ handed (endOutcome r) (now (trail .exit)) (now (marks .exit))
-        ≡ handsTaken Searching (searchOn (length (now (marks .entry))) (now (list .entry)) (now (trail .entry)) (now (marks .entry)) used) budget ⌝ }
+pub fn searched(
+    list: &[i32],
+    trail: &mut [i32],
+    marks: &mut [u8],
+    numbers: &mut [u64],
+    used: usize,
+    budget: u64,
+) -> End
+    requires { ⌜ IsTaken Searching (searchOn (length (now marks)) (now list) (now trail) (now marks) (now numbers) used) ⌝ }
+    ensures { λ r. ⌜ handed (endOutcome r) (now (trail .exit)) (now (marks .exit)) (now (numbers .exit))
+        ≡ handsTaken Searching (searchOn (length (now (marks .entry))) (now (list .entry))
+        (now (trail .entry)) (now (marks .entry)) (now (numbers .entry)) used) budget ⌝ }
 {
     clear_marks(marks, used);
     pack_values(trail, marks, used);
-    let end = run(list, trail, marks, used, budget);
+    let end = run(list, trail, marks, numbers, used, budget);
     let last = end.used;
     clear_trail(trail, last);
     clear_marks(marks, last);
+    clear_numbers(numbers, last);
     end
 }
 
-// The search: V, a clause list, a trail with its marks and its used count, a budget.
+// The search: V, a clause list, a trail with its marks, its clause numbers and its used count, a budget.
 pub fn search(
     variables: usize,
     list: &[i32],
     trail: &mut [i32],
     marks: &mut [u8],
+    numbers: &mut [u64],
     used: usize,
     budget: u64,
 ) -> Answer
-    ensures { λ r. ⌜ handed (answerOutcome r) (now (trail .exit)) (now (marks .exit))
-        ≡ bySearch (searchOn variables (now (list .entry)) (now (trail .entry)) (now (marks .entry)) used) budget ⌝ }
+    ensures { λ r. ⌜ handed (answerOutcome r) (now (trail .exit)) (now (marks .exit)) (now (numbers .exit))
+        ≡ bySearch (searchOn variables (now (list .entry)) (now (trail .entry)) (now (marks .entry)) (now (numbers .entry)) used) budget ⌝ }
 {
-    let c = check(variables, list, trail, marks, used);
+    let c = check(variables, list, trail, marks, numbers, used);
     if let Checked::Refused(r) = c {
         return Answer::Refused(r);
     }
-    Answer::Ended(searched(list, trail, marks, used, budget))
+    Answer::Ended(searched(list, trail, marks, numbers, used, budget))
 }

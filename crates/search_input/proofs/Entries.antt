@@ -18,13 +18,13 @@ use Rattle.search_input.specs.Entries.{faultyAt, usedBefore, usedAt, Ins
 use Rattle.answers.proofs.Bounds.{until-both, until-same}
 
 -- a variable has a value exactly if an entry stands on it
-used-before : (ts : List ℤ) (ms : List ℕ) (n x : ℕ) → not (isUnassigned (variableValue (trailOf (slices ts ms) n) x)) ≡ usedBefore ts n x
+used-before : (ts : List ℤ) (ms ns : List ℕ) (n x : ℕ) → not (isUnassigned (variableValue (trailOf (slices ts ms ns) n) x)) ≡ usedBefore ts n x
 unfolding trailOf variableValue usedBefore
-used-before ts ms zero x = refl
-used-before ts ms (suc n) x = by (eqb (variableAt ts n) x) (getD ts n (pos 0)) (used-before ts ms n x)
+used-before ts ms ns zero x = refl
+used-before ts ms ns (suc n) x = by (eqb (variableAt ts n) x) (getD ts n (pos 0)) (used-before ts ms ns n x)
   where
-    by : (b : Bool) (l : ℤ) → not (isUnassigned (variableValue (trailOf (slices ts ms) n) x)) ≡ usedBefore ts n x
-        → not (isUnassigned (cond b (made l) (variableValue (trailOf (slices ts ms) n) x))) ≡ b || usedBefore ts n x
+    by : (b : Bool) (l : ℤ) → not (isUnassigned (variableValue (trailOf (slices ts ms ns) n) x)) ≡ usedBefore ts n x
+        → not (isUnassigned (cond b (made l) (variableValue (trailOf (slices ts ms ns) n) x))) ≡ b || usedBefore ts n x
     by true (pos m) e = refl
     by true (negsuc m) e = refl
     by false l e = e
@@ -55,13 +55,13 @@ faulty-inside v ts ms {used} {n} u = record { low = λ i h. some-variable (getD 
     both i h = or-neither (closes (getD ts i (pos 0))) _ (or-neither _ (ltb 1 (getD ms i 0)) (u .none-yet i h) .0)
 
 -- an entry is wrong by itself, or for the entries before it
-pub wrong-entries : (v : ℕ) (ts : List ℤ) (ms : List ℕ) {used n m : ℕ} → Until (faultyAt v ts ms) used n → Until (usedAt ts) n m
-    → Until (wrongEntryAt v (slices ts ms)) used m
-wrong-entries v ts ms a b = until-same (until-both a b) (λ i h. by i)
+pub wrong-entries : (v : ℕ) (ts : List ℤ) (ms ns : List ℕ) {used n m : ℕ} → Until (faultyAt v ts ms) used n → Until (usedAt ts) n m
+    → Until (wrongEntryAt v (slices ts ms ns)) used m
+wrong-entries v ts ms ns a b = until-same (until-both a b) (λ i h. by i)
   where
     swap : (a b c : Bool) → a || c || b ≡ a || b || c
     swap true b c = refl
     swap false b c = or-comm c b
 
-    by : (i : ℕ) → faultyAt v ts ms i || usedAt ts i ≡ wrongEntryAt v (slices ts ms) i
-    by i = rw (← used-before ts ms i (variableAt ts i)) (swap (closes (getD ts i (pos 0)) || ltb v (variableAt ts i)) _ (ltb 1 (getD ms i 0)))
+    by : (i : ℕ) → faultyAt v ts ms i || usedAt ts i ≡ wrongEntryAt v (slices ts ms ns) i
+    by i = rw (← used-before ts ms ns i (variableAt ts i)) (swap (closes (getD ts i (pos 0)) || ltb v (variableAt ts i)) _ (ltb 1 (getD ms i 0)))

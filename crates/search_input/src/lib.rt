@@ -1,6 +1,7 @@
 // What the search checks of its sizes and of the trail handed in.
 ghost use mathlib.Core.Path.{_≡_};
-ghost use Prim.Native.Nat.{_+_, _<_, _≤_};
+ghost use mathlib.Core.List.{List};
+ghost use Prim.Native.Nat.{ℕ, _+_, _<_, _≤_};
 ghost use lib.ListN.{length};
 ghost use Rattle.answers.specs.First.{firstWhere, placed, Until};
 ghost use Rattle.cnf.specs.Literals.{mostVariables};
@@ -12,9 +13,9 @@ use answers::Place;
 use cnf::code_at;
 use cnf::too_many_variables;
 
-// 17: V too large, trail or marks not V long, used over V.
+// 17: V too large, trail or marks not V long, used over V. The clause numbers beside them, ns, are not asked for.
 pub fn wrong_lengths(v: usize, trail: &[i32], marks: &[u8], used: usize) -> bool
-    ensures { λ r. ⌜ r ≡ wrongLengths v (slices (now (trail .entry)) (now (marks .entry))) used ⌝ }
+    ensures { λ r. ⌜ ((ns : List ℕ) → r ≡ wrongLengths v (slices (now (trail .entry)) (now (marks .entry)) ns) used) ⌝ }
 {
     if too_many_variables(v) {
         return true;
@@ -133,11 +134,11 @@ fn first_again(v: usize, trail: &[i32], n: usize) -> usize
     first
 }
 
-// 18: the first wrong entry of those used.
+// 18: the first wrong entry of those used, whatever their clause numbers.
 pub fn first_wrong_entry(v: usize, trail: &[i32], marks: &[u8], used: usize) -> Place
     requires { ⌜ v ≤ mostVariables ⌝ }
     requires { ⌜ (used ≤ length (now trail)) × (used ≤ length (now marks)) ⌝ }
-    ensures { λ r. ⌜ placed r ≡ firstWhere (wrongEntryAt v (slices (now (trail .entry)) (now (marks .entry)))) used ⌝ }
+    ensures { λ r. ⌜ ((ns : List ℕ) → placed r ≡ firstWhere (wrongEntryAt v (slices (now (trail .entry)) (now (marks .entry)) ns)) used) ⌝ }
 {
     let faulty = first_faulty(v, trail, marks, used);
     let first = first_again(v, trail, faulty);

@@ -6,11 +6,13 @@ ghost use lib.ListN.{length, getD, drop};
 ghost use mathlib.Core.Bool.{false};
 ghost use Rattle.answers.specs.First.{placed};
 ghost use Rattle.cnf.specs.Literals.{closes};
+ghost use Rattle.cnf.specs.Clauses.{clauseNumber};
 ghost use Rattle.search.specs.Trail.{isUnassigned};
 ghost use Rattle.search.specs.Step.{everyLiteral, failsBut, failedClause, forcedPlace, lowestUnassigned};
 ghost use Rattle.search_scan.specs.PackedValues.{valueOf, packedValues, lastMarked, Within};
 ghost use Rattle.search_scan.specs.Clause.{forcedUpTo, clauseLength};
 use answers::Place;
+use cnf::clause_count;
 use cnf::closes_at;
 use cnf::code_at;
 
@@ -132,6 +134,14 @@ pub fn forced_place(list: &[i32], marks: &[u8]) -> Place
         i = after_clause(list, i + 1);
     }
     lowest
+}
+
+// The number, from 1, of the clause in which a place is.
+pub fn clause_number(list: &[i32], place: usize) -> u64
+    requires { ⌜ place < length (now list) ⌝ }
+    ensures { λ r. ⌜ r ≡ clauseNumber (now (list .entry)) place ⌝ }
+{
+    (clause_count(&list[..place]) + 1) as u64
 }
 
 fn is_unassigned(byte: u8) -> bool

@@ -10,7 +10,7 @@ use Rattle.search.specs.Trail.{Entry, Trail, Slices, slices}
 use Rattle.search.specs.Step.{Next, Moved, AnsweredFound, AnsweredNone}
 use Rattle.search_theory.specs.Legal.{Legal}
 use Rattle.search_scan.specs.PackedValues.{Within}
-use Rattle.search_trail.specs.Packed.{packedTrail, withTrail}
+use Rattle.search_trail.specs.Packed.{runningTrail, withTrail}
 use Rattle.search_step.specs.declared.Stepped.{Stepped}
 use Rattle.search_step.specs.declared.Stepped.the-variants.{MovedTo, Found, None}
 
@@ -20,8 +20,8 @@ pub record ListFits (v : ℕ) (ls : List ℤ) : Type 0 where
   pub closed : unclosed ls ≡ false
 
 -- a trail that an entry may be appended to
-abbrev pub Allows : List ℤ → List ℕ → ℕ → Entry → Type 0
-Allows ts ms used e = Legal (length ms) (e ∷ packedTrail ts ms used)
+abbrev pub Allows : Slices → ℕ → Entry → Type 0
+Allows s used e = Legal (length (s .marks)) (e ∷ runningTrail s used)
 
 -- what may come after a trail beside undoing: an entry more
 abbrev pub appends : Entry → Trail → Next
@@ -32,8 +32,8 @@ pub record StepHanded : Type 0 where
   pub answer : Stepped
   pub slices : Slices
 
-abbrev pub stepHanded : Stepped → List ℤ → List ℕ → StepHanded
-stepHanded answer trail marks = record { answer = answer; slices = slices trail marks }
+abbrev pub stepHanded : Stepped → List ℤ → List ℕ → List ℕ → StepHanded
+stepHanded answer trail marks numbers = record { answer = answer; slices = slices trail marks numbers }
 
 -- it answers the used count of the trail that it moved to, or "found" or "none"
 abbrev pub answerOf : Next → Stepped
@@ -48,7 +48,7 @@ leaves AnsweredFound s = s
 leaves AnsweredNone s = s
 
 -- what is handed out where `next` says what comes after the trail in the buffers
-abbrev pub handsNext : (Trail → Next) → List ℤ → List ℕ → ℕ → StepHanded
-handsNext next ts ms used =
-    let x : Next = next (packedTrail ts ms used) in
-    record { answer = answerOf x; slices = leaves x (slices ts ms) }
+abbrev pub handsNext : (Trail → Next) → Slices → ℕ → StepHanded
+handsNext next s used =
+    let x : Next = next (runningTrail s used) in
+    record { answer = answerOf x; slices = leaves x s }

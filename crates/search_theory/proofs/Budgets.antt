@@ -15,9 +15,9 @@ use Rattle.search.specs.Call.{Search, Handed, Call, Searching, Following, begin
 use Rattle.search.proofs.Trails.{length-trail, read-image}
 use Rattle.search.proofs.BudgetSums.{counted, halted-on, ended-on, run-adds, following-adds}
 use Rattle.search_theory.specs.Budgets.{goesOn, inAll, isHalted, total, inParts}
-use Rattle.search_theory.proofs.Accepted.{taken-image, taken-legal}
+use Rattle.search_theory.proofs.Accepted.{taken-image, taken-legal, taken-explained}
 use Rattle.search_theory.proofs.Calls.{Meaning}
-use Rattle.search_theory.proofs.Handed.{taken-answered, next-full, given-satisfies, next-exactly, comes, hands-done, said, ending}
+use Rattle.search_theory.proofs.Handed.{taken-answered, next-full, given-satisfies, next-exactly, comes, left-taken, hands-done, said, ending}
 
 module _ {s : Search} where
   -- the steps of a halted call are its budget
@@ -49,18 +49,18 @@ module _ {s : Search} where
   takes-on : {x : Call} (a : ℕ) → IsTaken x s → runs x s a .ending ≡ Halted
       → IsTaken (goesOn x (runs x s a .steps)) (resumed s (handsDone (s .variables) (runs x s a)))
   unfolding following
-  takes-on {x = Searching} a ok e = taken-image ok (runs Searching s a .trail) (comes ok a .legal)
+  takes-on {x = Searching} a ok e = left-taken ok a
   -- `next` that was halted before a step is called again
   takes-on {x = Following} zero ok e =
       next-exactly .1 (
-        taken-image ok (begins s) (taken-legal ok),
+        taken-image ok (begins s) (taken-legal ok) (taken-explained ok),
         length-trail (s .slices) (s .used) ∙ next-full ok,
         subst (λ t. Satisfies (valuesOf (s .variables) t) (s .list)) (sym (read-image (s .variables) (begins s))) (given-satisfies ok),
       )
   takes-on {x = Following} (suc a) ok e =
       let d : Done = runs Following s (suc a) in
       subst (λ n. IsTaken (goesOn Following n) (resumed s (handsDone (s .variables) d))) (sym (halted-count (suc a) ok e))
-      (taken-image ok (d .trail) (comes ok (suc a) .legal))
+      (left-taken ok (suc a))
 
 -- For every call that is taken:
 module _ {x : Call} {s : Search} (ok : IsTaken x s) (a : ℕ) where

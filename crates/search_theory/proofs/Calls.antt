@@ -16,10 +16,12 @@ use Rattle.search.specs.Run.{Ending, Found, None, Halted, Done, ends, oneMore, 
 use Rattle.search.specs.Call.{Call, Searching, Following, comesTo}
 use Rattle.search_theory.specs.Budgets.{goesOn}
 use Rattle.search_theory.specs.Legal.{Proper, Legal}
+use Rattle.search_theory.specs.Reasons.{AllExplained}
 use Rattle.search_theory.proofs.Legal.{AllAssigned}
 use Rattle.search_theory.proofs.Measure.{choiceSum, number, number-more}
 use Rattle.search_theory.proofs.Undo.{Undone, undo-some, undo-none}
 use Rattle.search_theory.proofs.Runs.{Means, Ended, ended}
+use Rattle.search_theory.proofs.Reasons.{explained-undo, explained-run}
 use Rattle.search_theory.proofs.Orders.{Chosen, chosen-undo, chosen-run}
 
 -- the assignments that a call at t has still to find: those open, without the one that `next` drops
@@ -42,6 +44,7 @@ Meaning v ls c t b Halted n u = (n ≡ b) × (n < number v t) × ((a : List Bool
 pub record Came (v : ℕ) (ls : List ℤ) (c : Call) (t : Trail) (b : ℕ) (d : Done) : Type 0 where
   pub legal : Legal v (d .trail)
   pub chosen : Chosen t → Chosen (d .trail)
+  pub explained : AllExplained ls t → AllExplained ls (d .trail)
   pub opens : (a : List Bool) → Satisfies a ls → Left c a t → Open a (d .trail)
   pub was-open : (a : List Bool) → Satisfies a ls → Open a (d .trail) → Open a t
   pub within : d .steps ≤ b
@@ -54,6 +57,7 @@ module _ {v : ℕ} {ls : List ℤ} (closed : unclosed ls ≡ false) (proper : Al
       record {
         legal = e .legal;
         chosen = chosen-run v ls closed b t;
+        explained = explained-run v ls closed b t;
         opens = λ a s. e .same a s .0;
         was-open = λ a s. e .same a s .1;
         within = e .within;
@@ -73,7 +77,7 @@ module _ {v : ℕ} {ls : List ℤ} (closed : unclosed ls ≡ false) (proper : Al
   stays : {t : Trail} {b : ℕ} → Legal v t → (x : Ending) (n : ℕ) → n ≤ b → n ≤ 1 → Meaning v ls Following t b x n t → Came v ls Following t b (ends x n t)
   stays {t} l x n h k says =
       let p = number-more v t in
-      record { legal = l; chosen = λ c. c; opens = λ a s. inr; was-open = λ a s o. o; within = h; few = omega arith; says = says }
+      record { legal = l; chosen = λ c. c; explained = λ x. x; opens = λ a s. inr; was-open = λ a s o. o; within = h; few = omega arith; says = says }
 
   next-came : (t : Trail) (b : ℕ) → Legal v t → Came v ls Following t b (following v ls b t)
   unfolding following
@@ -90,6 +94,7 @@ module _ {v : ℕ} {ls : List ℤ} (closed : unclosed ls ≡ false) (proper : Al
           record {
             legal = d .legal;
             chosen = λ c. d .chosen (chosen-undo t u e c);
+            explained = λ x. d .explained (explained-undo ls t u e x);
             opens = λ a s o. d .opens a s (r .opens a o);
             was-open = λ a s o. inr (r .was-open a (d .was-open a s o));
             within = omega arith;

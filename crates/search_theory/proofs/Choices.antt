@@ -4,7 +4,7 @@ use Prim.Native.Nat.{ℕ, zero, suc, _+_, _≤_, _<_}
 use native.Mathlib.Omega.{arith}
 use lib.Dec.{eqb, ltb}
 use lib.IntN.{ℤ, pos, negsuc, natAbs}
-use lib.ListN.{getD, drop}
+use lib.ListN.{length, getD, take, drop}
 use lib.Seq.{getD-drop}
 use borrow.Author.Tests.{eqb-true, eq-eqb, not-false, ltb-true, ltb-false}
 use mathlib.Core.Path.{_≡_, refl, sym, _∙_, ap, subst}
@@ -16,16 +16,17 @@ use Rattle.answers.specs.First.{found, orElse, FirstIn, here, later, NoneIn}
 use Rattle.answers.specs.Lists.{All, Some, _∈_}
 use Rattle.answers.proofs.Bools.{clash, off, or-cases, or-neither}
 use Rattle.answers.proofs.Elements.{all-at}
+use Rattle.answers.proofs.Lists.{many-parted}
 use Rattle.answers.proofs.First.{first-with, none-with, first-holds, first-some-in, not-none, only-first, only-least}
 use Rattle.cnf.specs.Literals.{closes, codeOf, variableAt, unclosed}
-use Rattle.cnf.specs.Clauses.{split}
-use Rattle.cnf.proofs.Lists.{closed-rest}
+use Rattle.cnf.specs.Clauses.{split, clauseCount, clauseNumber}
+use Rattle.cnf.proofs.Lists.{closed-rest, split-count}
 use Rattle.search.specs.Trail.{Value, True, False, Unassigned, isFalse, isUnassigned, literalValue, Values}
 use Rattle.search.specs.Step.{everyLiteral, fails, failedAt, failsBut, byValue, forcedAt, failedClause, lowerPlace, forcedPlace}
 use Rattle.search.specs.Step.{lowestUnassigned}
 use Rattle.search_theory.specs.Choices.{AllFalse, Forces, ForcesOne, ForcesVariable, FailedClause, NoneFailed, LowestForced, ForcingClause}
 use Rattle.search_theory.specs.Choices.{NoneForcing, LowestUnassigned, NoneUnassigned}
-use Rattle.search_theory.proofs.Lists.{all-map, all-zip, meet}
+use Rattle.search_theory.proofs.Lists.{nothing, found-some, all-map, all-zip, meet}
 use Rattle.search_theory.proofs.Legal.{AllAssigned, unassigned}
 use Rattle.search_theory.proofs.OverClauses.{Begins, begins-closed, begins-same, begins-more, Tested, every, tail-drop, over-clauses}
 
@@ -33,20 +34,20 @@ use Rattle.search_theory.proofs.OverClauses.{Begins, begins-closed, beg
 pub record Laws (v : ℕ) (ls : List ℤ) (w : Values) : Type 0 where
   pub failed : {i : ℕ} → failedClause w ls ≡ some i → (k : ℕ) × FailedClause w ls k
   pub none-failed : failedClause w ls ≡ none → NoneFailed w ls
-  pub forced : {i : ℕ} → forcedPlace w ls ≡ some i → (k : ℕ) × ForcingClause w ls k (getD ls i (pos 0))
+  pub forced : {i : ℕ} → forcedPlace w ls ≡ some i → ForcingClause w ls (clauseCount (take i ls)) (getD ls i (pos 0))
   pub none-forced : forcedPlace w ls ≡ none → NoneForcing w ls
   pub free : {n : ℕ} → lowestUnassigned v w ≡ some n → LowestUnassigned w v (suc n)
   pub none-free : lowestUnassigned v w ≡ none → NoneUnassigned w v
 
 -- 1. Clauses that fail, and that force
 
-is-false : (x : Value) → isFalse x ≡ true → x ≡ False
+pub is-false : (x : Value) → isFalse x ≡ true → x ≡ False
 is-false True h = clash h refl
 is-false False h = refl
 is-false Unassigned h = clash h refl
 
 -- two literals with the same code
-same-code : (k l : ℤ) → codeOf k ≡ codeOf l → k ≡ l
+pub same-code : (k l : ℤ) → codeOf k ≡ codeOf l → k ≡ l
 same-code (pos m) (pos n) e = ap pos (omega arith)
 same-code (pos m) (negsuc n) e = absurd (omega arith)
 same-code (negsuc m) (pos n) e = absurd (omega arith)
@@ -138,6 +139,32 @@ module _ (w : Values) (whole : List ℤ) where
           begins-more l (m ∷ ls) q (λ c h. subst (λ k. Forces w k (l ∷ c)) is (first r c h)) b
       by false q Unassigned r rest go false b = begins-more l (m ∷ ls) q (second r) b
 
+  -- no clause is closed between the place where the clause begins and that
+  in-clause : (i p : ℕ) (ls : List ℤ) → ls ≡ drop i whole → forcedAt w i ls ≡ some p → clauseCount (drop p whole) ≡ clauseCount ls
+  unfolding forcedAt
+  in-clause i p [] e f = nothing f
+  in-clause i p (l ∷ ls) e f = by (closes l) refl (literalValue w l) (everyLiteral (failsBut w l) ls) f (in-clause (suc i) p ls (tail-drop whole i l ls e))
+    where
+      by : (z : Bool) → closes l ≡ z → (x : Value) (t : Bool) → cond z none (byValue x (found t i none) (forcedAt w (suc i) ls)) ≡ some p
+          → (forcedAt w (suc i) ls ≡ some p → clauseCount (drop p whole) ≡ clauseCount ls) → clauseCount (drop p whole) ≡ clauseCount (l ∷ ls)
+      by true q x t f go = nothing f
+      by false q True t f go = nothing f
+      by false q False t f go = rw q (go f)
+      by false q Unassigned t f go = ap (λ k. clauseCount (drop k whole)) (sym (found-some t i f .1)) ∙ ap clauseCount (sym e)
+
+  -- with the number of clauses from it on
+  abbrev ForcedIn : Option ℕ → ℕ → List ℤ → Type 0
+  ForcedIn none n c = ForcesOne w c → ⊥
+  ForcedIn (some p) n c = Forces w (getD whole p (pos 0)) c × (clauseCount (drop p whole) ≡ n)
+
+  forced-in : (i : ℕ) (l : ℤ) (ls : List ℤ) → unclosed (l ∷ ls) ≡ false → (l ∷ ls) ≡ drop i whole
+      → Begins (ForcedIn (forcedAt w i (l ∷ ls)) (clauseCount (l ∷ ls))) (l ∷ ls)
+  forced-in i l ls u e = by (forcedAt w i (l ∷ ls)) refl (forced-at i l ls u e)
+    where
+      by : (o : Option ℕ) → forcedAt w i (l ∷ ls) ≡ o → Begins (ForcedHere o) (l ∷ ls) → Begins (ForcedIn o (clauseCount (l ∷ ls))) (l ∷ ls)
+      by none q b = b
+      by (some p) q b = begins-same (λ c h. (h, in-clause i p (l ∷ ls) e q)) b
+
 -- 2. Of clauses that force a literal, the first of those with the lowest variable
 
 module _ (w : Values) where
@@ -148,19 +175,22 @@ module _ (w : Values) where
   other-variable : {l : ℤ} {m : ℕ} (c : List ℤ) → Forces w l c → (natAbs l ≡ m → ⊥) → ForcesVariable w m c → ⊥
   other-variable c f n g = n (ap natAbs (one-literal c f (g .1)) ∙ g .2)
 
-  record LowestIn (l : ℤ) (cs : List (List ℤ)) : Type 0 where
+  -- n are the clauses from that clause on
+  record LowestIn (l : ℤ) (n : ℕ) (cs : List (List ℤ)) : Type 0 where
     index : ℕ
+    from : index + n ≡ length cs
     clause : List ℤ
     first : FirstIn (ForcesVariable w (natAbs l)) cs index clause
     forces : Forces w l clause
     lower : (m : ℕ) → m < natAbs l → NoneIn (ForcesVariable w m) cs
 
   -- a clause before them: it is the one,
-  module _ {l : ℤ} {cs : List (List ℤ)} (c : List ℤ) where
-    lowest-here : Forces w l c → ((m : ℕ) → m < natAbs l → NoneIn (ForcesVariable w m) cs) → LowestIn l (c ∷ cs)
-    lowest-here f low =
+  module _ {l : ℤ} {n : ℕ} {cs : List (List ℤ)} (c : List ℤ) where
+    lowest-here : Forces w l c → n ≡ length (c ∷ cs) → ((m : ℕ) → m < natAbs l → NoneIn (ForcesVariable w m) cs) → LowestIn l n (c ∷ cs)
+    lowest-here f e low =
         record {
           index = 0;
+          from = omega arith;
           clause = c;
           first = here (l, f, refl);
           forces = f;
@@ -168,26 +198,25 @@ module _ (w : Values) where
         }
 
     -- or forces neither that variable nor a lower one
-    lowest-later : LowestIn l cs → ((m : ℕ) → m ≤ natAbs l → ForcesVariable w m c → ⊥) → LowestIn l (c ∷ cs)
+    lowest-later : LowestIn l n cs → ((m : ℕ) → m ≤ natAbs l → ForcesVariable w m c → ⊥) → LowestIn l n (c ∷ cs)
     lowest-later x not =
         record {
           index = suc (x .index);
+          from = let h = x .from in omega arith;
           clause = x .clause;
           first = later (not (natAbs l) (omega arith)) (x .first);
           forces = x .forces;
           lower = λ m b. (not m (omega arith), x .lower m b);
         }
 
-  forcing : {l : ℤ} {ls : List ℤ} → LowestIn l (split ls) → (k : ℕ) × ForcingClause w ls k l
-  forcing {l} x = (
-    x .index,
-    record {
-      clause = x .clause;
-      lowest = record { forced = first-some-in (ForcesVariable w (natAbs l)) (x .first) (first-holds (x .first)); lower = x .lower };
-      first = x .first;
-      forces = x .forces;
-    },
-  )
+  forcing : {l : ℤ} {n : ℕ} {ls : List ℤ} (x : LowestIn l n (split ls)) → ForcingClause w ls (x .index) l
+  forcing {l} x =
+      record {
+        clause = x .clause;
+        lowest = record { forced = first-some-in (ForcesVariable w (natAbs l)) (x .first) (first-holds (x .first)); lower = x .lower };
+        first = x .first;
+        forces = x .forces;
+      }
 
 -- 3. The laws
 
@@ -203,25 +232,33 @@ module _ (v : ℕ) (ls : List ℤ) (w : Values) (closed : unclosed ls ≡ false)
 
   first-failed : Failed (failedClause w ls) (split ls)
   unfolding failedClause
-  first-failed = over-clauses orElse (failedAt w) ls (FailedHere w ls) Failed tt failed-joins (failed-at w ls) true 0 ls closed refl
+  first-failed = over-clauses orElse (failedAt w) ls (λ o n c. FailedHere w ls o c) Failed tt failed-joins (failed-at w ls) true 0 ls closed refl
 
   abbrev Forced : Option ℕ → List (List ℤ) → Type 0
   Forced none cs = NoneIn (ForcesOne w) cs
-  Forced (some p) cs = LowestIn w (getD ls p (pos 0)) cs
+  Forced (some p) cs = LowestIn w (getD ls p (pos 0)) (clauseCount (drop p ls)) cs
 
-  forced-joins : (o rest : Option ℕ) (c : List ℤ) (cs : List (List ℤ)) → ForcedHere w ls o c → Forced rest cs → Forced (lowerPlace ls o rest) (c ∷ cs)
+  forced-joins : (o rest : Option ℕ) (c : List ℤ) (cs : List (List ℤ)) → ForcedIn w ls o (length (c ∷ cs)) c → Forced rest cs
+      → Forced (lowerPlace ls o rest) (c ∷ cs)
   forced-joins none none c cs h go = (h, go)
   forced-joins none (some q) c cs h go = lowest-later w c go (λ m b f. h (f .0, f .1))
-  forced-joins (some p) none c cs h go = lowest-here w c h (λ m l. all-map (λ d n f. n (f .0, f .1)) cs go)
+  forced-joins (some p) none c cs h go = lowest-here w c (h .0) (h .1) (λ m l. all-map (λ d n f. n (f .0, f .1)) cs go)
   forced-joins (some p) (some q) c cs h go = by (ltb (variableAt ls q) (variableAt ls p)) refl
     where
       by : (b : Bool) → ltb (variableAt ls q) (variableAt ls p) ≡ b → Forced (found b q (some p)) (c ∷ cs)
-      by true e = let l = ltb-true (variableAt ls q) (variableAt ls p) e in lowest-later w c go (λ m b. other-variable w c h (omega arith))
-      by false e = let l = ltb-false (variableAt ls q) (variableAt ls p) e in lowest-here w c h (λ m b. go .lower m (omega arith))
+      by true e = let l = ltb-true (variableAt ls q) (variableAt ls p) e in lowest-later w c go (λ m b. other-variable w c (h .0) (omega arith))
+      by false e = let l = ltb-false (variableAt ls q) (variableAt ls p) e in lowest-here w c (h .0) (h .1) (λ m b. go .lower m (omega arith))
 
   lowest-forced : Forced (forcedPlace w ls) (split ls)
   unfolding forcedPlace
-  lowest-forced = over-clauses (lowerPlace ls) (forcedAt w) ls (ForcedHere w ls) Forced tt forced-joins (forced-at w ls) true 0 ls closed refl
+  lowest-forced = over-clauses (lowerPlace ls) (forcedAt w) ls (ForcedIn w ls) Forced tt forced-joins (forced-in w ls) true 0 ls closed refl
+
+  -- its index is the number of clauses before it
+  numbered : (p : ℕ) → LowestIn w (getD ls p (pos 0)) (clauseCount (drop p ls)) (split ls) → ForcingClause w ls (clauseCount (take p ls)) (getD ls p (pos 0))
+  numbered p x =
+      let from = x .from in
+      let index : x .index ≡ clauseCount (take p ls) = omega (arith, split-count ls closed, many-parted closes ls p) in
+      subst (λ k. ForcingClause w ls k (getD ls p (pos 0))) index (forcing w x)
 
   unassigned-at : (n : ℕ) → n < v → isUnassigned (w (suc n)) ≡ true ↔ w (suc n) ≡ Unassigned
   unassigned-at n h = (unassigned (w (suc n)), ap isUnassigned)
@@ -232,7 +269,7 @@ module _ (v : ℕ) (ls : List ℤ) (w : Values) (closed : unclosed ls ≡ false)
       record {
         failed = λ e. let (k, c, f) = subst (λ o. Failed o (split ls)) e first-failed in (k, record { clause = c; first = f });
         none-failed = λ e. subst (λ o. Failed o (split ls)) e first-failed;
-        forced = λ e. forcing w (subst (λ o. Forced o (split ls)) e lowest-forced);
+        forced = λ {i} e. numbered i (subst (λ o. Forced o (split ls)) e lowest-forced);
         none-forced = λ e. subst (λ o. Forced o (split ls)) e lowest-forced;
         free = λ {n} e.
             let l = first-with _ (λ n. w (suc n) ≡ Unassigned) v unassigned-at n .0 e in
@@ -281,7 +318,7 @@ module _ {v : ℕ} {ls : List ℤ} {w : Values} (law : Laws v ls w) where
   failed-none = (law .none-failed, λ h. is-none (failedClause w ls) (λ i e. not-none (law .failed e .1 .first) h))
 
   pub forced-none : forcedPlace w ls ≡ none ↔ NoneForcing w ls
-  forced-none = (law .none-forced, λ h. is-none (forcedPlace w ls) (λ i e. not-none-forcing w ls (law .forced e .1) h))
+  forced-none = (law .none-forced, λ h. is-none (forcedPlace w ls) (λ i e. not-none-forcing w ls (law .forced e) h))
 
   pub free-none : lowestUnassigned v w ≡ none ↔ NoneUnassigned w v
   free-none = (
@@ -296,13 +333,14 @@ module _ {v : ℕ} {ls : List ℤ} {w : Values} (law : Laws v ls w) where
   pub forcing-found : Some (ForcesOne w) (split ls) → (k : ℕ) × (l : ℤ) × ForcingClause w ls k l
   forcing-found s =
       let (i, e) = is-some (forcedPlace w ls) (λ e. meet (λ c f n. n f) (split ls) s (law .none-forced e)) in
-      let (k, f) = law .forced e in
-      (k, getD ls i (pos 0), f)
+      (clauseCount (take i ls), getD ls i (pos 0), law .forced e)
 
-  pub forced-found : {k : ℕ} {l : ℤ} → ForcingClause w ls k l → (i : ℕ) × (forcedPlace w ls ≡ some i) × (l ≡ getD ls i (pos 0))
+  pub forced-found : {k : ℕ} {l : ℤ} → ForcingClause w ls k l
+      → (i : ℕ) × (forcedPlace w ls ≡ some i) × (suc k ≡ clauseNumber ls i) × (l ≡ getD ls i (pos 0))
   forced-found f =
       let (i, e) = is-some (forcedPlace w ls) (λ e. not-none-forcing w ls f (law .none-forced e)) in
-      (i, e, only-forcing w f (law .forced e .1) .1)
+      let (clause, literal) = only-forcing w f (law .forced e) in
+      (i, e, ap suc clause, literal)
 
   pub free-found : {n : ℕ} → LowestUnassigned w v n → (i : ℕ) × (lowestUnassigned v w ≡ some i) × (n ≡ suc i)
   free-found {n} f =

@@ -24,7 +24,7 @@ use Rattle.search_theory.proofs.Legal.{AllAssigned}
 use Rattle.search_theory.proofs.Choices.{choice-laws}
 use Rattle.search_theory.proofs.Full.{length-full, one-assignment}
 use Rattle.search_theory.proofs.Steps.{refuted, satisfied}
-use Rattle.search_theory.proofs.Accepted.{taken-search, taken-closed, taken-proper, taken-legal, taken-image}
+use Rattle.search_theory.proofs.Accepted.{taken-search, taken-closed, taken-proper, taken-legal, taken-explained, taken-image}
 use Rattle.search_theory.proofs.Calls.{Came, came}
 
 -- 1. Which calls are taken
@@ -56,7 +56,7 @@ module _ {s : Search} where
 
   module _ (ok : IsTaken Following s) where
     true-under : (not (eqb (s .used) (s .variables)) ≡ false) × (isFound (failedClause (variableValue (begins s)) (s .list)) ≡ false)
-    true-under = or-neither (not (eqb (s .used) (s .variables))) _ (no-cause _ (ok .clear .1 .1 .1 .0))
+    true-under = or-neither (not (eqb (s .used) (s .variables))) _ (no-cause _ (ok .clear .1 .1 .1 .1 .0))
 
     pub next-full : s .used ≡ s .variables
     next-full = eqb-true (s .used) (s .variables) (not-false (eqb (s .used) (s .variables)) (true-under .0))
@@ -75,10 +75,9 @@ module _ {s : Search} where
     where
       takes : IsTaken Searching s → s .used ≡ s .variables → Satisfies (given s) (s .list) → IsTaken Following s
       takes ok e h =
-          let (c17, (c16, (c18, c))) = ok .clear in
-          record {
-            clear = (c17, (c16, (c18, (rw (eq-eqb (s .used) (s .variables) e) (ap cause (by (failedClause (variableValue (begins s)) (s .list)) refl)), tt))));
-          }
+          let (c17, (c16, (c18, (c22, c)))) = ok .clear in
+          let untrue = ap cause (by (failedClause (variableValue (begins s)) (s .list)) refl) in
+          record { clear = (c17, (c16, (c18, (c22, (rw (eq-eqb (s .used) (s .variables) e) untrue, tt))))) }
         where
           by : (o : Option ℕ) → failedClause (variableValue (begins s)) (s .list) ≡ o → isFound o ≡ false
           by none q = refl
@@ -106,8 +105,11 @@ module _ {x : Call} {s : Search} (ok : IsTaken x s) (budget : ℕ) where
   ends-at = ap (λ (h : Handed). endsAt h) hands-done ∙ read-image (s .variables) (done .trail)
 
   -- and it is taken by the search.
+  pub left-taken : IsTaken Searching (resumed s (handsDone (s .variables) done))
+  left-taken = taken-image ok (done .trail) (comes .legal) (comes .explained (taken-explained ok))
+
   pub resumed-taken : IsTaken Searching (resumed s (hands x s budget))
-  resumed-taken = subst (λ (h : Handed). IsTaken Searching (resumed s h)) (sym hands-done) (taken-image ok (done .trail) (comes .legal))
+  resumed-taken = subst (λ (h : Handed). IsTaken Searching (resumed s h)) (sym hands-done) left-taken
 
   pub said : (y : Ending) → done .ending ≡ y → Says (hands x s budget) y
   said y e = ap (λ (h : Handed). h .outcome .first) hands-done ∙ ap endingNumber e

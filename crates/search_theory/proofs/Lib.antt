@@ -6,6 +6,8 @@ pub mod Values
 pub mod Legal
 pub mod OverClauses
 pub mod Choices
+pub mod Kept
+pub mod Reasons
 pub mod Full
 pub mod Measure
 pub mod Undo
@@ -19,3 +21,4 @@ pub mod Handed
 pub mod Budgets
 pub mod Listing
 pub mod ListedSteps
+pub mod Numbers

@@ -39,7 +39,7 @@ module _ (v : ℕ) (ls : List ℤ) (closed : unclosed ls ≡ false) where
 
         rest : NoneFailed (variableValue t) ls → (o : Option ℕ) → forcedPlace (variableValue t) ls ≡ o
             → ListedStep v ls t (onForced o ls t (onUnassigned (lowestUnassigned v (variableValue t)) t))
-        rest f (some i) e = forces f (law .forced e .1)
+        rest f (some i) e = forces f (law .forced e)
         rest f none e = last f (law .none-forced e) (lowestUnassigned v (variableValue t)) refl
 
         by : (o : Option ℕ) → failedClause (variableValue t) ls ≡ o
@@ -51,10 +51,10 @@ module _ (v : ℕ) (ls : List ℤ) (closed : unclosed ls ≡ false) where
     pub only-step : {x : Next} → ListedStep v ls t x → x ≡ step v ls t
     unfolding step
     only-step (undoes f u) = rw (failed-found law f .1) (only-undoing u (undoing t))
-    only-step (forces n f) = let (i, e, same) = forced-found law f in rw (failed-none law .1 n, e) (ap (λ l. Moved (entry l 0 ∷ t)) same)
+    only-step (forces n f) = let (i, e, clause, same) = forced-found law f in rw (failed-none law .1 n, e) (λ j. Moved (entry (same j) 0 (clause j) ∷ t))
     only-step (chooses n m f) =
         let (i, e, same) = free-found law f in
-        rw (failed-none law .1 n, forced-none law .1 m, e) (ap (λ k. Moved (entry (negℤ (pos k)) 1 ∷ t)) same)
+        rw (failed-none law .1 n, forced-none law .1 m, e) (ap (λ k. Moved (entry (negℤ (pos k)) 1 0 ∷ t)) same)
     only-step (finds n m f) = rw (failed-none law .1 n, forced-none law .1 m, free-none law .1 f) refl
 
 -- 2. A call

@@ -12,7 +12,7 @@ use mathlib.Core.List.{List, _∷_}
 use Rattle.answers.specs.Lists.{All, Some}
 use Rattle.answers.proofs.Bools.{clash}
 use Rattle.answers.proofs.Elements.{all-at}
-use Rattle.cnf.specs.Clauses.{split, value, Satisfies}
+use Rattle.cnf.specs.Clauses.{split, clauseNumber, value, Satisfies}
 use Rattle.search.specs.Trail.{Entry, entry, Trail, Value, True, False, Unassigned, opposite, isFalse, isUnassigned, variableValue, literalValue}
 use Rattle.search.specs.Trail.{Agrees, Open, valuesOf}
 use Rattle.search.specs.Step.{failedClause, forcedPlace, lowestUnassigned, undo, Next, Moved, AnsweredFound, AnsweredNone, undone, onFailed, onForced}
@@ -78,10 +78,10 @@ module _ {v : ℕ} {ls : List ℤ} (t : Trail) (law : Laws v ls (variableValue t
   pub satisfied : AllAssigned v (variableValue t) → failedClause (variableValue t) ls ≡ none → Satisfies (valuesOf v t) ls
   satisfied all f = all-zip (some-zip (literal-true v t all)) (split ls) (none-failed-each (variableValue t) ls (law .none-failed f)) proper
 
-  on-forced : (l : ℤ) → Some (Forces (variableValue t) l) (split ls) → StepKeeps v ls t (Moved (entry l 0 ∷ t))
-  on-forced l f = append (entry l 0) (meet is-legal (split ls) f proper) (λ a s g w. clash (forced-true l f a s g) w)
+  on-forced : (l : ℤ) (n : ℕ) → Some (Forces (variableValue t) l) (split ls) → StepKeeps v ls t (Moved (entry l 0 n ∷ t))
+  on-forced l n f = append (entry l 0 n) (meet is-legal (split ls) f proper) (λ a s g w. clash (forced-true l f a s g) w)
     where
-      is-legal : (c : List ℤ) → Forces (variableValue t) l c → All (Proper v) c → LegalEntry v t (entry l 0)
+      is-legal : (c : List ℤ) → Forces (variableValue t) l c → All (Proper v) c → LegalEntry v t (entry l 0 n)
       is-legal c k ps =
           record {
             proper = all-at (Proper v) ps (k .holds);
@@ -91,9 +91,9 @@ module _ {v : ℕ} {ls : List ℤ} (t : Trail) (law : Laws v ls (variableValue t
 
   on-unassigned : (o : Option ℕ) → lowestUnassigned v (variableValue t) ≡ o → failedClause (variableValue t) ls ≡ none → StepKeeps v ls t (onUnassigned o t)
   on-unassigned none h f = let all = all-assigned (variableValue t) v (law .none-free h) in full all (satisfied all f)
-  on-unassigned (some n) h f = append (entry (negsuc n) 1) is-legal (λ a s g w. refl)
+  on-unassigned (some n) h f = append (entry (negsuc n) 1 0) is-legal (λ a s g w. refl)
     where
-      is-legal : LegalEntry v t (entry (negsuc n) 1)
+      is-legal : LegalEntry v t (entry (negsuc n) 1 0)
       is-legal =
           record {
             proper = record { nonzero = refl; within = le-ltb v (suc n) (law .free h .to-V) };
@@ -115,7 +115,7 @@ module _ {v : ℕ} {ls : List ℤ} (t : Trail) (law : Laws v ls (variableValue t
     where
       on : (o : Option ℕ) → forcedPlace (variableValue t) ls ≡ o → failedClause (variableValue t) ls ≡ none
           → StepKeeps v ls t (onForced o ls t (onUnassigned (lowestUnassigned v (variableValue t)) t))
-      on (some i) h f = on-forced (getD ls i (pos 0)) (forcing-some (variableValue t) (law .forced h .1))
+      on (some i) h f = on-forced (getD ls i (pos 0)) (clauseNumber ls i) (forcing-some (variableValue t) (law .forced h))
       on none h f = on-unassigned (lowestUnassigned v (variableValue t)) refl f
 
       by : (o : Option ℕ) → failedClause (variableValue t) ls ≡ o

@@ -18,6 +18,10 @@ pub record LegalEntry (v : ℕ) (t : Trail) (e : Entry) : Type 0 where
   pub free : variableValue t (natAbs (e .literal)) ≡ Unassigned
   pub mark-small : e .mark ≤ 1
 
+-- what holds of each entry of a trail, given the entries before it
+abbrev pub EachEntry : (Trail → Entry → Type 0) → Trail → Type 0
+EachEntry P [] = Unit
+EachEntry P (e ∷ t) = P t e × EachEntry P t
+
 abbrev pub Legal : ℕ → Trail → Type 0
-Legal v [] = Unit
-Legal v (e ∷ t) = LegalEntry v t e × Legal v t
+Legal v t = EachEntry (LegalEntry v) t

@@ -17,7 +17,7 @@ MarkedOne e = e .mark ≡ 1
 
 -- what undoing leads to; a trail has its latest entry first
 pub data Undoes (t : Trail) : Next → Type 0 where
-  -- undo back to the last entry marked 1, negate it, mark it 0;
+  -- undo back to the last entry marked 1, negate it, mark it 0; by E10 its number is 0
   negates : {k : ℕ} {e : Entry} → FirstIn MarkedOne t k e → Undoes t (Moved (negated e ∷ drop (suc k) t))
   -- if no mark is 1, answer "none"
   none-marked : NoneIn MarkedOne t → Undoes t AnsweredNone
@@ -29,10 +29,11 @@ module _ (v : ℕ) (ls : List ℤ) where
     -- if no mark is 1, answer "none";
     undoes : {k : ℕ} {x : Next} → FailedClause (variableValue t) ls k → Undoes t x → ListedStep t x
     -- a clause without a true literal whose unassigned literals are all one literal (of several such clauses the one that E9 takes): append that, mark 0;
-    forces : {k : ℕ} {l : ℤ} → NoneFailed (variableValue t) ls → ForcingClause (variableValue t) ls k l → ListedStep t (Moved (entry l 0 ∷ t))
-    -- an unassigned variable: append the lowest, negated, mark 1;
+    -- by E10 with "that clause's number from 1"
+    forces : {k : ℕ} {l : ℤ} → NoneFailed (variableValue t) ls → ForcingClause (variableValue t) ls k l → ListedStep t (Moved (entry l 0 (suc k) ∷ t))
+    -- an unassigned variable: append the lowest, negated, mark 1; by E10 with the number 0
     chooses : {n : ℕ} → NoneFailed (variableValue t) ls → NoneForcing (variableValue t) ls → LowestUnassigned (variableValue t) v n
-        → ListedStep t (Moved (entry (negℤ (pos n)) 1 ∷ t))
+        → ListedStep t (Moved (entry (negℤ (pos n)) 1 0 ∷ t))
     -- answer "found"
     finds : NoneFailed (variableValue t) ls → NoneForcing (variableValue t) ls → NoneUnassigned (variableValue t) v → ListedStep t AnsweredFound
 

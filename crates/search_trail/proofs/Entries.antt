@@ -1,7 +1,6 @@
 -- The trail in the buffers with an entry more, or less. Assumes nothing.
 use Prim.Native.Nat.{ℕ, zero, suc, _+_, _-_, _%_, _≤_, _<_}
 use native.Mathlib.Omega.{arith}
-use native.Mathlib.Decide.{ℕ-discrete}
 use native.Mathlib.Numerals.{add-one}
 use lib.Dec.{eqb}
 use lib.IntN.{ℤ, pos, natAbs}
@@ -10,12 +9,13 @@ use lib.Seq.{getD-set-same, getD-set-other}
 use borrow.Author.Tests.{eqb-true}
 use mathlib.Core.Path.{_≡_, refl, sym, _∙_, ap, subst}
 use mathlib.Core.Bool.{Bool, true, false, cond}
-use mathlib.Core.List.{List, _∷_}
+use mathlib.Core.List.{List, [], _∷_}
 use Rattle.cnf.specs.Literals.{codeOf, mostVariables}
 use Rattle.cnf.proofs.Lists.{code-variable}
 use Rattle.search.specs.Trail.{Entry, entry, Trail, Slices, slices, entryAt, trailOf, Value, Unassigned, made, variableValue, Values}
 use Rattle.search.proofs.Trails.{length-trail, same-trail}
 use Rattle.search_theory.specs.Legal.{LegalEntry, Legal}
+use Rattle.search_theory.proofs.Legal.{each-before, each-at}
 use Rattle.search_theory.proofs.Full.{legal-length}
 use Rattle.search_scan.specs.PackedValues.{bareMarks, numberOf, packed}
 use Rattle.search_trail.specs.Packed.{packedTrail, packedMarks, Packed, HasByte, withValue, withMark, madeTrue, assigned}
@@ -25,17 +25,10 @@ use Rattle.search_trail.proofs.Bytes.{length-packed, packed-bare, pack,
 -- what is legal of a trail is so of its beginning
 module _ (v : ℕ) (s : Slices) where
   pub legal-before : (n : ℕ) → Legal v (trailOf s n) → (i : ℕ) → i ≤ n → Legal v (trailOf s i)
-  unfolding trailOf
-  legal-before zero l i h = let e : 0 ≡ i = omega arith in subst (λ (j : ℕ). Legal v (trailOf s j)) e l
-  legal-before (suc n) l i h = by (ℕ-discrete i (suc n)) (legal-before n (l .1) i)
-    where
-      by : Dec (i ≡ suc n) → (i ≤ n → Legal v (trailOf s i)) → Legal v (trailOf s i)
-      by (yes e) go = subst (λ (j : ℕ). Legal v (trailOf s j)) (sym e) l
-      by (no e) go = go (omega arith)
+  legal-before = each-before (LegalEntry v) s
 
   pub legal-at : (n : ℕ) → Legal v (trailOf s n) → (i : ℕ) → i < n → LegalEntry v (trailOf s i) (entryAt s i)
-  unfolding trailOf
-  legal-at n l i h = legal-before n l (suc i) (omega arith) .0
+  legal-at = each-at (LegalEntry v) s
 
   pub legal-used : (n : ℕ) → Legal v (trailOf s n) → n ≤ v
   legal-used n l = let h = legal-length v (trailOf s n) l in let e = length-trail s n in omega arith
@@ -96,13 +89,13 @@ module _ (ts : List ℤ) (ms : List ℕ) (n : ℕ) {ns : List ℕ} (e : ns ≡ p
 
 module _ {v : ℕ} {ts : List ℤ} {ms : List ℕ} {i : ℕ} (r : Packed v ts ms i) where
   pub running-used : i ≤ v
-  running-used = legal-used v (slices ts (bareMarks ms)) i (r .legal)
+  running-used = legal-used v (slices ts (bareMarks ms) []) i (r .legal)
 
   -- another literal in the first unused entry
   pub set-trail : (l : ℤ) → packedTrail ts ms i ≡ packedTrail (set ts i l) ms i
   set-trail l =
-      same-trail (slices ts (bareMarks ms)) (slices (set ts i l) (bareMarks ms)) i
-      (λ j h. ap (λ (x : ℤ). entry x (getD (bareMarks ms) j 0)) (sym (getD-set-other ts i j l (pos 0) (λ e. omega arith))))
+      same-trail (slices ts (bareMarks ms) []) (slices (set ts i l) (bareMarks ms) []) i
+      (λ j h. ap (λ (x : ℤ). entry x (getD (bareMarks ms) j 0) 0) (sym (getD-set-other ts i j l (pos 0) (λ e. omega arith))))
 
   pub running-set : (l : ℤ) → Packed v (set ts i l) ms i
   running-set l =
@@ -117,7 +110,7 @@ module _ {v : ℕ} {ts : List ℤ} {ms : List ℕ} {i : ℕ} (r : Packed v ts ms
   -- the first unused entry is used
   module _ (m : ℕ) (h : i < v) (k : m ≤ 1) where
     abbrev new : Entry
-    new = entry (getD ts i (pos 0)) m
+    new = entry (getD ts i (pos 0)) m 0
 
     pub assigned-bare : bareMarks (assigned ts ms i m) ≡ set (bareMarks ms) i m
     assigned-bare =
@@ -127,14 +120,14 @@ module _ {v : ℕ} {ts : List ℤ} {ms : List ℕ} {i : ℕ} (r : Packed v ts ms
     pub entered-trail : packedTrail ts (assigned ts ms i m) (suc i) ≡ new ∷ packedTrail ts ms i
     unfolding trailOf
     entered-trail =
-        ap (λ (ns : List ℕ). trailOf (slices ts ns) (suc i)) assigned-bare
-        ∙ (λ t. entry (getD ts i (pos 0)) (mark t) ∷ same-trail (slices ts (set (bareMarks ms) i m)) (slices ts (bareMarks ms)) i same t)
+        ap (λ (ns : List ℕ). trailOf (slices ts ns []) (suc i)) assigned-bare
+        ∙ (λ t. entry (getD ts i (pos 0)) (mark t) 0 ∷ same-trail (slices ts (set (bareMarks ms) i m) []) (slices ts (bareMarks ms) []) i same t)
       where
         mark : getD (set (bareMarks ms) i m) i 0 ≡ m
         mark = getD-set-same (bareMarks ms) i m 0 (simp length-map (let e = r .bytes in omega arith))
 
-        same : (j : ℕ) → j < i → entryAt (slices ts (set (bareMarks ms) i m)) j ≡ entryAt (slices ts (bareMarks ms)) j
-        same j l = ap (entry (getD ts j (pos 0))) (getD-set-other (bareMarks ms) i j m 0 (λ e. omega arith))
+        same : (j : ℕ) → j < i → entryAt (slices ts (set (bareMarks ms) i m) []) j ≡ entryAt (slices ts (bareMarks ms) []) j
+        same j l = ap (λ (b : ℕ). entry (getD ts j (pos 0)) b 0) (getD-set-other (bareMarks ms) i j m 0 (λ e. omega arith))
 
     pub assign-packed : LegalEntry v (packedTrail ts ms i) new → Packed v ts (assigned ts ms i m) (i + 1)
     assign-packed w =
@@ -158,7 +151,7 @@ pub record Valuing (ts : List ℤ) (ms₀ : List ℕ) (used : ℕ) (ms : List �
 
 module _ {ts : List ℤ} {ms₀ : List ℕ} {used : ℕ} {ms : List ℕ} {i : ℕ} (g : Valuing ts ms₀ used ms i) where
   abbrev s : Slices
-  s = slices ts (bareMarks ms₀)
+  s = slices ts (bareMarks ms₀) []
 
   pub value-long : length ms ≡ length ms₀
   value-long = packed-long ts ms₀ i (g .is)

@@ -12,12 +12,13 @@ use Rattle.answers.specs.Lent.{filled}
 use Rattle.cnf.specs.Literals.{mostVariables}
 use Rattle.cnf.proofs.Lists.{code-variable}
 use Rattle.search.specs.Trail.{Entry, entry, Trail, Slices, slices, HasLength, imageBy, image, entryAt, trailOf}
-use Rattle.search.specs.Trail.{Value, True, False, Unassigned, variableValue}
-use Rattle.search.proofs.Trails.{length-trail, same-trail, length-laid, read-image, cut, image-read}
+use Rattle.search.specs.Trail.{Value, True, False, Unassigned, variableValue, Values}
+use Rattle.search.proofs.Trails.{length-trail, same-trail, same-values, length-laid, read-image, cut, image-read}
 use Rattle.search_theory.specs.Legal.{Legal}
+use Rattle.search_theory.proofs.Legal.{same-legal}
 use Rattle.search_theory.proofs.Full.{legal-length}
 use Rattle.search_scan.specs.PackedValues.{valueOf, packedValues, bareMarks, numberOf, packed}
-use Rattle.search_trail.specs.Packed.{packedTrail, packedMarks, Packed, withTrail}
+use Rattle.search_trail.specs.Packed.{runningTrail, packedTrail, packedMarks, Packed, Running, withTrail}
 use Rattle.search_trail.proofs.Bytes.{low-most, proper-byte, length-packed, packed-bare, unpack}
 use Rattle.search_trail.proofs.Entries.{legal-at, running-used}
 
@@ -73,15 +74,37 @@ refilled d buf xs n h e =
 
 -- 3. A trail in the buffers
 
+-- the numbers give no values
+pub running-values : (s : Slices) (n : ℕ) → variableValue (runningTrail s n) ≡ variableValue (packedTrail (s .trail) (s .marks) n)
+running-values s n =
+    same-values (slices (s .trail) (bareMarks (s .marks)) (s .numbers)) (slices (s .trail) (bareMarks (s .marks)) []) refl n
+
+-- and are not asked for where a trail is legal
+module _ (v : ℕ) (s : Slices) (n : ℕ) where
+  abbrev numbered : Slices
+  numbered = slices (s .trail) (bareMarks (s .marks)) (s .numbers)
+
+  abbrev plain : Slices
+  plain = slices (s .trail) (bareMarks (s .marks)) []
+
+  pub packed-legal : Legal v (runningTrail s n) → Legal v (packedTrail (s .trail) (s .marks) n)
+  packed-legal = same-legal v numbered plain refl n (λ i h. low-most (s .marks) i)
+
+  pub running-legal : Legal v (packedTrail (s .trail) (s .marks) n) → Legal v (runningTrail s n)
+  running-legal = same-legal v plain numbered refl n (λ i h. low-most (s .marks) i)
+
 -- the buffers hold a trail
 pub record HasTrail (v : ℕ) (t : Trail) (s : Slices) : Type 0 where
-  pub packed : Packed v (s .trail) (s .marks) (length t)
-  pub trail : packedTrail (s .trail) (s .marks) (length t) ≡ t
+  pub running : Running v s (length t)
+  pub trail : runningTrail s (length t) ≡ t
 
-pub packed-has-trail : {v : ℕ} {ts : List ℤ} {ms : List ℕ} {used : ℕ} → Packed v ts ms used → HasTrail v (packedTrail ts ms used) (slices ts ms)
-packed-has-trail {v} {ts} {ms} {used} r =
-    let e = length-trail (slices ts (bareMarks ms)) used in
-    record { packed = subst (Packed v ts ms) (sym e) r; trail = ap (packedTrail ts ms) e }
+pub length-running : (s : Slices) (n : ℕ) → length (runningTrail s n) ≡ n
+length-running s n = length-trail (slices (s .trail) (bareMarks (s .marks)) (s .numbers)) n
+
+pub running-has-trail : {v : ℕ} {s : Slices} {used : ℕ} → Running v s used → HasTrail v (runningTrail s used) s
+running-has-trail {v} {s} {used} r =
+    let e = length-running s used in
+    record { running = subst (Running v s) (sym e) r; trail = ap (runningTrail s) e }
 
 length-entries : {A : Type 0} (f : Entry → A) (d : A) (t : Trail) → length (imageBy f d (length t) t) ≡ length t
 length-entries f d t =
@@ -102,6 +125,9 @@ module _ {v : ℕ} (few : v ≤ mostVariables) {s : Slices} (long : HasLength v 
   new-marks : length (new .marks) ≡ length u
   new-marks = length-entries (λ e. e .mark) 0 u
 
+  new-numbers : length (new .numbers) ≡ length u
+  new-numbers = length-entries (λ e. e .number) 0 u
+
   low : (k : ℕ) → k < length (filled bare (new .marks)) → getD (filled bare (new .marks)) k 0 ≤ 1
   low k l = by (decLt k (length (new .marks)))
     where
@@ -114,27 +140,31 @@ module _ {v : ℕ} (few : v ≤ mostVariables) {s : Slices} (long : HasLength v 
   marks : bareMarks (withTrail u s .marks) ≡ filled bare (new .marks)
   marks = packed-bare (variableValue u) (filled bare (new .marks)) low
 
-  with-trail-read : packedTrail (withTrail u s .trail) (withTrail u s .marks) (length u) ≡ u
+  with-trail-read : runningTrail (withTrail u s) (length u) ≡ u
   with-trail-read =
-      ap (λ (ms : List ℕ). trailOf (slices (withTrail u s .trail) ms) (length u)) marks
-      ∙ same-trail (slices (filled (s .trail) (new .trail)) (filled bare (new .marks))) new (length u)
+      ap (λ (ms : List ℕ). trailOf (slices (withTrail u s .trail) ms (withTrail u s .numbers)) (length u)) marks
+      ∙ same-trail (slices (filled (s .trail) (new .trail)) (filled bare (new .marks)) (filled (s .numbers) (new .numbers))) new (length u)
       (λ i h.
       (λ j. entry (filled-at (s .trail) (new .trail) (pos 0) i (let n = new-literals in omega arith) j)
-      (filled-at bare (new .marks) 0 i (let n = new-marks in omega arith) j)))
+      (filled-at bare (new .marks) 0 i (let n = new-marks in omega arith) j)
+      (filled-at (s .numbers) (new .numbers) 0 i (let n = new-numbers in omega arith) j)))
       ∙ read-image (length u) u
+
+  with-trail-values : variableValue (packedTrail (withTrail u s .trail) (withTrail u s .marks) (length u)) ≡ variableValue u
+  with-trail-values = sym (running-values (withTrail u s) (length u)) ∙ ap variableValue with-trail-read
 
   pub holds : HasTrail v u (withTrail u s)
   holds =
       record {
-        packed = record {
-          few = few;
-          literals = length-filled (s .trail) (new .trail) (let n = new-literals in let l = long .trail in let r = room in omega arith) ∙ long .trail;
-          bytes =
-              length-packed (variableValue u) (filled bare (new .marks))
-              ∙ length-filled bare (new .marks) (let n = new-marks in let l = long .marks in let r = room in omega (arith, length-map (s .marks) (λ m. m % 2)))
-              ∙ length-map (s .marks) (λ m. m % 2) ∙ long .marks;
-          legal = subst (Legal v) (sym with-trail-read) legal;
-          values = rw (with-trail-read, marks) refl;
+        running = record {
+          packed = record {
+            few = few;
+            literals = length-filled (s .trail) (new .trail) (let n = new-literals in let l = long .trail in let r = room in omega arith) ∙ long .trail;
+            bytes = length-packed (variableValue u) (filled bare (new .marks)) ∙ length-filled bare (new .marks) marks-room ∙ bare-long ∙ long .marks;
+            legal = packed-legal v (withTrail u s) (length u) (subst (Legal v) (sym with-trail-read) legal);
+            values = rw (with-trail-values, marks) refl;
+          };
+          numbers = length-filled (s .numbers) (new .numbers) (let n = new-numbers in let l = long .numbers in let r = room in omega arith) ∙ long .numbers;
         };
         trail = with-trail-read;
       }
@@ -142,33 +172,56 @@ module _ {v : ℕ} (few : v ≤ mostVariables) {s : Slices} (long : HasLength v 
       room : length u ≤ v
       room = legal-length v u legal
 
+      bare-long : length bare ≡ length (s .marks)
+      bare-long = length-map (s .marks) (λ m. m % 2)
+
+      marks-room : length (new .marks) ≤ length bare
+      marks-room = let n = new-marks in let l = long .marks in let r = room in let b = bare-long in omega arith
+
 -- of the marks the bare ones alone matter
-pub same-with-trail : (t : Trail) (ts : List ℤ) (ms ns : List ℕ) → bareMarks ms ≡ bareMarks ns → withTrail t (slices ts ms) ≡ withTrail t (slices ts ns)
-same-with-trail t ts ms ns e =
-    ap (λ (bare : List ℕ). slices (filled ts (image (length t) t .trail)) (packed (variableValue t) (filled bare (image (length t) t .marks)))) e
+pub same-with-trail : (t : Trail) (ts : List ℤ) (ms ns ks : List ℕ) → bareMarks ms ≡ bareMarks ns → withTrail t (slices ts ms ks) ≡ withTrail t (slices ts ns ks)
+same-with-trail t ts ms ns ks e =
+    let i : Slices = image (length t) t in
+    ap (λ (bare : List ℕ). slices (filled ts (i .trail)) (packed (variableValue t) (filled bare (i .marks))) (filled ks (i .numbers))) e
 
 -- buffers that hold n entries, and are the same as others after them, are what writing these leaves
-pub with-trail-is : {v : ℕ} {us : List ℤ} {ns : List ℕ} {n : ℕ} → Packed v us ns n → (ts : List ℤ) (ms : List ℕ) → drop n ts ≡ drop n us
-    → drop n (bareMarks ms) ≡ drop n (bareMarks ns)
-    → slices us ns ≡ withTrail (packedTrail us ns n) (slices ts ms)
-with-trail-is {v} {us} {ns} {n} r ts ms d e =
-    (λ j. slices (sym literals j) ((r .values ∙ ap (packed (variableValue t)) (sym marks)) j))
+pub with-trail-is : {v : ℕ} {after : Slices} {n : ℕ} → Running v after n → (s : Slices)
+    → drop n (s .trail) ≡ drop n (after .trail) → drop n (bareMarks (s .marks)) ≡ drop n (bareMarks (after .marks))
+    → drop n (s .numbers) ≡ drop n (after .numbers) → after ≡ withTrail (runningTrail after n) s
+with-trail-is {v} {after} {n} running s d e f =
+    (λ j. slices (sym literals j) ((values ∙ ap (packed (variableValue t)) (sym marks)) j) (sym numbers j))
   where
+    r : Packed v (after .trail) (after .marks) n
+    r = running .packed
+
+    us : List ℤ
+    us = after .trail
+
+    ns : List ℕ
+    ns = after .marks
+
     t : Trail
-    t = packedTrail us ns n
+    t = runningTrail after n
 
     long : {k : ℕ} → k ≡ v → n ≤ k
     long q = let h = running-used r in omega arith
 
-    read : image (length t) t ≡ cut n (slices us (bareMarks ns)) n
-    read =
-        ap (λ (k : ℕ). image k t) (length-trail (slices us (bareMarks ns)) n)
-        ∙ image-read n (slices us (bareMarks ns)) n (long (r .literals)) (simp length-map (long (r .bytes)))
+    bare : Slices
+    bare = slices us (bareMarks ns) (after .numbers)
 
-    literals : filled ts (image (length t) t .trail) ≡ us
-    literals = ap (λ (i : Slices). filled ts (i .trail)) read ∙ refilled (pos 0) ts us n (long (r .literals)) d
+    values : ns ≡ packed (variableValue t) (bareMarks ns)
+    values = r .values ∙ ap (λ (w : Values). packed w (bareMarks ns)) (sym (running-values after n))
 
-    marks : filled (bareMarks ms) (image (length t) t .marks) ≡ bareMarks ns
+    read : image (length t) t ≡ cut n bare n
+    read = ap (λ (k : ℕ). image k t) (length-trail bare n) ∙ image-read n bare n (long (r .literals)) (simp length-map (long (r .bytes))) (long (running .numbers))
+
+    literals : filled (s .trail) (image (length t) t .trail) ≡ us
+    literals = ap (λ (i : Slices). filled (s .trail) (i .trail)) read ∙ refilled (pos 0) (s .trail) us n (long (r .literals)) d
+
+    marks : filled (bareMarks (s .marks)) (image (length t) t .marks) ≡ bareMarks ns
     marks =
-        ap (λ (i : Slices). filled (bareMarks ms) (i .marks)) read
-        ∙ refilled 0 (bareMarks ms) (bareMarks ns) n (simp length-map (long (r .bytes))) e
+        ap (λ (i : Slices). filled (bareMarks (s .marks)) (i .marks)) read
+        ∙ refilled 0 (bareMarks (s .marks)) (bareMarks ns) n (simp length-map (long (r .bytes))) e
+
+    numbers : filled (s .numbers) (image (length t) t .numbers) ≡ after .numbers
+    numbers = ap (λ (i : Slices). filled (s .numbers) (i .numbers)) read ∙ refilled 0 (s .numbers) (after .numbers) n (long (running .numbers)) f

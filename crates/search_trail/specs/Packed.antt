@@ -1,19 +1,23 @@
--- What the two buffers hold while a search runs, and how an entry is written into them.
+-- What the three buffers hold while a search runs, and how an entry is written into them.
 use Prim.Native.Nat.{ℕ, _+_, _*_, _-_, _/_, _%_, _≤_}
 use lib.Dec.{ltb}
 use lib.IntN.{ℤ, pos}
 use lib.ListN.{length, getD, set}
 use mathlib.Core.Path.{_≡_}
 use mathlib.Core.Bool.{cond}
-use mathlib.Core.List.{List}
+use mathlib.Core.List.{List, []}
 use Rattle.cnf.specs.Literals.{mostVariables, codeOf}
 use Rattle.search.specs.Trail.{Trail, Slices, slices, filledSlices, image, trailOf, variableValue}
 use Rattle.search_theory.specs.Legal.{Legal}
 use Rattle.search_scan.specs.PackedValues.{bareMarks, packed}
 
--- the trail in the buffers: literals, and marks in the lowest bits
+-- the trail in the buffers: literals, marks in the lowest bits, and clause numbers
+abbrev pub runningTrail : Slices → ℕ → Trail
+runningTrail s used = trailOf (slices (s .trail) (bareMarks (s .marks)) (s .numbers)) used
+
+-- the same with every number 0, for what asks neither for the numbers nor writes them: they give no values
 abbrev pub packedTrail : List ℤ → List ℕ → ℕ → Trail
-packedTrail ts ms used = trailOf (slices ts (bareMarks ms)) used
+packedTrail ts ms used = runningTrail (slices ts ms []) used
 
 -- the marks, with the values above them that the first n entries give
 abbrev pub packedMarks : List ℤ → List ℕ → ℕ → List ℕ
@@ -27,11 +31,16 @@ pub record Packed (v : ℕ) (ts : List ℤ) (ms : List ℕ) (used : ℕ) : Type 
   pub legal : Legal v (packedTrail ts ms used)
   pub values : ms ≡ packedMarks ts ms used
 
+-- the three buffers of a running search: such literals and marks, and as many clause numbers
+pub record Running (v : ℕ) (s : Slices) (used : ℕ) : Type 0 where
+  pub packed : Packed v (s .trail) (s .marks) used
+  pub numbers : length (s .numbers) ≡ v
+
 -- a trail is written into the buffers: its entries from the first place on, elements past them are untouched; and above the marks the values that it gives
 abbrev pub withTrail : Trail → Slices → Slices
 withTrail t s =
-    let written : Slices = filledSlices (slices (s .trail) (bareMarks (s .marks))) (image (length t) t) in
-    slices (written .trail) (packed (variableValue t) (written .marks))
+    let written : Slices = filledSlices (slices (s .trail) (bareMarks (s .marks)) (s .numbers)) (image (length t) t) in
+    slices (written .trail) (packed (variableValue t) (written .marks)) (written .numbers)
 
 -- a code's variable has a byte
 pub record HasByte (ms : List ℕ) (k : ℕ) : Type 0 where

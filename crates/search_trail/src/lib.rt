@@ -1,4 +1,4 @@
-// The trail in the two lent buffers while a search runs: the functions that write it.
+// The trail in the three lent buffers while a search runs: the functions that write it.
 ghost use mathlib.Core.Path.{_≡_};
 ghost use mathlib.Core.List.{_++_};
 ghost use Prim.Native.Nat.{_-_, _<_, _≤_, _^_};
@@ -94,6 +94,18 @@ pub fn clear_trail(trail: &mut [i32], used: usize)
     let mut i = used;
     while i < trail.len() {
         trail[i] = 0;
+        i += 1;
+    }
+}
+
+// Writes 0 from a place of the clause numbers on.
+pub fn clear_numbers(numbers: &mut [u64], used: usize)
+    requires { ⌜ used ≤ length (now numbers) ⌝ }
+    ensures { λ r. ⌜ now (numbers .exit) ≡ take used (now (numbers .entry)) ++ replicate (length (now (numbers .entry)) - used) 0 ⌝ }
+{
+    let mut i = used;
+    while i < numbers.len() {
+        numbers[i] = 0;
         i += 1;
     }
 }

@@ -29,6 +29,7 @@ use Rattle.answers.proofs.Elements.{all-map, apart-on}
 use Rattle.encoder_theory.proofs.Theorems.{decodes-to-solution, comes-from-one, never-refused}
 use Rattle.search.specs.Trail.{Trail, slices, Open, trailOf, valuesOf}
 use Rattle.search.specs.Run.{Ending, Found, None, Halted, Done, run, endingNumber, doneOutcome}
+use Rattle.search.specs.Reasons.{wrongNumbers}
 use Rattle.search.specs.Call.{Search, Handed, wrongEntryAt, Searching, Following, begins, IsTaken, runs, handsDone, handsTaken, bySearch, byNext, Says}
 use Rattle.search.specs.Call.{endsAt, resumed, given}
 use Rattle.search_theory.specs.Openings.{OpenAt}
@@ -53,7 +54,7 @@ says-both x y h p q e = clash (eq-eqb (endingNumber x) (endingNumber y) (sym p �
 module _ (s : List ℕ) (c : Search) (b : BegunOn s c) where
   -- no search turns a grid's clauses down
   pub begun-taken : IsTaken Searching c
-  begun-taken = record { clear = (ap cause (right-lengths (c .slices) sizes), (list, (entries, tt))) }
+  begun-taken = record { clear = (ap cause (right-lengths (c .slices) sizes), (list, (entries, (numbers, tt)))) }
     where
       never : (variableCount (boardOf s) ≤ mostVariables) × (tooManyVariables (variableCount (boardOf s)) ≡ false)
           × (wrongList (variableCount (boardOf s)) (clauseList (boardOf s)) ≡ none)
@@ -63,7 +64,7 @@ module _ (s : List ℕ) (c : Search) (b : BegunOn s c) where
       sizes =
           let e = b .empty in
           let few = never .0 in
-          record { few = subst (λ n. n ≤ mostVariables) (sym (b .variables)) few; long = b .slices; inside = omega arith }
+          record { few = subst (λ n. n ≤ mostVariables) (sym (b .variables)) few; trail = b .slices .trail; marks = b .slices .marks; inside = omega arith }
 
       list : wrongList (c .variables) (c .list) ≡ none
       list = rw (b .variables, b .list) (never .2)
@@ -71,6 +72,12 @@ module _ (s : List ℕ) (c : Search) (b : BegunOn s c) where
       -- row 18 looks at no entry
       entries : firstWhere (wrongEntryAt (c .variables) (c .slices)) (c .used) ≡ none
       entries = none-first _ (c .used) (λ k h. let e = b .empty in absurd (omega arith))
+
+      -- nor does row 22
+      numbers : wrongNumbers (c .variables) (c .list) (c .slices) (c .used) ≡ none
+      numbers =
+          rw (eq-eqb (length (c .slices .numbers)) (c .variables) (b .slices .numbers))
+          (none-first _ (c .used) (λ k h. let e = b .empty in absurd (omega arith)))
 
   begins-empty : begins c ≡ []
   unfolding trailOf
@@ -222,7 +229,7 @@ module _ (s : List ℕ) (acc : IsAccepted s) where
   v = variableCount (boardOf s)
 
   abbrev pub zeros : Search
-  zeros = record { variables = v; list = clauseList (boardOf s); slices = slices (replicate v (pos 0)) (replicate v 0); used = 0 }
+  zeros = record { variables = v; list = clauseList (boardOf s); slices = slices (replicate v (pos 0)) (replicate v 0) (replicate v 0); used = 0 }
 
   pub zeros-begun : BegunOn s zeros
   zeros-begun =
@@ -231,7 +238,7 @@ module _ (s : List ℕ) (acc : IsAccepted s) where
         variables = refl;
         list = refl;
         empty = refl;
-        slices = record { trail = length-replicate v (pos 0); marks = length-replicate v 0 };
+        slices = record { trail = length-replicate v (pos 0); marks = length-replicate v 0; numbers = length-replicate v 0 };
       }
 
   module _ (budget : ℕ) where

@@ -24,7 +24,7 @@ use Rattle.solver.proofs.Begun as begun
 
 module _ (s : List ℕ) (budget : ℕ) (lent : Lent) where
   -- A call is refused by its rows in order, and every lent buffer then stays as it was.
-  pub turned-down : ByRows (1 ∷ 2 ∷ 3 ∷ 4 ∷ 5 ∷ 6 ∷ 6 ∷ 6 ∷ 6 ∷ 6 ∷ []) (solverRows s lent) (solverAnswer s budget lent) (solverLeaves s budget lent ≡ lent)
+  pub turned-down : ByRows (1 ∷ 2 ∷ 3 ∷ 4 ∷ 5 ∷ 6 ∷ 6 ∷ 6 ∷ 6 ∷ 6 ∷ 6 ∷ []) (solverRows s lent) (solverAnswer s budget lent) (solverLeaves s budget lent ≡ lent)
   turned-down =
       by-rows (doneOutcome (solved (boardOf s) budget)) refl _ (solverRows s lent) refl refl
       (untouched (solverAnswer s budget lent) lent (written (boardOf s) (solved (boardOf s) budget) lent))

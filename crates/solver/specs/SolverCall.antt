@@ -29,12 +29,13 @@ solved b budget = run (variableCount b) (clauseList b) budget []
 abbrev pub trailBytes : ℕ → Trail → List ℕ
 trailBytes v t = bytesOf (valuesOf v t)
 
--- 6, in the order list, trail, marks, values, drawing; beside it the elements needed
+-- 6, in the order list, trail, marks, clause numbers, values, drawing; beside it the elements needed
 abbrev pub roomRows : Board → Lent → List Row
 roomRows b lent =
     row 6 (tooShort (length (lent .list)) (length (clauseList b))) ∷
     row 6 (tooShort (length (lent .slices .trail)) (variableCount b)) ∷
     row 6 (tooShort (length (lent .slices .marks)) (variableCount b)) ∷
+    row 6 (tooShort (length (lent .slices .numbers)) (variableCount b)) ∷
     row 6 (tooShort (length (lent .values)) (variableCount b)) ∷
     row 6 (tooShort (length (lent .drawing)) (b .size)) ∷
     []

@@ -1,4 +1,4 @@
--- How the call ends: what it tells and what it leaves in the five buffers. Assumes nothing.
+-- How the call ends: what it tells and what it leaves in the six buffers. Assumes nothing.
 use Prim.Native.Nat.{ℕ}
 use native.Mathlib.Omega.{arith}
 use lib.IntN.{ℤ}
@@ -21,6 +21,7 @@ use Rattle.rules.proofs.Records.{accepted-clear, refusal-number, passes-up, is-
 use Rattle.encoder.specs.Variables.{variableCount}
 use Rattle.encoder.specs.Clauses.{clauses, clauseList}
 use Rattle.encoder.specs.Encoding.{encoderAnswer, encoderLeaves}
+use Rattle.search.specs.Trail.{Slices}
 use Rattle.search.specs.Run.{Done, doneOutcome}
 use Rattle.search_call.specs.declared.End.{End}
 use Rattle.search_call.specs.Answers.{endOutcome}
@@ -31,7 +32,6 @@ use Rattle.solver_call.specs.declared.Room.{Room}
 use Rattle.solver_call.specs.declared.Room.the-variants.{Enough, Short}
 use Rattle.solver_call.specs.Room.{needsOf, roomTells, shortRows}
 use Rattle.solver_call.specs.GridSearch.{Fits, Ends}
-use Rattle.solver_call.specs.Answer.{lentOf}
 
 abbrev lengthsOf : Lent → Lengths
 lengthsOf lent =
@@ -39,6 +39,7 @@ lengthsOf lent =
       list = length (lent .list);
       trail = length (lent .slices .trail);
       marks = length (lent .slices .marks);
+      numbers = length (lent .slices .numbers);
       values = length (lent .values);
       drawing = length (lent .drawing);
     }
@@ -92,9 +93,9 @@ module _ (s : List ℕ) (budget : ℕ) (lent : Lent) where
               refusals-append (recordRows s) rows t ∙ clear-answered (recordRows s) _ (accepted-clear s (is-accepted s q e))
               ∙ clear-answered rows t (clear .0, tt)
 
-      pub fits : Fits g s needed ls (lent .slices .trail) (lent .slices .marks) (lent .values) (lent .drawing)
+      pub fits : Fits g s needed ls (lent .slices) (lent .values) (lent .drawing)
       fits =
-          let (c1, (c2, (c3, (c4, (c5, c))))) = clear in
+          let (c1, (c2, (c3, (c4, (c5, (c6, c)))))) = clear in
           let cs = clauseList (boardOf s) in
           rw needed-is (record {
             read = sym (ap parsedOutcome q) ∙ e;
@@ -103,15 +104,15 @@ module _ (s : List ℕ) (budget : ℕ) (lent : Lent) where
             list = omega (arith, ap length encoded, length-append cs (drop (length cs) (lent .list)));
             trail = enough _ c2;
             marks = enough _ c3;
-            values = enough _ c4;
-            drawing = enough _ c5;
+            numbers = enough _ c4;
+            values = enough _ c5;
+            drawing = enough _ c6;
           })
 
-      pub ends-solved : {e : End} {us : List ℤ} {ns ws es : List ℕ}
-          → Ends s budget (lent .slices .trail) (lent .slices .marks) (lent .values) (lent .drawing) e us ns ws es
-          → CallEnds (endOutcome e) (lentOf ls us ns ws es)
-      ends-solved {us = us} {ns} {ws} {es} h =
+      pub ends-solved : {e : End} {after : Slices} {ws es : List ℕ} → Ends s budget (lent .slices) (lent .values) (lent .drawing) e after ws es
+          → CallEnds (endOutcome e) (record { list = ls; slices = after; values = ws; drawing = es })
+      ends-solved {after = after} {ws} {es} h =
           let outcome = by-room w (doneOutcome done) ∙ goes in
-          let left : lentOf ls us ns ws es ≡ written (boardOf s) done lent =
+          let left : record { list = ls; slices = after; values = ws; drawing = es } ≡ written (boardOf s) done lent =
           (λ i. record { list = encoded i; slices = h .slices i; values = h .values i; drawing = h .drawing i }) in
           (h .outcome ∙ outcome, left ∙ ap (λ t. unlessRefused t lent (written (boardOf s) done lent)) outcome)

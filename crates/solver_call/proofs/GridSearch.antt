@@ -4,7 +4,7 @@ use lib.IntN.{ℤ}
 use lib.ListN.{length, take, drop}
 use lib.Seq.{length-take-le, take-at}
 use mathlib.Core.Path.{_≡_, refl, sym, _∙_, ap, subst}
-use mathlib.Core.List.{List, [], _++_}
+use mathlib.Core.List.{List, _++_}
 use Rattle.answers.specs.declared.Outcome.{Outcome}
 use Rattle.answers.specs.Outcome.{firstRefusal}
 use Rattle.answers.specs.Lent.{filled, unlessRefused}
@@ -15,9 +15,9 @@ use Rattle.rules.specs.Judge.{saysYes}
 use Rattle.rules.proofs.Records.{is-accepted, read-grid, read-fits, goes-on}
 use Rattle.encoder.specs.Variables.{variableCount}
 use Rattle.encoder.specs.Decoding.{decoded, decoderLeaves, decoderGridRows}
-use Rattle.search.specs.Trail.{slices, filledSlices, image, trailOf}
+use Rattle.search.specs.Trail.{Slices, slices, filledSlices, image, trailOf}
 use Rattle.search.specs.Run.{Ending, Found as DoneFound, None as DoneNone, Halted as DoneHalted, Done, doneOutcome}
-use Rattle.search.specs.Call.{Search, searchOn, Handed, handed, Searching, IsTaken, handsDone, handsTaken}
+use Rattle.search.specs.Call.{Search, Handed, Searching, IsTaken, handsDone, handsTaken}
 use Rattle.search.proofs.Trails.{read-image}
 use Rattle.search.proofs.Endings.{same-ending, other-ending}
 use Rattle.search_theory.specs.Legal.{Legal}
@@ -25,12 +25,13 @@ use Rattle.search_call.specs.declared.Ending.{Ending as Answer}
 use Rattle.search_call.specs.declared.Ending.the-variants.{Found, None, Halted}
 use Rattle.search_call.specs.declared.End.{End}
 use Rattle.search_call.specs.Answers.{endingOf, endOutcome}
+use Rattle.search_call.proofs.Calls.{searchIn}
 use Rattle.solver.specs.Begun.{BegunOn}
 use Rattle.solver.specs.SolverCall.{solved, trailBytes, atFound}
 use Rattle.solver_call.specs.declared.Needs.{Needs}
 use Rattle.solver.proofs.Begun as begun
 use Rattle.solver_call.specs.GridSearch.{literalTrail, Full, Fits, Ends}
-use Rattle.solver_call.proofs.TrailBytes.{marks-bytes, unmarked-legal}
+use Rattle.solver_call.proofs.TrailBytes.{literal-bytes, literal-legal}
 
 -- a search that ends as found says so
 is-found : (x : Answer) → endingOf x ≡ DoneFound → x ≡ Found
@@ -54,7 +55,7 @@ module _ {A : Type 0} {n : ℕ} (buf us : List A) (long : length us ≡ length (
   part-filled : {xs : List A} → us ≡ xs → us ++ drop n buf ≡ filled buf xs
   part-filled e = (λ i. e i ++ drop ((sym part-long ∙ ap length e) i) buf)
 
-module _ {g : Grid} {s : List ℕ} {needed : Needs} {ls ts : List ℤ} {ms vs ds : List ℕ} (fits : Fits g s needed ls ts ms vs ds) (budget : ℕ) where
+module _ {g : Grid} {s : List ℕ} {needed : Needs} {ls : List ℤ} {lent : Slices} {vs ds : List ℕ} (fits : Fits g s needed ls lent vs ds) (budget : ℕ) where
   accepted : IsAccepted s
   accepted = is-accepted s {g = g} refl (fits .read)
 
@@ -77,11 +78,17 @@ module _ {g : Grid} {s : List ℕ} {needed : Needs} {ls ts : List ℤ} {ms vs ds
   variables = ap (λ (n : Needs). n .variables) (fits .needs)
 
   -- the parts that are lent on
-  ts-long : length (take m ts) ≡ v
-  ts-long = length-take-le m ts (fits .trail) ∙ variables
+  abbrev part : Slices
+  part = slices (take m (lent .trail)) (take m (lent .marks)) (take m (lent .numbers))
 
-  ms-long : length (take m ms) ≡ v
-  ms-long = length-take-le m ms (fits .marks) ∙ variables
+  ts-long : length (part .trail) ≡ v
+  ts-long = length-take-le m (lent .trail) (fits .trail) ∙ variables
+
+  ms-long : length (part .marks) ≡ v
+  ms-long = length-take-le m (lent .marks) (fits .marks) ∙ variables
+
+  ns-long : length (part .numbers) ≡ v
+  ns-long = length-take-le m (lent .numbers) (fits .numbers) ∙ variables
 
   vs-long : length (take m vs) ≡ v
   vs-long = length-take-le m vs (fits .values) ∙ variables
@@ -91,7 +98,7 @@ module _ {g : Grid} {s : List ℕ} {needed : Needs} {ls ts : List ℤ} {ms vs ds
 
   -- what the search gets
   abbrev gets : Search
-  gets = searchOn (length (take m ms)) (take (needed .elements) ls) (take m ts) (take m ms) 0
+  gets = searchIn (take (needed .elements) ls) part 0
 
   on : BegunOn s gets
   on =
@@ -100,10 +107,10 @@ module _ {g : Grid} {s : List ℕ} {needed : Needs} {ls ts : List ℤ} {ms vs ds
         variables = ms-long;
         list = fits .clauses;
         empty = refl;
-        slices = record { trail = ts-long ∙ sym ms-long; marks = refl };
+        slices = record { trail = ts-long ∙ sym ms-long; marks = refl; numbers = ns-long ∙ sym ms-long };
       }
 
-  pub may-search : IsTaken Searching (searchOn (length (take m ms)) (take (needed .elements) ls) (take m ts) (take m ms) 0)
+  pub may-search : IsTaken Searching gets
   may-search = begun.begun-taken s gets on
 
   -- what the decoder leaves, over the grid that was read
@@ -116,11 +123,11 @@ module _ {g : Grid} {s : List ℕ} {needed : Needs} {ls ts : List ℤ} {ms vs ds
       unlessRefused (goes-on s {g = g} refl (fits .read) (λ g. decoderGridRows (gridBoard g s) values lent) saysYes i) lent
       (decoded (gridBoard (read-grid s {g = g} refl (fits .read) i) s) values)
 
-  -- after the search
-  module _ (e : End) {us : List ℤ} {ns : List ℕ}
-      (h : handed (endOutcome e) us ns ≡ handsTaken Searching (searchOn (length (take m ms)) (take (needed .elements) ls) (take m ts) (take m ms) 0) budget)
-      (us-long : length us ≡ length (take m ts)) (ns-long : length ns ≡ length (take m ms)) where
-    hands : handed (endOutcome e) us ns ≡ handsDone v done
+  -- after the search: what it leaves in those parts
+  module _ (e : End) {after : Slices} (h : record { outcome = endOutcome e; slices = after } ≡ handsTaken Searching gets budget)
+      (us-long : length (after .trail) ≡ length (part .trail)) (ms-same : length (after .marks) ≡ length (part .marks))
+      (ns-same : length (after .numbers) ≡ length (part .numbers)) where
+    hands : record { outcome = endOutcome e; slices = after } ≡ handsDone v done
     hands = h ∙ begun.taken-solved s gets on budget
 
     outcome : endOutcome e ≡ doneOutcome done
@@ -129,13 +136,17 @@ module _ {g : Grid} {s : List ℕ} {needed : Needs} {ls ts : List ℤ} {ms vs ds
     ending : endingOf (e .ending) ≡ done .ending
     ending = same-ending (endingOf (e .ending)) (done .ending) (ap (λ (t : Outcome). t .first) outcome)
 
-    left : slices (us ++ drop m ts) (ns ++ drop m ms) ≡ filledSlices (slices ts ms) (image v (done .trail))
+    abbrev whole : Slices
+    whole = slices (after .trail ++ drop m (lent .trail)) (after .marks ++ drop m (lent .marks)) (after .numbers ++ drop m (lent .numbers))
+
+    left : whole ≡ filledSlices lent (image v (done .trail))
     left =
         (λ i.
-        slices (part-filled ts us us-long (fits .trail) (ap (λ (h : Handed). h .slices .trail) hands) i)
-        (part-filled ms ns ns-long (fits .marks) (ap (λ (h : Handed). h .slices .marks) hands) i))
+        slices (part-filled (lent .trail) (after .trail) us-long (fits .trail) (ap (λ (h : Handed). h .slices .trail) hands) i)
+        (part-filled (lent .marks) (after .marks) ms-same (fits .marks) (ap (λ (h : Handed). h .slices .marks) hands) i)
+        (part-filled (lent .numbers) (after .numbers) ns-same (fits .numbers) (ap (λ (h : Handed). h .slices .numbers) hands) i))
 
-    pub unfound : (e .ending ≡ Found → ⊥) → Ends s budget ts ms vs ds e (us ++ drop m ts) (ns ++ drop m ms) vs ds
+    pub unfound : (e .ending ≡ Found → ⊥) → Ends s budget lent vs ds e whole vs ds
     unfound other =
         let k : done .ending ≡ DoneFound → ⊥ = λ f. other (is-found (e .ending) (ending ∙ f)) in
         record { outcome = outcome; slices = left; values = kept (done .ending) _ _ k; drawing = kept (done .ending) _ _ k }
@@ -145,28 +156,29 @@ module _ {g : Grid} {s : List ℕ} {needed : Needs} {ls ts : List ℤ} {ms vs ds
       ends-found = sym ending ∙ ap endingOf q
 
       -- the slices hold the trail, which is full
-      reads : trailOf (slices us ns) v ≡ done .trail
+      reads : trailOf after v ≡ done .trail
       reads =
           (λ i. trailOf (hands i .slices) (sym (begun.solved-full s accepted budget ends-found) i)) ∙ read-image v (done .trail)
 
-      legal : Legal v (trailOf (slices us ns) v)
+      legal : Legal v (trailOf after v)
       legal = subst (Legal v) (sym reads) (begun.solved-legal s accepted budget)
 
-      us-full : length us ≡ v
+      us-full : length (after .trail) ≡ v
       us-full = us-long ∙ ts-long
 
-      pub literals : Full (length (take m vs)) (take m (us ++ drop m ts))
+      pub literals : Full (length (take m vs)) (take m (after .trail ++ drop m (lent .trail)))
       literals =
-          rw (vs-long, part-read ts us us-long (fits .trail))
-          (record { long = us-full; legal = unmarked-legal v us ns (length us) (rw us-full legal) })
+          rw (vs-long, part-read (lent .trail) (after .trail) us-long (fits .trail))
+          (record { long = us-full; legal = literal-legal v after (length (after .trail)) (rw us-full legal) })
 
-      pub found : {ws es : List ℕ} → ws ≡ trailBytes (length (take m vs)) (literalTrail (take m (us ++ drop m ts)))
+      pub found : {ws es : List ℕ} → ws ≡ trailBytes (length (take m vs)) (literalTrail (take m (after .trail ++ drop m (lent .trail))))
           → es ≡ gridLeaves g (take m (ws ++ drop m vs)) (take n ds)
           → length ws ≡ length (take m vs) → length es ≡ length (take n ds)
-          → Ends s budget ts ms vs ds e (us ++ drop m ts) (ns ++ drop m ms) (ws ++ drop m vs) (es ++ drop n ds)
+          → Ends s budget lent vs ds e whole (ws ++ drop m vs) (es ++ drop n ds)
       found {ws} {es} w d ws-long es-long =
-          let given : ws ≡ trailBytes v (literalTrail us) = rw (vs-long, part-read ts us us-long (fits .trail)) at w in
-          let bytes = given ∙ marks-bytes us [] ns v (length us) ∙ ap (λ k. trailBytes v (trailOf (slices us ns) k)) us-full ∙ ap (trailBytes v) reads in
+          let given : ws ≡ trailBytes v (literalTrail (after .trail)) =
+          rw (vs-long, part-read (lent .trail) (after .trail) us-long (fits .trail)) at w in
+          let bytes = given ∙ literal-bytes after v (length (after .trail)) ∙ ap (λ k. trailBytes v (trailOf after k)) us-full ∙ ap (trailBytes v) reads in
           let yes = begun.decoder-says s accepted budget ends-found (take n ds) ds-long in
           let drawn = d ∙ grid-leaves (take m (ws ++ drop m vs)) (take n ds)
           ∙ ap (λ b. decoderLeaves s b (take n ds)) (part-read vs ws ws-long (fits .values) ∙ bytes)

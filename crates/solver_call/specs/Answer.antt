@@ -23,5 +23,5 @@ solvedOutcome (Ended e) = endOutcome e
 solvedOutcome (Refused u) = solveRefusalOutcome u
 
 -- the lent buffers
-abbrev pub lentOf : List ℤ → List ℤ → List ℕ → List ℕ → List ℕ → Lent
-lentOf list trail marks values drawing = record { list = list; slices = slices trail marks; values = values; drawing = drawing }
+abbrev pub lentOf : List ℤ → List ℤ → List ℕ → List ℕ → List ℕ → List ℕ → Lent
+lentOf list trail marks numbers values drawing = record { list = list; slices = slices trail marks numbers; values = values; drawing = drawing }

@@ -12,7 +12,7 @@ use Rattle.rules.specs.Board.{boardOf}
 use Rattle.encoder.specs.Variables.{variableCount}
 use Rattle.encoder.specs.Clauses.{clauseList}
 use Rattle.encoder.specs.Decoding.{decoded}
-use Rattle.search.specs.Trail.{Trail, slices, filledSlices, image, trailOf}
+use Rattle.search.specs.Trail.{Trail, Slices, slices, filledSlices, image, trailOf}
 use Rattle.search.specs.Run.{doneOutcome}
 use Rattle.search_theory.specs.Legal.{Legal}
 use Rattle.search_call.specs.declared.End.{End}
@@ -21,9 +21,9 @@ use Rattle.solver.specs.SolverCall.{solved, trailBytes, atFound}
 use Rattle.solver_call.specs.declared.Needs.{Needs}
 use Rattle.solver_call.specs.Room.{needsOf}
 
--- the trail of these literals, each marked 0 since no marks are given: a mark gives no value
+-- the trail of these literals, each marked 0 and with the number 0 since no marks and numbers are given: these give no value
 abbrev pub literalTrail : List ℤ → Trail
-literalTrail ts = trailOf (slices ts []) (length ts)
+literalTrail ts = trailOf (slices ts [] []) (length ts)
 
 -- the literals of a full trail
 pub record Full (v : ℕ) (ts : List ℤ) : Type 0 where
@@ -35,20 +35,21 @@ abbrev pub IsRead : Grid → List ℕ → Type 0
 IsRead g s = parsedOutcome (Accepted g) ≡ recordAnswer s
 
 -- a grid and its record, a list that begins with the grid's clauses, and buffers that have room
-pub record Fits (g : Grid) (s : List ℕ) (needed : Needs) (ls ts : List ℤ) (ms vs ds : List ℕ) : Type 0 where
+pub record Fits (g : Grid) (s : List ℕ) (needed : Needs) (ls : List ℤ) (lent : Slices) (vs ds : List ℕ) : Type 0 where
   pub read : IsRead g s
   pub needs : needed ≡ needsOf (boardOf s)
   pub clauses : take (needed .elements) ls ≡ clauseList (boardOf s)
   pub list : needed .elements ≤ length ls
-  pub trail : needed .variables ≤ length ts
-  pub marks : needed .variables ≤ length ms
+  pub trail : needed .variables ≤ length (lent .trail)
+  pub marks : needed .variables ≤ length (lent .marks)
+  pub numbers : needed .variables ≤ length (lent .numbers)
   pub values : needed .variables ≤ length vs
   pub drawing : needed .cells ≤ length ds
 
--- from trail, marks, values and drawing, what is answered and left in them
-pub record Ends (s : List ℕ) (budget : ℕ) (ts : List ℤ) (ms vs ds : List ℕ) (e : End) (us : List ℤ) (ns ws es : List ℕ) : Type 0 where
+-- from the slices, values and drawing, what is answered and left in them
+pub record Ends (s : List ℕ) (budget : ℕ) (lent : Slices) (vs ds : List ℕ) (e : End) (left : Slices) (ws es : List ℕ) : Type 0 where
   pub outcome : endOutcome e ≡ doneOutcome (solved (boardOf s) budget)
-  pub slices : slices us ns ≡ filledSlices (slices ts ms) (image (variableCount (boardOf s)) (solved (boardOf s) budget .trail))
+  pub slices : left ≡ filledSlices lent (image (variableCount (boardOf s)) (solved (boardOf s) budget .trail))
   pub values : ws ≡ atFound (solved (boardOf s) budget .ending) vs (filled vs (trailBytes (variableCount (boardOf s)) (solved (boardOf s) budget .trail)))
   pub drawing : es
       ≡ atFound (solved (boardOf s) budget .ending) ds

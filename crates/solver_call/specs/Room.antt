@@ -26,6 +26,7 @@ shortRows lent needed =
     row 6 (tooShort (lent .list) (needed .elements)) ∷
     row 6 (tooShort (lent .trail) (needed .variables)) ∷
     row 6 (tooShort (lent .marks) (needed .variables)) ∷
+    row 6 (tooShort (lent .numbers) (needed .variables)) ∷
     row 6 (tooShort (lent .values) (needed .variables)) ∷
     row 6 (tooShort (lent .drawing) (needed .cells)) ∷
     []

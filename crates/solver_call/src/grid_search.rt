@@ -1,6 +1,7 @@
 // The search on a grid's clauses, and at "found" the drawing to which its trail decodes.
 ghost use mathlib.Core.Path.{_≡_};
 ghost use lib.ListN.{length};
+ghost use Rattle.search.specs.Trail.{slices};
 ghost use Rattle.solver.specs.SolverCall.{trailBytes};
 ghost use Rattle.solver_call.specs.GridSearch.{literalTrail, Full, Fits, Ends};
 use super::Needs;
@@ -32,14 +33,16 @@ pub fn find_drawing(
     list: &[i32],
     trail: &mut [i32],
     marks: &mut [u8],
+    numbers: &mut [u64],
     values: &mut [u8],
     drawing: &mut [u8],
     needed: Needs,
     budget: u64,
 ) -> End
-    requires { ⌜ Fits g (now «record») needed (now list) (now trail) (now marks) (now values) (now drawing) ⌝ }
-    ensures { λ r. ⌜ Ends (now («record» .entry)) budget (now (trail .entry)) (now (marks .entry)) (now (values .entry)) (now (drawing .entry)) r
-        (now (trail .exit)) (now (marks .exit)) (now (values .exit)) (now (drawing .exit)) ⌝ }
+    requires { ⌜ Fits g (now «record») needed (now list) (slices (now trail) (now marks) (now numbers)) (now values) (now drawing) ⌝ }
+    ensures { λ r. ⌜ Ends (now («record» .entry)) budget
+        (slices (now (trail .entry)) (now (marks .entry)) (now (numbers .entry))) (now (values .entry)) (now (drawing .entry)) r
+        (slices (now (trail .exit)) (now (marks .exit)) (now (numbers .exit))) (now (values .exit)) (now (drawing .exit)) ⌝ }
 {
     let elements = needed.elements;
     let v = needed.variables;
@@ -48,6 +51,7 @@ pub fn find_drawing(
         &list[..elements],
         &mut trail[..v],
         &mut marks[..v],
+        &mut numbers[..v],
         0,
         budget,
     );

@@ -24,11 +24,12 @@ pub struct Needs {
     pub cells: usize,
 }
 
-// The elements of the five lent buffers.
+// The elements of the six lent buffers.
 pub struct Lengths {
     pub list: usize,
     pub trail: usize,
     pub marks: usize,
+    pub numbers: usize,
     pub values: usize,
     pub drawing: usize,
 }
@@ -58,6 +59,7 @@ pub fn solve_grid(
     list: &mut [i32],
     trail: &mut [i32],
     marks: &mut [u8],
+    numbers: &mut [u64],
     values: &mut [u8],
     drawing: &mut [u8],
     budget: u64,
@@ -65,10 +67,10 @@ pub fn solve_grid(
     requires { ⌜ IsRead g (now «record») ⌝ }
     ensures { λ r. ⌜ solvedOutcome r
         ≡ solverAnswer (now («record» .entry)) budget
-        (lentOf (now (list .entry)) (now (trail .entry)) (now (marks .entry)) (now (values .entry)) (now (drawing .entry))) ⌝ }
-    ensures { λ r. ⌜ lentOf (now (list .exit)) (now (trail .exit)) (now (marks .exit)) (now (values .exit)) (now (drawing .exit))
+        (lentOf (now (list .entry)) (now (trail .entry)) (now (marks .entry)) (now (numbers .entry)) (now (values .entry)) (now (drawing .entry))) ⌝ }
+    ensures { λ r. ⌜ lentOf (now (list .exit)) (now (trail .exit)) (now (marks .exit)) (now (numbers .exit)) (now (values .exit)) (now (drawing .exit))
         ≡ solverLeaves (now («record» .entry)) budget
-        (lentOf (now (list .entry)) (now (trail .entry)) (now (marks .entry)) (now (values .entry)) (now (drawing .entry))) ⌝ }
+        (lentOf (now (list .entry)) (now (trail .entry)) (now (marks .entry)) (now (numbers .entry)) (now (values .entry)) (now (drawing .entry))) ⌝ }
 {
     let counts = count(g, record);
     let cells = g.size();
@@ -81,6 +83,7 @@ pub fn solve_grid(
         list: list.len(),
         trail: trail.len(),
         marks: marks.len(),
+        numbers: numbers.len(),
         values: values.len(),
         drawing: drawing.len(),
     };
@@ -95,6 +98,7 @@ pub fn solve_grid(
         list,
         trail,
         marks,
+        numbers,
         values,
         drawing,
         needed,
@@ -109,20 +113,31 @@ pub fn solve(
     list: &mut [i32],
     trail: &mut [i32],
     marks: &mut [u8],
+    numbers: &mut [u64],
     values: &mut [u8],
     drawing: &mut [u8],
     budget: u64,
 ) -> Solved
     ensures { λ r. ⌜ solvedOutcome r
         ≡ solverAnswer (now («record» .entry)) budget
-        (lentOf (now (list .entry)) (now (trail .entry)) (now (marks .entry)) (now (values .entry)) (now (drawing .entry))) ⌝ }
-    ensures { λ r. ⌜ lentOf (now (list .exit)) (now (trail .exit)) (now (marks .exit)) (now (values .exit)) (now (drawing .exit))
+        (lentOf (now (list .entry)) (now (trail .entry)) (now (marks .entry)) (now (numbers .entry)) (now (values .entry)) (now (drawing .entry))) ⌝ }
+    ensures { λ r. ⌜ lentOf (now (list .exit)) (now (trail .exit)) (now (marks .exit)) (now (numbers .exit)) (now (values .exit)) (now (drawing .exit))
         ≡ solverLeaves (now («record» .entry)) budget
-        (lentOf (now (list .entry)) (now (trail .entry)) (now (marks .entry)) (now (values .entry)) (now (drawing .entry))) ⌝ }
+        (lentOf (now (list .entry)) (now (trail .entry)) (now (marks .entry)) (now (numbers .entry)) (now (values .entry)) (now (drawing .entry))) ⌝ }
 {
     let p = read(record);
     let Parsed::Accepted(g) = p else {
         return Solved::Refused(SolveRefusal::Record(p.refusal()));
     };
-    solve_grid(g, record, list, trail, marks, values, drawing, budget)
+    solve_grid(
+        g,
+        record,
+        list,
+        trail,
+        marks,
+        numbers,
+        values,
+        drawing,
+        budget,
+    )
 }

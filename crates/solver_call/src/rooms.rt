@@ -20,6 +20,9 @@ pub fn first_short(lent: Lengths, needed: Needs) -> Room
     if lent.marks < needed.variables {
         return Room::Short(needed.variables);
     }
+    if lent.numbers < needed.variables {
+        return Room::Short(needed.variables);
+    }
     if lent.values < needed.variables {
         return Room::Short(needed.variables);
     }

@@ -84,9 +84,15 @@ array-borrow-prefix-marks c = search needs
 slice-aggregate-count-solutions-3 : tie.Need-slice-aggregate-count-solutions-3
 slice-aggregate-count-solutions-3 c = simp length-take (omega arith)
 
+array-borrow-prefix-numbers : tie.Need-array-borrow-prefix-numbers
+array-borrow-prefix-numbers c = search needs
+
+slice-aggregate-count-solutions-4 : tie.Need-slice-aggregate-count-solutions-4
+slice-aggregate-count-solutions-4 c = simp length-take (omega arith)
+
 count-solutions-requires : tie.Need-count-solutions-requires
 count-solutions-requires c κs =
-    let at-if = c .before .before .before in
+    let at-if = c .before .before .before .before in
     let at-e = at-if .before .before in
     taken (answered at-e) (omega (arith, at-if .if1 .left))
 
@@ -96,8 +102,8 @@ put-count-requires c κs = search needs
 returns-3 : tie.Need-returns-3
 returns-3 c =
     let at-text = c .before in
-    let at-count = at-text .before .before .before in
-    let at-if = at-count .before .before .before .before in
+    let at-count = at-text .before .before .before .before in
+    let at-if = at-count .before .before .before .before .before in
     let at-e = at-if .before .before in
     whole (at-text .put-count-arg .given .0 .1) (count-fits (s (encoded at-e)))
     (ends-counted (answered at-e) (omega (arith, at-if .if1 .left)) (at-count .count-solutions .ensures .0) (c .put-count .ensures))
@@ -121,6 +127,8 @@ count-text-spec =
     slice-aggregate-count-solutions-2
     array-borrow-prefix-marks
     slice-aggregate-count-solutions-3
+    array-borrow-prefix-numbers
+    slice-aggregate-count-solutions-4
     count-solutions-requires
     put-count-requires
     returns-3)

@@ -21,14 +21,17 @@ same-length c = search needs
 same-length-2 : tie.Need-same-length-2
 same-length-2 c = search needs
 
+same-length-3 : tie.Need-same-length-3
+same-length-3 c = search needs
+
 returns : tie.Need-returns
 returns c =
     let at-outcome = c .before .before in
-    let e = at-outcome .before .before .before .before .next .ensures in
+    let e = at-outcome .before .before .before .before .before .before .next .ensures in
     let t = outcome-words (at-outcome .outcome .ensures ∙ ap (λ (h : Handed). h .outcome) e) (c .write .ensures) in
     (t .0, (ap (λ (h : Handed). h .slices) e, t .1))
 
 pub yajilin-next-spec : {M : Type 1} → statement M
 yajilin-next-spec =
     tie.close
-    (tie.spec next-requires outcome-requires write-requires same-length same-length-2 returns)
+    (tie.spec next-requires outcome-requires write-requires same-length same-length-2 same-length-3 returns)

@@ -21,14 +21,17 @@ same-length c = search needs
 same-length-2 : tie.Need-same-length-2
 same-length-2 c = search needs
 
+same-length-3 : tie.Need-same-length-3
+same-length-3 c = search needs
+
 returns : tie.Need-returns
 returns c =
     let at-outcome = c .before .before in
-    let e = at-outcome .before .before .before .before .search .ensures in
+    let e = at-outcome .before .before .before .before .before .before .search .ensures in
     let t = outcome-words (at-outcome .outcome .ensures ∙ ap (λ (h : Handed). h .outcome) e) (c .write .ensures) in
     (t .0, (ap (λ (h : Handed). h .slices) e, t .1))
 
 pub yajilin-search-spec : {M : Type 1} → statement M
 yajilin-search-spec =
     tie.close
-    (tie.spec search-requires outcome-requires write-requires same-length same-length-2 returns)
+    (tie.spec search-requires outcome-requires write-requires same-length same-length-2 same-length-3 returns)

@@ -16,7 +16,7 @@ s c = c .before .before .before .args .«record» .now
 
 -- the solver's call
 abbrev read-at : tie.After-solve-grid → tie.After-known-told
-read-at c = c .before .before .before .before .before .before
+read-at c = c .before .before .before .before .before .before .before
 
 abbrev solved-record : tie.After-solve-grid → List ℕ
 solved-record c = s (read-at c .before .before .before)
@@ -24,7 +24,7 @@ solved-record c = s (read-at c .before .before .before)
 abbrev lent-drawing : tie.After-solve-grid → List ℕ
 lent-drawing c = read-at c .before .before .before .before .before .before .args .drawing .now
 
-call : (c : tie.After-solve-grid) → Called (solved-record c) (lent-drawing c) (c .solve-grid .result) (c .solve-grid .last .1 .1 .1 .1 .1 .1 .0)
+call : (c : tie.After-solve-grid) → Called (solved-record c) (lent-drawing c) (c .solve-grid .result) (c .solve-grid .last .1 .1 .1 .1 .1 .1 .1 .0)
 call c =
     record {
       room = c .before .solve-grid-arg .given .0 .1;
@@ -33,7 +33,7 @@ call c =
     }
 
 abbrev solved : tie.After-answer → tie.After-solve-grid
-solved c = c .before .before .before .before .before .before
+solved c = c .before .before .before .before .before .before .before
 
 read-requires : tie.Need-read-requires
 read-requires c κs = search needs
@@ -76,9 +76,12 @@ slice-aggregate-solve-grid-3 c = search needs
 slice-aggregate-solve-grid-4 : tie.Need-slice-aggregate-solve-grid-4
 slice-aggregate-solve-grid-4 c = search needs
 
+slice-aggregate-solve-grid-5 : tie.Need-slice-aggregate-solve-grid-5
+slice-aggregate-solve-grid-5 c = search needs
+
 solve-grid-requires : tie.Need-solve-grid-requires
 solve-grid-requires c κs =
-    let accepted = c .before .before .before .before .before in
+    let accepted = c .before .before .before .before .before .before in
     sym (ap parsedOutcome (accepted .before .p .given .1)) ∙ accepted .before .before .before .read .ensures
 
 enum-known-answer : tie.Need-enum-known-answer
@@ -100,7 +103,7 @@ returns-2 : tie.Need-returns-2
 returns-2 c =
     let at-put = c .before .before in
     let told = at-put .before .before .before in
-    let v = told .before .before .before .before .before .before in
+    let v = told .before .before .before .before .before .before .before in
     ends-refused (call v) (told .enum-told2 .given .1) (at-put .before .outcome2 .ensures) (at-put .put-refused2 .ensures)
 
 enum-told-3 : tie.Need-enum-told-3
@@ -170,6 +173,7 @@ solve-record-spec =
     slice-aggregate-solve-grid-2
     slice-aggregate-solve-grid-3
     slice-aggregate-solve-grid-4
+    slice-aggregate-solve-grid-5
     solve-grid-requires
     enum-known-answer
     enum-told-2

@@ -1,10 +1,13 @@
 -- `search_step::undo` meets its contract. Assumes nothing.
-use Rattle.search_step.proofs.Append.{append-assign, Backed, UnassignedFrom, undo-nothing, back-below, back-inside, back-small}
-use Rattle.search_step.proofs.Append.{back-running, back-allowed, back-steps}
-use Prim.Native.Nat.{ℕ}
+use Rattle.search_step.proofs.Append.{append-assign, Backed, UnassignedFrom, undo-nothing, back-below, back-within, back-inside, back-numbered}
+use Rattle.search_step.proofs.Append.{back-small, back-running, back-allowed, back-steps}
+use Prim.Native.Nat.{ℕ, _<_}
 use native.Mathlib.Omega.{arith}
+use mathlib.Core.Path.{refl}
 use mathlib.Core.List.{List}
+use Rattle.search.specs.Trail.{Slices, slices}
 use Rattle.answers.proofs.First.{found-at, found-none}
+use Rattle.cnf.specs.Literals.{mostVariables}
 use Rattle.search_trail.proofs.Entries.{running-used}
 use borrow.Author.Needs.{needs}
 use Rattle.search_step.proofs.undo.Statement.{statement}
@@ -12,25 +15,28 @@ use Rattle.search_step.proofs.undo.Tie as tie
 
 -- the state at the start
 abbrev start1 : tie.After-p → tie.Start
-start1 c = c .before .before .before .before .before
+start1 c = c .before .before .before .before .before .before
 
-abbrev start2 : tie.After-slice-known2 → tie.Start
+abbrev start2 : tie.After-slice-known3 → tie.Start
 start2 c = start1 (c .before .before .before .before .before .before)
 
+abbrev lent : tie.Start → Slices
+lent c = slices (c .args .trail .now) (c .args .marks .now) (c .args .numbers .now)
+
 -- an entry marked 1 was found
-back : (c : tie.After-p) → Backed (start1 c .args .trail .now) (start1 c .args .marks .now) (start1 c .args .used) (c .p .given .0 .0)
+back : (c : tie.After-p) → Backed (lent (start1 c)) (start1 c .args .used) (c .p .given .0 .0)
 back c = record { was = start1 c .pre; last = found-at (c .p .given .1) (c .before .before .last-mark .ensures) }
 
 -- and the values from there on are taken away
 abbrev UnassignedFromAt : tie.Start → List ℕ → ℕ → Type 0
-UnassignedFromAt c ns i = UnassignedFrom (c .args .trail .now) (c .args .marks .now) ns (c .args .used) i
+UnassignedFromAt c ns i = UnassignedFrom (lent c) ns (c .args .used) i
 
-unassigned-from : (c : tie.After-slice-known2)
+unassigned-from : (c : tie.After-slice-known3)
     → UnassignedFromAt (start2 c) (c .before .before .unassign .last .1 .0) (c .before .before .before .before .before .before .p .given .0 .0)
 unassigned-from c = record { back = back (c .before .before .before .before .before .before); unassigns = c .before .before .unassign .ensures }
 
 last-mark-requires : tie.Need-last-mark-requires
-last-mark-requires c κs = running-used (c .before .before .pre)
+last-mark-requires c κs = running-used (c .before .before .before .pre .packed)
 
 enum-known-p : tie.Need-enum-known-p
 enum-known-p c = search needs
@@ -43,14 +49,14 @@ same-length c = search needs
 
 returns : tie.Need-returns
 returns c =
-    let start = c .before .before .before .before .before in
-    undo-nothing (start .args .trail .now) (start .args .marks .now) (start .args .used)
+    let start = c .before .before .before .before .before .before in
+    undo-nothing (lent start) (start .args .used)
     (found-none (c .enum-told .given .1) (c .before .before .last-mark .ensures))
 
 unassign-requires : tie.Need-unassign-requires
 unassign-requires c κs =
     let at = c .before .before .before in
-    (start1 at .pre, let h = back-below (back at) in omega arith)
+    (start1 at .pre .packed, let h = back-below (back at) in omega arith)
 
 negate-at-requires : tie.Need-negate-at-requires
 negate-at-requires c κs = let b = back (c .before .before .before .before .before .before .before) in (back-inside b, back-small b)
@@ -61,13 +67,26 @@ assign-requires c κs =
     let h = append-assign (back-running f) (back-allowed f) (c .before .before .before .negate-at .ensures) in
     ((h .0, h .1, omega arith), h .2)
 
-add-t19 : tie.Need-add-t19
-add-t19 c =
-    let b = unassigned-from (c .before .before .before .before .before .before .before .before) .back in
-    let h = back-below b in
-    let u = running-used (b .was) in
-    let f = b .was .few in
+-- the state in which the values were taken away, seen from that in which the number is
+abbrev taken : tie.After-slice-known4 → tie.After-slice-known3
+taken c = c .before .before .before .before .before .before .before .before
+
+-- few entries
+small : (c : tie.After-slice-known3) → c .before .before .before .before .before .before .p .given .0 .0 < mostVariables
+small c =
+    let b = unassigned-from c .back in
+    let h = back-within b in
+    let f = b .was .packed .few in
     omega arith
+
+mul-numbers : tie.Need-mul-numbers
+mul-numbers c = let f = small (taken c) in omega arith
+
+slice-write-numbers : tie.Need-slice-write-numbers
+slice-write-numbers c = back-numbered (unassigned-from (taken c) .back)
+
+add-t20 : tie.Need-add-t20
+add-t20 c = let f = small (taken c) in omega arith
 
 same-length-2 : tie.Need-same-length-2
 same-length-2 c = search needs
@@ -75,10 +94,13 @@ same-length-2 c = search needs
 same-length-3 : tie.Need-same-length-3
 same-length-3 c = search needs
 
+same-length-4 : tie.Need-same-length-4
+same-length-4 c = search needs
+
 returns-2 : tie.Need-returns-2
 returns-2 c =
     let negated = c .before .before .before .before .before .before in
-    back-steps (unassigned-from (negated .before .before)) (negated .negate-at .ensures) (c .before .before .assign .ensures)
+    back-steps (unassigned-from (taken c)) (negated .negate-at .ensures) (c .before .before .assign .ensures) refl
 
 pub undo-spec : {M : Type 1} → statement M
 undo-spec =
@@ -92,7 +114,10 @@ undo-spec =
     unassign-requires
     negate-at-requires
     assign-requires
-    add-t19
+    mul-numbers
+    slice-write-numbers
+    add-t20
     same-length-2
     same-length-3
+    same-length-4
     returns-2)

@@ -9,7 +9,8 @@ use Rattle.solver_call.proofs.solve.Statement.{statement}
 use Rattle.solver_call.proofs.solve.Tie as tie
 
 abbrev lent : tie.Start → Lent
-lent c = lentOf (c .args .list .now) (c .args .trail .now) (c .args .marks .now) (c .args .values .now) (c .args .drawing .now)
+lent c =
+    lentOf (c .args .list .now) (c .args .trail .now) (c .args .marks .now) (c .args .numbers .now) (c .args .values .now) (c .args .drawing .now)
 
 read-requires : tie.Need-read-requires
 read-requires c κs = search needs
@@ -26,13 +27,13 @@ refusal-requires c κs = search needs
 returns : tie.Need-returns
 returns c =
     let after = c .before .before .before in
-    let start = after .before .before .before .before .before in
+    let start = after .before .before .before .before .before .before in
     ends-refused (start .args .«record» .now) (start .args .budget) (lent start) (c .refusal .ensures) (after .read .ensures)
 
 -- the grid is the one that was read
 solve-grid-requires : tie.Need-solve-grid-requires
 solve-grid-requires c κs =
-    let accepted = c .before .before .before .before .before .before in
+    let accepted = c .before .before .before .before .before .before .before in
     sym (ap parsedOutcome (accepted .p .given .1)) ∙ accepted .before .before .read .ensures
 
 same-length : tie.Need-same-length
@@ -49,6 +50,9 @@ same-length-4 c = search needs
 
 same-length-5 : tie.Need-same-length-5
 same-length-5 c = search needs
+
+same-length-6 : tie.Need-same-length-6
+same-length-6 c = search needs
 
 returns-2 : tie.Need-returns-2
 returns-2 c = search needs
@@ -68,4 +72,5 @@ solve-spec =
     same-length-3
     same-length-4
     same-length-5
+    same-length-6
     returns-2)

@@ -13,11 +13,12 @@ use Rattle.solver_call.proofs.solve_grid.Statement.{statement}
 use Rattle.solver_call.proofs.solve_grid.Tie as tie
 
 abbrev lent : tie.Start → Lent
-lent c = lentOf (c .args .list .now) (c .args .trail .now) (c .args .marks .now) (c .args .values .now) (c .args .drawing .now)
+lent c =
+    lentOf (c .args .list .now) (c .args .trail .now) (c .args .marks .now) (c .args .numbers .now) (c .args .values .now) (c .args .drawing .now)
 
 -- the state at the start, once the clauses are counted and the cells too
 abbrev start1 : tie.After-count → tie.Start
-start1 c = c .before .before .before .before .before
+start1 c = c .before .before .before .before .before .before
 
 needed-is : (c : tie.After-size) →
     let start = start1 (c .before) in
@@ -30,7 +31,7 @@ needed-is c = λ i. record { elements = c .before .count .ensures i .elements; v
 
 count-requires : tie.Need-count-requires
 count-requires c κs =
-    let start = c .before .before .before .before in
+    let start = c .before .before .before .before .before in
     read-fits (start .args .«record» .now) {g = start .args .g} refl (start .pre)
 
 size-requires : tie.Need-size-requires
@@ -62,7 +63,7 @@ encode-grid-requires c κs =
 
 find-drawing-requires : tie.Need-find-drawing-requires
 find-drawing-requires c κs =
-    let encoded = c .before .before .before .before .before .before in
+    let encoded = c .before .before .before .before .before .before .before in
     let sought = encoded .before .before .before .before in
     let start = start1 (sought .before .before) in
     fits (start .args .«record» .now) (start .args .budget) (lent start) {g = start .args .g} refl (start .pre) (needed-is (sought .before))
@@ -84,10 +85,13 @@ same-length-4 c = search needs
 same-length-5 : tie.Need-same-length-5
 same-length-5 c = search needs
 
+same-length-6 : tie.Need-same-length-6
+same-length-6 c = search needs
+
 returns-2 : tie.Need-returns-2
 returns-2 c =
-    let drawn = c .before .before .before .before .before .before .before in
-    let encoded = drawn .before .before .before .before .before .before .before in
+    let drawn = c .before .before .before .before .before .before .before .before .before in
+    let encoded = drawn .before .before .before .before .before .before .before .before in
     let sought = encoded .before .before .before .before in
     let start = start1 (sought .before .before) in
     ends-solved (start .args .«record» .now) (start .args .budget) (lent start) {g = start .args .g} refl (start .pre) (needed-is (sought .before))
@@ -112,4 +116,5 @@ solve-grid-spec =
     same-length-3
     same-length-4
     same-length-5
+    same-length-6
     returns-2)
