@@ -5,8 +5,8 @@ use native.Mathlib.Numerals.{add-one}
 use borrow.Author.Tests.{eq-eqb, ne-eqb, lt-ltb, le-ltb}
 use lib.Dec.{eqb}
 use lib.IntN.{ℤ, pos, negsuc, natAbs}
-use lib.ListN.{length, getD, drop, drop-of-length-le}
-use lib.Seq.{drop-cons}
+use lib.ListN.{length, getD, take, drop, drop-of-length-le, length-take}
+use lib.Seq.{drop-cons, drop-drop}
 use mathlib.Core.Path.{_≡_, refl, sym, _∙_, ap}
 use mathlib.Core.Bool.{Bool, true, false, not, cond}
 use mathlib.Core.Option.{Option}
@@ -16,6 +16,7 @@ use Rattle.answers.specs.declared.Place.the-variants.{At, Nowhere}
 use Rattle.answers.specs.First.{placed, orElse}
 use Rattle.answers.specs.Lists.{tally}
 use Rattle.answers.proofs.Bools.{clash}
+use Rattle.answers.proofs.Lists.{many-most, many-parted}
 use Rattle.cnf.specs.Literals.{closes, codeOf, beyond, unclosed}
 use Rattle.cnf.specs.Clauses.{splitStep, split, clauseCount, placeAfter}
 
@@ -98,14 +99,30 @@ module _ {ls : List ℤ} {i n : ℕ} (c : ClausesCounted ls i n) where
   turn : i < length ls → (t : Bool) → closes (getD ls i (pos 0)) ≡ t → n + tally t (clauseCount (drop (i + 1) ls)) ≡ clauseCount ls
   turn h t e = rw (← e) (rw add-one (ap (λ r. n + clauseCount r) (sym (drop-cons ls i (pos 0) h)) ∙ c .rest))
 
-  pub count-closed : i < length ls → codeOf (getD ls i (pos 0)) ≡ 0 → ClausesCounted ls (i + 1) (n + 1)
+  pub count-closed : i < length ls → closes (getD ls i (pos 0)) ≡ true → ClausesCounted ls (i + 1) (n + 1)
   count-closed h e =
       let f = c .few in
-      let r = turn h true (code-closes (getD ls i (pos 0)) ∙ eq-eqb _ _ e) in
+      let r = turn h true e in
       record { within = omega arith; few = omega arith; rest = omega arith }
 
-  pub count-other : i < length ls → (codeOf (getD ls i (pos 0)) ≡ 0 → ⊥) → ClausesCounted ls (i + 1) n
-  count-other h e = let f = c .few in record { within = omega arith; few = omega arith; rest = turn h false (code-closes (getD ls i (pos 0)) ∙ ne-eqb _ _ e) }
+  pub count-other : i < length ls → closes (getD ls i (pos 0)) ≡ false → ClausesCounted ls (i + 1) n
+  count-other h e = let f = c .few in record { within = omega arith; few = omega arith; rest = turn h false e }
+
+  -- the next m elements
+  counted-part : (m : ℕ) → n + (clauseCount (take m (drop i ls)) + clauseCount (drop (i + m) ls)) ≡ clauseCount ls
+  counted-part m =
+      let parts = many-parted closes (drop i ls) m in
+      let rest : clauseCount (drop m (drop i ls)) ≡ clauseCount (drop (i + m) ls) = ap clauseCount (drop-drop m i ls) in
+      let all = c .rest in
+      omega arith
+
+  pub count-part : {k : ℕ} (m : ℕ) → i + m ≤ length ls → k ≡ clauseCount (take m (drop i ls)) → ClausesCounted ls (i + m) (n + k)
+  count-part {k} m h e =
+      let f = c .few in
+      let most = many-most closes (take m (drop i ls)) in
+      let long = length-take m (drop i ls) in
+      let all = counted-part m in
+      record { within = h; few = omega arith; rest = omega arith }
 
   pub count-end : length ls ≤ i → n ≡ clauseCount ls
   count-end h = let r : n + 0 ≡ clauseCount ls = ap (λ r. n + clauseCount r) (sym (drop-of-length-le ls h)) ∙ c .rest in omega arith

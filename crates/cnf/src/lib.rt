@@ -134,17 +134,33 @@ pub fn wrong_list(list: &[i32], v: usize) -> Place
     Place::Nowhere
 }
 
+// The closing zeros of a part of a list. A count of 32 bits is four to a machine word of the loop, where one of 64 is two.
+fn closed_in(part: &[i32]) -> u32
+    requires { ⌜ length (now part) < 2 ^ 32 ⌝ }
+    ensures { λ r. ⌜ r ≡ clauseCount (now (part .entry)) ⌝ }
+{
+    let mut n: u32 = 0;
+    let mut i: usize = 0;
+    while i < part.len() {
+        let end = closes_at(part, i);
+        i += 1;
+        if end {
+            n += 1;
+        }
+    }
+    n
+}
+
+// The number of clauses: the closing zeros of parts of 2^31 elements, and of what is left.
 pub fn clause_count(list: &[i32]) -> usize
     ensures { λ r. ⌜ r ≡ clauseCount (now (list .entry)) ⌝ }
 {
     let mut n: usize = 0;
     let mut i: usize = 0;
-    while i < list.len() {
-        let k = code_at(list, i);
-        i += 1;
-        if k == 0 {
-            n += 1;
-        }
+    while list.len() - i > 2147483648 {
+        let next = i + 2147483648;
+        n += closed_in(&list[i..next]) as usize;
+        i = next;
     }
-    n
+    n + closed_in(&list[i..]) as usize
 }
