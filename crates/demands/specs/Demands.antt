@@ -67,7 +67,7 @@ pub record Demand1 : Type 0 where
   pub text-reader : (text : List ℕ) (out : List ℤ) → ByRows (19 ∷ 6 ∷ []) (readerRows text (length out)) (readerAnswer text out) (readerLeaves text out ≡ out)
   -- (The places: each "first .." of the table is the least index at which a test holds; those beside 9 (the variable's number, from 1), 12, 15 (where no row
   -- before it that it depends on has its cause), 16 and 18 are said here in the table's words; beside 6 stand the elements needed; and the place beside 19 is
-  -- the "first byte where no accepted text can go on, or the text's length if it ends too soon".)
+  -- the "first byte where no accepted text can go on, or the text's length if it ends too soon". That beside 22, which is document 02's, is in RequestE10.)
   pub first-place : (p : ℕ → Bool) (n m : ℕ) → firstWhere p n ≡ some m ↔ Least p n m
   pub value-place : (values : List ℕ) (n : ℕ) → wrongValue values ≡ some n ↔ FirstWrongValue values n
   pub clue-place : (s ds : List ℕ) (x : ℕ) → clueNotMet (boardOf s) ds ≡ some x ↔ FirstUnmet (boardOf s .clues) ds x

@@ -7,17 +7,17 @@ use lib.ListN.{length, getD, drop}
 use mathlib.Core.Path.{_≡_}
 use mathlib.Core.Bool.{Bool, false}
 use mathlib.Core.Logic.{_↔_}
-use mathlib.Core.Option.{some}
+use mathlib.Core.Option.{none, some}
 use mathlib.Core.List.{List, [], _∷_}
 use Rattle.answers.specs.ByRows.{ByRows}
-use Rattle.answers.specs.First.{FirstIn}
+use Rattle.answers.specs.First.{firstWhere, FirstIn}
 use Rattle.answers.specs.Lists.{All}
-use Rattle.cnf.specs.Literals.{unclosed}
+use Rattle.cnf.specs.Literals.{unclosed, wrongList}
 use Rattle.search.specs.Trail.{Entry, entry, Trail, Slices, HasLength, entryAt, trailOf, variableValue, Agrees}
 use Rattle.search.specs.Step.{Moved, undoes, step}
 use Rattle.search.specs.Reasons.{wrongNumbers}
-use Rattle.search.specs.Call.{Search, Call, Searching, Following, rowsOf, begins, IsTaken, hands, bySearch, byNext, endsAt, resumed}
-use Rattle.search.specs.Cases.{NumberCase, numberCases, numbers}
+use Rattle.search.specs.Call.{Search, wrongLengths, wrongEntryAt, Call, Searching, Following, rowsOf, begins, IsTaken, hands, bySearch, byNext, endsAt, resumed}
+use Rattle.search.specs.Cases.{NumberCase, numberCases, called}
 use Rattle.search_theory.specs.Choices.{NoneFailed, ForcingClause, NoneForcing, LowestUnassigned}
 use Rattle.search_theory.specs.ListedSteps.{MarkedOne, Undoes, Leads}
 use Rattle.search_theory.specs.Reasons.{clauseNumbered, AllExplained, NumbersFault, renumbered, OnlyWay}
@@ -25,6 +25,12 @@ use Rattle.demands.specs.Demands.{Demand1, Demand2, Demand3}
 use Rattle.demands.specs.RequestE1.{RequestE1}
 use Rattle.demands.specs.RequestE2.{RequestE2}
 use Rattle.demands.specs.RequestE9.{RequestE9}
+
+-- 17, 16 and 18 have no cause
+pub record NoneBefore22 (c : Search) : Type 0 where
+  pub none-17 : wrongLengths (c .variables) (c .slices) (c .used) ≡ false
+  pub none-16 : wrongList (c .variables) (c .list) ≡ none
+  pub none-18 : firstWhere (wrongEntryAt (c .variables) (c .slices)) (c .used) ≡ none
 
 -- what was said of trails before
 pub record EarlierTrails : Type 0 where
@@ -42,7 +48,7 @@ pub record RequestE10 : Type 0 where
       → (entryAt (hands x c budget .slices) i .number ≡ 0 → ⊥) → (a : List Bool) → Agrees a (trailOf (hands x c budget .slices) i)
       → OnlyWay a (entryAt (hands x c budget .slices) i .literal) (clauseNumbered (c .list) (entryAt (hands x c budget .slices) i .number))
   -- "A third lent slice of V 64-bit numbers travels with the trail:"
-  -- (A call that is taken gets, and leaves, V elements in each slice.)
+  -- (A call that is taken gets, and leaves, V elements in each slice. In code they are of 64 bits.)
   pub gets-V : (x : Call) (c : Search) → IsTaken x c → HasLength (c .variables) (c .slices)
   pub leaves-V : (x : Call) (c : Search) → IsTaken x c → (budget : ℕ) → HasLength (c .variables) (hands x c budget .slices)
   -- "for an entry appended by a clause, that clause's number from 1;"
@@ -65,7 +71,8 @@ pub record RequestE10 : Type 0 where
   pub when-left : (x : Call) (c : Search) → IsTaken x c → (budget : ℕ) → AllExplained (c .list) (endsAt (hands x c budget))
   -- "A search refuses slices whose used entries break this or have a non-zero number beside a mark 1"
   pub refuses : (v : ℕ) (ls : List ℤ) → unclosed ls ≡ false → (s : Slices) (used i : ℕ) → wrongNumbers v ls s used ≡ some i ↔ NumbersFault v ls s used i
-  pub takes : (x : Call) (c : Search) → IsTaken x c → AllExplained (c .list) (begins c)
+  -- (So a search takes what 17, 16 and 18 do not refuse exactly if there are V numbers and each used entry keeps to it.)
+  pub takes : (c : Search) → IsTaken Searching c ↔ (NoneBefore22 c × (length (c .slices .numbers) ≡ c .variables) × AllExplained (c .list) (begins c))
   -- "(numbers at unused entries aren't looked at on the way in),"
   -- (With other numbers there a call tells the same, and, where it is taken, leaves the same.)
   pub unused-unread : (c : Search) (ns : List ℕ) → length ns ≡ length (c .slices .numbers)
@@ -82,4 +89,4 @@ pub record RequestE10 : Type 0 where
   pub next-rows : (c : Search) (budget : ℕ)
       → ByRows (17 ∷ 16 ∷ 18 ∷ 22 ∷ 20 ∷ []) (rowsOf c Following) (byNext c budget .outcome) (byNext c budget .slices ≡ c .slices)
   -- (Calls, computed: all that they hand out.)
-  pub samples : All (λ (c : NumberCase). numbers c ≡ c) numberCases
+  pub samples : All (λ (c : NumberCase). called c ≡ c) numberCases

@@ -13,7 +13,7 @@ pub record RequestE2 : Type 0 where
   pub goes-on : (c : Search) → IsTaken Searching c → (a : ℕ) → Says (bySearch c a) Halted → IsTaken Searching (resumed c (bySearch c a))
   pub adds-up : (c : Search) → IsTaken Searching c → (a : ℕ) → Says (bySearch c a) Halted → (b : ℕ)
       → bySearch c (a + b) ≡ inAll (bySearch c a) (bySearch (resumed c (bySearch c a)) b)
-  -- "A larger budget never alters a "found" or a "none"." (Nor its steps, trail and marks.)
+  -- "A larger budget never alters a "found" or a "none"." (Nor its steps and its slices.)
   pub unaltered : (c : Search) → IsTaken Searching c → (a : ℕ) → (Says (bySearch c a) Halted → ⊥) → (b : ℕ) → a ≤ b → bySearch c b ≡ bySearch c a
   -- The same for `next`, which goes on by the search;
   pub next-goes-on : (c : Search) → IsTaken Following c → (a : ℕ) → 1 ≤ a → Says (byNext c a) Halted → IsTaken Searching (resumed c (byNext c a))

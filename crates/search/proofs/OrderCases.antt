@@ -20,7 +20,9 @@ unfolding firstFrom trailOf
 list-first = refl
 
 -- after −1 was forced, the clause 1 has failed and the clause 2 would force: none at step 2
-pub failed-first : bySearch (searchOn 2 (negsuc 0 ∷ pos 0 ∷ pos 1 ∷ pos 0 ∷ pos 2 ∷ pos 0 ∷ []) (pos 0 ∷ pos 0 ∷ []) (0 ∷ 0 ∷ []) (0 ∷ 0 ∷ []) 0) 9 .outcome ≡ answer 2 2 1
+pub failed-first :
+    bySearch (searchOn 2 (negsuc 0 ∷ pos 0 ∷ pos 1 ∷ pos 0 ∷ pos 2 ∷ pos 0 ∷ []) (pos 0 ∷ pos 0 ∷ []) (0 ∷ 0 ∷ []) (0 ∷ 0 ∷ []) 0) 9 .outcome
+    ≡ answer 2 2 1
 unfolding firstFrom trailOf variableValue everyLiteral overClauses forcedAt failedClause forcedPlace lowestUnassigned undo step run
 failed-first = refl
 

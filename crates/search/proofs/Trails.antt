@@ -21,16 +21,20 @@ unfolding trailOf
 same-trail s r zero h = refl
 same-trail s r (suc n) h = (λ t. h n (omega arith) t ∷ same-trail s r n (λ i l. h i (omega arith)) t)
 
+-- slices with an entry written
+abbrev pub setEntry : Slices → ℕ → Entry → Slices
+setEntry s i e = slices (set (s .trail) i (e .literal)) (set (s .marks) i (e .mark)) (set (s .numbers) i (e .number))
+
 -- a trail with an entry more
 pub trail-set : (s : Slices) (i : ℕ) (e : Entry) → i < length (s .trail) → i < length (s .marks) → i < length (s .numbers)
-    → trailOf (slices (set (s .trail) i (e .literal)) (set (s .marks) i (e .mark)) (set (s .numbers) i (e .number))) (suc i) ≡ e ∷ trailOf s i
+    → trailOf (setEntry s i e) (suc i) ≡ e ∷ trailOf s i
 unfolding trailOf
 trail-set s i e h k m =
     (λ t. entry (getD-set-same (s .trail) i (e .literal) (pos 0) h t) (getD-set-same (s .marks) i (e .mark) 0 k t)
     (getD-set-same (s .numbers) i (e .number) 0 m t)
-    ∷ same-trail (slices (set (s .trail) i (e .literal)) (set (s .marks) i (e .mark)) (set (s .numbers) i (e .number))) s i same t)
+    ∷ same-trail (setEntry s i e) s i same t)
   where
-    same : (j : ℕ) → j < i → entryAt (slices (set (s .trail) i (e .literal)) (set (s .marks) i (e .mark)) (set (s .numbers) i (e .number))) j ≡ entryAt s j
+    same : (j : ℕ) → j < i → entryAt (setEntry s i e) j ≡ entryAt s j
     same j l =
         let n : j ≡ i → ⊥ = λ q. omega arith in
         (λ t. entry (getD-set-other (s .trail) i j (e .literal) (pos 0) n t) (getD-set-other (s .marks) i j (e .mark) 0 n t)

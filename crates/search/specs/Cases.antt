@@ -113,6 +113,8 @@ numberCases =
     refused Searching 22 0 (searchOn 1 (pos 1 ∷ pos 0 ∷ []) (pos 1 ∷ []) (1 ∷ []) (1 ∷ []) 1) ∷
     refused Searching 22 0 (searchOn 1 (pos 1 ∷ pos 0 ∷ []) (pos 1 ∷ []) (0 ∷ []) (18446744073709551615 ∷ []) 1) ∷
     refused Searching 22 0 (searchOn 1 (pos 1 ∷ pos 0 ∷ []) (negsuc 0 ∷ []) (0 ∷ []) (1 ∷ []) 1) ∷
+    -- the first entry that breaks it: trail `1 2`, of which clause `1 0` is a reason for the first alone
+    refused Searching 22 1 (searchOn 2 (pos 1 ∷ pos 0 ∷ []) (pos 1 ∷ pos 2 ∷ []) (0 ∷ 0 ∷ []) (1 ∷ 1 ∷ []) 2) ∷
     -- `1 1 0` is a reason for 1; `1 -1 0` for nothing
     record {
       call = Searching;
@@ -121,12 +123,27 @@ numberCases =
       says = handed (answer 1 1 1) (pos 1 ∷ []) (0 ∷ []) (1 ∷ []);
     } ∷
     refused Searching 22 0 (searchOn 1 (pos 1 ∷ negsuc 0 ∷ pos 0 ∷ []) (pos 1 ∷ []) (0 ∷ []) (1 ∷ []) 1) ∷
-    -- no numbers: 22, after 18 and before 20
+    -- no numbers: 22, after 16 and 18 and before 20
+    refused Searching 16 0 (searchOn 1 (pos 5 ∷ []) (pos 0 ∷ []) (0 ∷ []) [] 0) ∷
     refused Searching 22 0 (searchOn 1 (pos 1 ∷ pos 0 ∷ []) (pos 0 ∷ []) (0 ∷ []) [] 0) ∷
     refused Searching 18 0 (searchOn 1 (pos 1 ∷ pos 0 ∷ []) (pos 0 ∷ []) (0 ∷ []) [] 1) ∷
     refused Following 22 0 (searchOn 1 (pos 1 ∷ pos 0 ∷ []) (pos 0 ∷ []) (0 ∷ []) [] 0) ∷
     -- the unused mark 255 and the unused number stay as they were
     refused Searching 22 0 (searchOn 2 [] (negsuc 1 ∷ pos 9 ∷ []) (0 ∷ 255 ∷ []) (5 ∷ 9 ∷ []) 1) ∷
+    -- with budget 0 the unused ones are written 0
+    record {
+      call = Searching;
+      gets = searchOn 2 [] (pos 1 ∷ pos 9 ∷ []) (1 ∷ 9 ∷ []) (0 ∷ 9 ∷ []) 1;
+      budget = 0;
+      says = handed (answer 3 0 1) (pos 1 ∷ pos 0 ∷ []) (1 ∷ 0 ∷ []) (0 ∷ 0 ∷ []);
+    } ∷
+    -- `1 2 0 1 -2 0`: after the choice −1 clause 1 forces 2, clause 2 has failed, and −1 is negated
+    record {
+      call = Searching;
+      gets = searchOn 2 (pos 1 ∷ pos 2 ∷ pos 0 ∷ pos 1 ∷ negsuc 1 ∷ pos 0 ∷ []) (pos 0 ∷ pos 0 ∷ []) (0 ∷ 0 ∷ []) (0 ∷ 0 ∷ []) 0;
+      budget = 3;
+      says = handed (answer 3 3 1) (pos 1 ∷ pos 0 ∷ []) (0 ∷ 0 ∷ []) (0 ∷ 0 ∷ []);
+    } ∷
     -- `-1 2 0 1 0` halted after two steps with two entries used, the first by clause 2 and the second by clause 1
     record {
       call = Searching;
@@ -134,7 +151,7 @@ numberCases =
       budget = 2;
       says = handed (answer 3 2 2) (pos 1 ∷ pos 2 ∷ pos 0 ∷ []) (0 ∷ 0 ∷ 0 ∷ []) (2 ∷ 1 ∷ 0 ∷ []);
     } ∷
-    -- `next` drops −1 of `-1 -2`, which clause `1 -2 0` had given the second: the negated choice has the number 0
+    -- `next` on `-1 -2`, whose second entry is by clause `1 -2 0`: it drops the choice −1, and the negated choice has the number 0
     record {
       call = Following;
       gets = searchOn 2 (pos 1 ∷ negsuc 1 ∷ pos 0 ∷ []) (negsuc 0 ∷ negsuc 1 ∷ []) (1 ∷ 0 ∷ []) (0 ∷ 1 ∷ []) 2;
@@ -144,5 +161,5 @@ numberCases =
     []
 
 -- the same call, with what it hands out
-abbrev pub numbers : NumberCase → NumberCase
-numbers c = record { call = c .call; gets = c .gets; budget = c .budget; says = hands (c .call) (c .gets) (c .budget) }
+abbrev pub called : NumberCase → NumberCase
+called c = record { call = c .call; gets = c .gets; budget = c .budget; says = hands (c .call) (c .gets) (c .budget) }

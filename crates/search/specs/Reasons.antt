@@ -11,15 +11,11 @@ use Rattle.answers.specs.Outcome.{cause}
 use Rattle.cnf.specs.Literals.{codeOf}
 use Rattle.cnf.specs.Clauses.{placeAfter}
 use Rattle.search.specs.Trail.{Entry, Slices, entryAt, trailOf, variableValue}
-use Rattle.search.specs.Step.{everyLiteral, fails}
+use Rattle.search.specs.Step.{everyLiteral, fails, passesBut}
 
 -- a literal that is not l
 abbrev pub differs : ℤ → ℤ → Bool
 differs l k = not (eqb (codeOf k) (codeOf l))
-
--- a literal that is l, or passes the test
-abbrev pub passesBut : (ℤ → Bool) → ℤ → ℤ → Bool
-passesBut p l k = eqb (codeOf k) (codeOf l) || p k
 
 -- the clause at hand holds l, and every literal in it that differs from that one passes the test. (At the list's end there is none: then neither `everyLiteral`
 -- holds.)

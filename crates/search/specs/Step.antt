@@ -35,9 +35,13 @@ fails w l = isFalse (literalValue w l)
 abbrev pub failedAt : Values → ℕ → List ℤ → Option ℕ
 failedAt w i c = found (everyLiteral (fails w) c) i none
 
+-- a literal that is l, or passes the test
+abbrev pub passesBut : (ℤ → Bool) → ℤ → ℤ → Bool
+passesBut p l k = eqb (codeOf k) (codeOf l) || p k
+
 -- a literal that is l, or false
 abbrev pub failsBut : Values → ℤ → ℤ → Bool
-failsBut w l k = eqb (codeOf k) (codeOf l) || fails w k
+failsBut w l k = passesBut (fails w) l k
 
 -- what a literal of a clause leaves to be found: nothing if it is true, what the rest gives if it is false, else itself
 abbrev pub byValue : Value → Option ℕ → Option ℕ → Option ℕ

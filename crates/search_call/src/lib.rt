@@ -39,7 +39,7 @@ pub struct End {
     pub used: usize,
 }
 
-// Why a call is turned down: 17, 16 and 18 of document 01's table, 22 of document 02, and 20 of it, of `next` only.
+// Why a call is turned down: 17, 16 and 18 of document 01's table, 22 of E10, and 20 of E1, which is `next`'s only.
 pub enum SearchRefusal {
     Lengths,
     List(usize),

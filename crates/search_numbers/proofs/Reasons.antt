@@ -14,8 +14,8 @@ use Rattle.answers.proofs.First.{Seeking, seek-start, seek-on}
 use Rattle.cnf.specs.Literals.{closes, codeOf}
 use Rattle.cnf.specs.Clauses.{placeAfter}
 use Rattle.search.specs.Trail.{Entry, Slices, Values, entryAt, trailOf, variableValue}
-use Rattle.search.specs.Step.{everyLiteral}
-use Rattle.search.specs.Reasons.{differs, passesBut, isReason, wrongNumber}
+use Rattle.search.specs.Step.{everyLiteral, passesBut}
+use Rattle.search.specs.Reasons.{differs, isReason, wrongNumber}
 use Rattle.answers.specs.First.{Until}
 use Rattle.answers.proofs.Bounds.{until-here, until-end}
 use Rattle.search_numbers.specs.Window.{bytesOf, noted, bytePasses, wrongIn}

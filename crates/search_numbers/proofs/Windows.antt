@@ -11,15 +11,14 @@ use mathlib.Core.Path.{_≡_, refl, sym, _∙_, ap}
 use mathlib.Core.Bool.{Bool, true, false, not, _&&_, _||_, and-true, or-and-distrib-left}
 use mathlib.Core.Option.{none, some}
 use mathlib.Core.List.{List, [], _∷_}
-use Rattle.answers.specs.First.{firstWhere}
+use Rattle.answers.specs.First.{firstWhere, Until}
 use Rattle.cnf.specs.Literals.{closes, codeOf}
 use Rattle.cnf.specs.Clauses.{placeAfter}
 use Rattle.cnf.proofs.Lists.{some-variable}
 use Rattle.search.specs.Trail.{Entry, Slices, Values, entryAt, trailOf, variableValue}
-use Rattle.search.specs.Step.{everyLiteral, fails}
-use Rattle.search.specs.Reasons.{differs, passesBut, isReason, fromNumber, wrongNumber, wrongNumberAt, wrongNumbers}
+use Rattle.search.specs.Step.{everyLiteral, fails, passesBut}
+use Rattle.search.specs.Reasons.{differs, isReason, fromNumber, wrongNumber, wrongNumberAt, wrongNumbers}
 use Rattle.search_scan.specs.PackedValues.{Within}
-use Rattle.answers.specs.First.{Until}
 use Rattle.answers.proofs.Bounds.{until-found, until-none, until-both, until-same}
 use Rattle.search_numbers.specs.Entries.{HasEntries, numberedAt}
 use Rattle.search_numbers.specs.Window.{passes, wrongIn}

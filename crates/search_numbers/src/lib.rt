@@ -376,7 +376,7 @@ fn with_large_table(
     with_table(v, list, &mut table, trail, marks, numbers, n)
 }
 
-// The same: few variables need no large table.
+// The same: few variables and short lists need no large table.
 fn first_wrong_number(
     v: usize,
     list: &[i32],
@@ -390,6 +390,9 @@ fn first_wrong_number(
         ⌜ Until (wrongNumberAt (now (list .entry)) s) n r ⌝ }
 {
     if v <= 1024 {
+        return with_small_table(v, list, trail, marks, numbers, n);
+    }
+    if list.len() <= 1024 {
         return with_small_table(v, list, trail, marks, numbers, n);
     }
     with_large_table(v, list, trail, marks, numbers, n)

@@ -80,6 +80,11 @@ right-list v ls h =
     let n = neither (firstWhere (beyondAt v ls) (length ls)) _ h in
     (first-none (beyondAt v ls) (length ls) (n .0), not-found (unclosed ls) (length ls) (n .1))
 
+-- 22 has no cause
+pub right-numbers : {v : ℕ} (ls : List ℤ) → unclosed ls ≡ false → (s : Slices) (used : ℕ) → length (s .numbers) ≡ v → AllExplained ls (trailOf s used)
+    → wrongNumbers v ls s used ≡ none
+right-numbers {v} ls closed s used long x = rw (eq-eqb (length (s .numbers)) v long) (none-first _ used (explained-read ls closed s used x))
+
 -- the search's rows are the first of either call
 first-rows : (x : Call) (s : Search) → Clear (rowsOf s x) → Clear (searchRows s)
 first-rows Searching s c = c
@@ -125,8 +130,7 @@ module _ {x : Call} {s : Search} (ok : IsTaken x s) where
   taken-other r n long h l x =
       let v = s .variables in
       let lengths = right-lengths r (record { few = taken-sized .few; trail = long .trail; marks = long .marks; inside = h }) in
-      let numbers : wrongNumbers v (s .list) r n ≡ none =
-      rw (eq-eqb (length (r .numbers)) v (long .numbers)) (none-first _ n (explained-read (s .list) taken-closed r n x)) in
+      let numbers = right-numbers (s .list) taken-closed r n (long .numbers) x in
       record { clear = (ap cause lengths, (rows .1 .0, (none-first _ n (legal-read v r n l), (numbers, tt)))) }
 
   -- in its image

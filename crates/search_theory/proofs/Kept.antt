@@ -49,7 +49,8 @@ module _ (P : Trail → Entry → Type 0) (negates : (t : Trail) (e : Entry) →
         on (some i) e = (forces t i e, c)
         on none e = last (lowestUnassigned v (variableValue t)) refl
 
-        by : (o : Option ℕ) → KeptNext P (onFailed o t (onForced (forcedPlace (variableValue t) ls) ls t (onUnassigned (lowestUnassigned v (variableValue t)) t)))
+        by : (o : Option ℕ)
+            → KeptNext P (onFailed o t (onForced (forcedPlace (variableValue t) ls) ls t (onUnassigned (lowestUnassigned v (variableValue t)) t)))
         by (some i) = undoing (undo t) refl
         by none = on (forcedPlace (variableValue t) ls) refl
 

@@ -1,4 +1,4 @@
--- The trails that are accepted, entry by entry. Assumes nothing.
+-- Legal trails, and what holds of each entry of a trail. Assumes nothing.
 use Prim.Native.Nat.{ℕ, zero, suc, _≤_, _<_}
 use native.Mathlib.Omega.{arith}
 use native.Mathlib.Decide.{ℕ-discrete}

@@ -1,5 +1,5 @@
--- Theorems about the search and `next`. Read Theorems.antt (every call), ListedSteps.antt (its steps), Budgets.antt (calls in parts) and Listing.antt (calls
--- carried on until "none"): they state the results. The others are in the order of the proofs.
+-- Theorems about the search and `next`. Read Theorems.antt (every call), ListedSteps.antt (its steps), Numbers.antt (the clause behind each entry),
+-- Budgets.antt (calls in parts) and Listing.antt (calls carried on until "none"): they state the results. The others are in the order of the proofs.
 pub mod Theorems
 pub mod Lists
 pub mod Values

@@ -1,5 +1,5 @@
 -- The numbers of a trail: row 22 is E10's own words, what it says holds of each entry that a step makes, and what follows for the assignments that agree with
--- the entries before. Read `number-place`, `explained-run`, `explained-leads` and `only-way`. Assumes nothing.
+-- the entries before. Read `number-place`, `explained-step`, `explained-run` and `only-way`. Assumes nothing.
 use Prim.Native.Nat.{ℕ, zero, suc, _+_, _-_, _≤_, _<_}
 use native.Mathlib.Omega.{arith}
 use native.Mathlib.Numerals.{add-one}
@@ -23,11 +23,11 @@ use Rattle.cnf.specs.Literals.{closes, codeOf, unclosed}
 use Rattle.cnf.specs.Clauses.{split, clauseCount, clauseNumber, placeAfter, value}
 use Rattle.cnf.proofs.Lists.{closed-rest}
 use Rattle.search.specs.Trail.{Entry, entry, Trail, Slices, entryAt, trailOf, False, isFalse, Values, literalValue, variableValue, Agrees}
-use Rattle.search.specs.Step.{everyLiteral, fails, forcedPlace, negated, undo, step}
+use Rattle.search.specs.Step.{everyLiteral, fails, passesBut, forcedPlace, negated, undo, step}
 use Rattle.search.specs.Run.{run}
-use Rattle.search.specs.Reasons.{differs, passesBut, isReason, fromNumber, wrongNumber, wrongNumberAt, wrongNumbers}
+use Rattle.search.specs.Reasons.{differs, isReason, fromNumber, wrongNumber, wrongNumberAt, wrongNumbers}
 use Rattle.search_theory.specs.Choices.{ForcingClause}
-use Rattle.search_theory.specs.Reasons.{Reason, clauseNumbered, HasReason, Explained, AllExplained, NumberFault, NumbersFault, not-long, breaking, OnlyWay}
+use Rattle.search_theory.specs.Reasons.{Reason, clauseNumbered, HasReason, Explained, AllExplained, BreaksAt, NumbersFault, not-long, breaking, OnlyWay}
 use Rattle.search_theory.proofs.Lists.{all-map, meet}
 use Rattle.search_theory.proofs.OverClauses.{Begins, begins-first, Tested, every, beginning, beginning-rest}
 use Rattle.search_theory.proofs.Values.{literal-false}
@@ -45,7 +45,9 @@ split-after [] (suc n) = refl
 split-after (l ∷ ls) n = by n (closes l) refl (split-after ls)
   where
     less : (m : ℕ) → drop (suc m) (split (l ∷ ls)) ≡ drop m (beginning (closes l) ls)
-    less m = let e : suc m ≡ 1 + m = omega arith in ap (λ k. drop k (split (l ∷ ls))) e ∙ sym (drop-drop m 1 (split (l ∷ ls))) ∙ ap (drop m) (beginning-rest l ls)
+    less m =
+        let e : suc m ≡ 1 + m = omega arith in
+        ap (λ k. drop k (split (l ∷ ls))) e ∙ sym (drop-drop m 1 (split (l ∷ ls))) ∙ ap (drop m) (beginning-rest l ls)
 
     nonzero : (m : ℕ) → eqb (suc m) 0 ≡ false
     nonzero m = ne-eqb (suc m) 0 (λ e. omega arith)
@@ -80,7 +82,8 @@ module _ (w : Values) (l : ℤ) where
     where
       other : (k : ℤ) → passesBut (fails w) l k ≡ true → (k ≡ l → ⊥) → literalValue w k ≡ False
       other k h n =
-          ⊎-elim (λ e. absurd (n (same-code k l (eqb-true (codeOf k) (codeOf l) e)))) (is-false (literalValue w k)) (or-cases (eqb (codeOf k) (codeOf l)) (fails w k) h)
+          let same : eqb (codeOf k) (codeOf l) ≡ true → literalValue w k ≡ False = λ e. absurd (n (same-code k l (eqb-true (codeOf k) (codeOf l) e))) in
+          ⊎-elim same (is-false (literalValue w k)) (or-cases (eqb (codeOf k) (codeOf l)) (fails w k) h)
   tested false false c p q = (λ h. clash h refl, λ r. meet not-false-one c q (r .others))
     where
       not-false-one : (k : ℤ) → passesBut (fails w) l k ≡ false → ((k ≡ l → ⊥) → literalValue w k ≡ False) → false ≡ true
@@ -119,9 +122,13 @@ module _ (ls : List ℤ) (closed : unclosed ls ≡ false) where
               omega arith
 
           is : isReason (fails w) l (x ∷ xs) ≡ true ↔ Reason w l (clauseNumbered ls n)
-          is = tested w l (everyLiteral (differs l) (x ∷ xs)) (everyLiteral (passesBut (fails w) l) (x ∷ xs)) (clauseNumbered ls n) (at (differs l)) (at (passesBut (fails w) l))
+          is =
+              let has = everyLiteral (differs l) (x ∷ xs) in
+              let others = everyLiteral (passesBut (fails w) l) (x ∷ xs) in
+              tested w l has others (clauseNumbered ls n) (at (differs l)) (at (passesBut (fails w) l))
 
-  has-reason : (t : Trail) (e : Entry) → (e .number ≡ 0 → ⊥) → isReason (fails (variableValue t)) (e .literal) (fromNumber ls (e .number)) ≡ true ↔ HasReason ls t e
+  has-reason : (t : Trail) (e : Entry) → (e .number ≡ 0 → ⊥)
+      → isReason (fails (variableValue t)) (e .literal) (fromNumber ls (e .number)) ≡ true ↔ HasReason ls t e
   has-reason t e n =
       let from : 1 ≤ e .number = omega arith in
       let is = reason-exactly (variableValue t) (e .literal) (e .number) from in
@@ -146,7 +153,7 @@ module _ (ls : List ℤ) (closed : unclosed ls ≡ false) where
           to h = let n = or-neither (eqb (e .mark) 1) (not r) h in (eqb-false (e .mark) 1 (n .0), has-reason t e nonzero .0 (not-false r (n .1)))
 
   module _ (s : Slices) where
-    fault-exactly : (i : ℕ) → wrongNumberAt ls s i ≡ true ↔ NumberFault ls s i
+    fault-exactly : (i : ℕ) → wrongNumberAt ls s i ≡ true ↔ BreaksAt ls s i
     fault-exactly i = (to, from)
       where
         e : Entry
@@ -155,7 +162,7 @@ module _ (ls : List ℤ) (closed : unclosed ls ≡ false) where
         r : Bool
         r = isReason (fails (variableValue (trailOf s i))) (e .literal) (fromNumber ls (e .number))
 
-        to : wrongNumberAt ls s i ≡ true → NumberFault ls s i
+        to : wrongNumberAt ls s i ≡ true → BreaksAt ls s i
         to h =
             let b = and-both (not (eqb (e .number) 0)) (eqb (e .mark) 1 || not r) h in
             let nonzero = eqb-false (e .number) 0 (not-true _ (b .0)) in
@@ -165,7 +172,7 @@ module _ (ls : List ℤ) (closed : unclosed ls ≡ false) where
               breaks = ⊎-elim (λ q. inl (eqb-true (e .mark) 1 q)) (λ q. inr (broken (not-true r q))) (or-cases (eqb (e .mark) 1) (not r) (b .1));
             }
 
-        from : NumberFault ls s i → wrongNumberAt ls s i ≡ true
+        from : BreaksAt ls s i → wrongNumberAt ls s i ≡ true
         from f =
             let marked : e .mark ≡ 1 → eqb (e .mark) 1 || not r ≡ true = λ m. or-left (eqb (e .mark) 1) (not r) (eq-eqb (e .mark) 1 m) in
             let broken : (HasReason ls (trailOf s i) e → ⊥) → eqb (e .mark) 1 || not r ≡ true =
@@ -176,8 +183,8 @@ module _ (ls : List ℤ) (closed : unclosed ls ≡ false) where
     pub number-place : (v used i : ℕ) → wrongNumbers v ls s used ≡ some i ↔ NumbersFault v ls s used i
     number-place v used i = by (eqb (length (s .numbers)) v) refl
       where
-        first : (j : ℕ) → firstWhere (wrongNumberAt ls s) used ≡ some j ↔ LeastWith (NumberFault ls s) used j
-        first = first-with (wrongNumberAt ls s) (NumberFault ls s) used (λ k h. fault-exactly k)
+        first : (j : ℕ) → firstWhere (wrongNumberAt ls s) used ≡ some j ↔ LeastWith (BreaksAt ls s) used j
+        first = first-with (wrongNumberAt ls s) (BreaksAt ls s) used (λ k h. fault-exactly k)
 
         by : (z : Bool) → eqb (length (s .numbers)) v ≡ z
             → orElse (cause (not z)) (firstWhere (wrongNumberAt ls s) used) ≡ some i ↔ NumbersFault v ls s used i
@@ -241,7 +248,11 @@ module _ (v : ℕ) (ls : List ℤ) (closed : unclosed ls ≡ false) where
 
 pub only-way : {ls : List ℤ} {t : Trail} {e : Entry} → HasReason ls t e → (a : List Bool) → Agrees a t → OnlyWay a (e .literal) (clauseNumbered ls (e .number))
 only-way {ls} {t} {e} r a g =
-    record { no-other = no-other; forced = λ s. meet (λ k q f. ap (value a) (sym (f q)) ∙ q) (clauseNumbered ls (e .number)) s no-other }
+    record {
+      holds = r .reason .holds;
+      no-other = no-other;
+      forced = λ s. meet (λ k q f. ap (value a) (sym (f q)) ∙ q) (clauseNumbered ls (e .number)) s no-other;
+    }
   where
     is : (k : ℤ) → ((k ≡ e .literal → ⊥) → literalValue (variableValue t) k ≡ False) → value a k ≡ true → k ≡ e .literal
     is k f q = by (eqb (codeOf k) (codeOf (e .literal))) refl

@@ -1,4 +1,4 @@
--- Legal trails: those that a search takes, since no used entry has a fault of row 18 (`legal-exactly`).
+-- Legal trails: no used entry has a fault of row 18 (`legal-exactly`). A search asks row 22 too: Reasons.antt.
 use Prim.Native.Nat.{ℕ, _≤_}
 use lib.IntN.{ℤ, natAbs}
 use mathlib.Core.Path.{_≡_}

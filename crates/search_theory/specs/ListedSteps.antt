@@ -1,5 +1,5 @@
--- Document 01's "One step does the first that applies", with E9's order of forced literals, as relations: the listed steps, what they lead to, and what a
--- call comes to by them.
+-- Document 01's "One step does the first that applies", with E9's order of forced literals and E10's numbers, as relations: the listed steps, what they lead
+-- to, and what a call comes to by them.
 use Prim.Native.Nat.{ℕ, suc, _<_}
 use lib.IntN.{ℤ, pos, negℤ}
 use lib.ListN.{drop}

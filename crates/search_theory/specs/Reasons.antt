@@ -37,21 +37,22 @@ abbrev pub AllExplained : List ℤ → Trail → Type 0
 AllExplained ls t = EachEntry (Explained ls) t
 
 -- "used entries" that "break this or have a non-zero number beside a mark 1": the entry at index i
-pub record NumberFault (ls : List ℤ) (s : Slices) (i : ℕ) : Type 0 where
+pub record BreaksAt (ls : List ℤ) (s : Slices) (i : ℕ) : Type 0 where
   pub nonzero : entryAt s i .number ≡ 0 → ⊥
   pub breaks : (entryAt s i .mark ≡ 1) ⊎ (HasReason ls (trailOf s i) (entryAt s i) → ⊥)
 
 -- "22, third slice not V long (beside it 0) or breaking this (the first entry)"
 pub data NumbersFault (v : ℕ) (ls : List ℤ) (s : Slices) (used : ℕ) : ℕ → Type 0 where
   not-long : (length (s .numbers) ≡ v → ⊥) → NumbersFault v ls s used 0
-  breaking : {i : ℕ} → length (s .numbers) ≡ v → LeastWith (NumberFault ls s) used i → NumbersFault v ls s used i
+  breaking : {i : ℕ} → length (s .numbers) ≡ v → LeastWith (BreaksAt ls s) used i → NumbersFault v ls s used i
 
 -- what a call gets, with other numbers
 abbrev pub renumbered : Search → List ℕ → Search
 renumbered c ns = onSlices c (slices (c .slices .trail) (c .slices .marks) ns) (c .used)
 
--- "why a cell was forced": under the assignments that agree with the entries before it, no other literal of its clause is true; so where the clause has a
--- true literal, that is the entry's
+-- "why a cell was forced": the clause holds the entry's literal, and under the assignments that agree with the entries before it no other literal of it is
+-- true; so where the clause has a true literal, that is the entry's
 pub record OnlyWay (a : List Bool) (l : ℤ) (c : List ℤ) : Type 0 where
+  pub holds : l ∈ c
   pub no-other : All (λ k. value a k ≡ true → k ≡ l) c
   pub forced : Some (λ k. value a k ≡ true) c → value a l ≡ true

@@ -18,7 +18,7 @@ use Rattle.search_theory.specs.Legal.{Legal}
 use Rattle.search_theory.proofs.Legal.{same-legal}
 use Rattle.search_theory.proofs.Full.{legal-length}
 use Rattle.search_scan.specs.PackedValues.{valueOf, packedValues, bareMarks, numberOf, packed}
-use Rattle.search_trail.specs.Packed.{runningTrail, packedTrail, packedMarks, Packed, Running, withTrail}
+use Rattle.search_trail.specs.Packed.{bareSlices, runningTrail, packedTrail, packedMarks, Packed, Running, withTrail}
 use Rattle.search_trail.proofs.Bytes.{low-most, proper-byte, length-packed, packed-bare, unpack}
 use Rattle.search_trail.proofs.Entries.{legal-at, running-used}
 
@@ -77,12 +77,12 @@ refilled d buf xs n h e =
 -- the numbers give no values
 pub running-values : (s : Slices) (n : ℕ) → variableValue (runningTrail s n) ≡ variableValue (packedTrail (s .trail) (s .marks) n)
 running-values s n =
-    same-values (slices (s .trail) (bareMarks (s .marks)) (s .numbers)) (slices (s .trail) (bareMarks (s .marks)) []) refl n
+    same-values (bareSlices s) (slices (s .trail) (bareMarks (s .marks)) []) refl n
 
 -- and are not asked for where a trail is legal
 module _ (v : ℕ) (s : Slices) (n : ℕ) where
   abbrev numbered : Slices
-  numbered = slices (s .trail) (bareMarks (s .marks)) (s .numbers)
+  numbered = bareSlices s
 
   abbrev plain : Slices
   plain = slices (s .trail) (bareMarks (s .marks)) []
@@ -99,7 +99,7 @@ pub record HasTrail (v : ℕ) (t : Trail) (s : Slices) : Type 0 where
   pub trail : runningTrail s (length t) ≡ t
 
 pub length-running : (s : Slices) (n : ℕ) → length (runningTrail s n) ≡ n
-length-running s n = length-trail (slices (s .trail) (bareMarks (s .marks)) (s .numbers)) n
+length-running s n = length-trail (bareSlices s) n
 
 pub running-has-trail : {v : ℕ} {s : Slices} {used : ℕ} → Running v s used → HasTrail v (runningTrail s used) s
 running-has-trail {v} {s} {used} r =
@@ -179,7 +179,8 @@ module _ {v : ℕ} (few : v ≤ mostVariables) {s : Slices} (long : HasLength v 
       marks-room = let n = new-marks in let l = long .marks in let r = room in let b = bare-long in omega arith
 
 -- of the marks the bare ones alone matter
-pub same-with-trail : (t : Trail) (ts : List ℤ) (ms ns ks : List ℕ) → bareMarks ms ≡ bareMarks ns → withTrail t (slices ts ms ks) ≡ withTrail t (slices ts ns ks)
+pub same-with-trail : (t : Trail) (ts : List ℤ) (ms ns ks : List ℕ) → bareMarks ms ≡ bareMarks ns
+    → withTrail t (slices ts ms ks) ≡ withTrail t (slices ts ns ks)
 same-with-trail t ts ms ns ks e =
     let i : Slices = image (length t) t in
     ap (λ (bare : List ℕ). slices (filled ts (i .trail)) (packed (variableValue t) (filled bare (i .marks))) (filled ks (i .numbers))) e
@@ -213,7 +214,9 @@ with-trail-is {v} {after} {n} running s d e f =
     values = r .values ∙ ap (λ (w : Values). packed w (bareMarks ns)) (sym (running-values after n))
 
     read : image (length t) t ≡ cut n bare n
-    read = ap (λ (k : ℕ). image k t) (length-trail bare n) ∙ image-read n bare n (long (r .literals)) (simp length-map (long (r .bytes))) (long (running .numbers))
+    read =
+        ap (λ (k : ℕ). image k t) (length-trail bare n)
+        ∙ image-read n bare n (long (r .literals)) (simp length-map (long (r .bytes))) (long (running .numbers))
 
     literals : filled (s .trail) (image (length t) t .trail) ≡ us
     literals = ap (λ (i : Slices). filled (s .trail) (i .trail)) read ∙ refilled (pos 0) (s .trail) us n (long (r .literals)) d

@@ -11,9 +11,13 @@ use Rattle.search.specs.Trail.{Trail, Slices, slices, filledSlices, image, trai
 use Rattle.search_theory.specs.Legal.{Legal}
 use Rattle.search_scan.specs.PackedValues.{bareMarks, packed}
 
--- the trail in the buffers: literals, marks in the lowest bits, and clause numbers
+-- the buffers without the values above the marks
+abbrev pub bareSlices : Slices → Slices
+bareSlices s = slices (s .trail) (bareMarks (s .marks)) (s .numbers)
+
+-- the trail in the buffers
 abbrev pub runningTrail : Slices → ℕ → Trail
-runningTrail s used = trailOf (slices (s .trail) (bareMarks (s .marks)) (s .numbers)) used
+runningTrail s used = trailOf (bareSlices s) used
 
 -- the same with every number 0, for what asks neither for the numbers nor writes them: they give no values
 abbrev pub packedTrail : List ℤ → List ℕ → ℕ → Trail
@@ -39,7 +43,7 @@ pub record Running (v : ℕ) (s : Slices) (used : ℕ) : Type 0 where
 -- a trail is written into the buffers: its entries from the first place on, elements past them are untouched; and above the marks the values that it gives
 abbrev pub withTrail : Trail → Slices → Slices
 withTrail t s =
-    let written : Slices = filledSlices (slices (s .trail) (bareMarks (s .marks)) (s .numbers)) (image (length t) t) in
+    let written : Slices = filledSlices (bareSlices s) (image (length t) t) in
     slices (written .trail) (packed (variableValue t) (written .marks)) (written .numbers)
 
 -- a code's variable has a byte

@@ -103,7 +103,9 @@ enum-known-p-3 : tie.Need-enum-known-p-3
 enum-known-p-3 c = search needs
 
 returns-4 : tie.Need-returns-4
-returns-4 c t = left-turn (past-entries (c .before .before .before .before) t) (found-at (c .before .p3 .given .1) (c .before .before .before .wrong-numbers .ensures))
+returns-4 c t =
+    let sought = c .before .before .before in
+    left-turn (past-entries (sought .before) t) (found-at (c .before .p3 .given .1) (sought .wrong-numbers .ensures))
 
 enum-told-3 : tie.Need-enum-told-3
 enum-told-3 c = search needs
