@@ -21,6 +21,8 @@
  *   for its type, at most 2^63 - 1 bytes. A buffer of length 0 is never looked at; its pointer may be null.
  * - A buffer that a call writes overlaps no other buffer of that call.
  * - While a call runs, nothing else writes its buffers or reads those that it writes.
+ * - The thread has room on its stack: yajilin_search and yajilin_next take up to 257 KiB, with a non-zero number among the
+ *   used entries up to 513 KiB, the other functions less than 64 KiB.
  *
  * The contents of a buffer may be anything: the call is answered or refused.
  *
@@ -80,7 +82,9 @@ enum yajilin_refusal {
     YAJILIN_TEXT = 19,           /* text outside the form of yajilin_read: the first byte where no accepted text can go
                                     on, or the text's length if it ends too soon */
     YAJILIN_UNTRUE = 20,         /* trail not full, or some clause without a true literal under it: 0 */
-    YAJILIN_WORDS = 21           /* words not V long: 0 */
+    YAJILIN_WORDS = 21,          /* words not V long: 0 */
+    YAJILIN_NUMBERS = 22         /* numbers not V long: 0; else a used entry whose number is not 0 and has mark 1 beside it,
+                                    or is not that of a clause that is a reason for it: the first such entry's index */
 };
 
 /* What yajilin_search and yajilin_next answer. */
@@ -144,20 +148,28 @@ uint64_t yajilin_decode(const uint8_t *record, size_t record_bytes,
 /*
  * Searches for an assignment that satisfies the list, from the trail handed in, by at most budget steps. The first `used`
  * entries of trail are literals that are true; the mark of each is 1 for a decision whose other value has not been tried,
- * else 0. What comes after them isn't looked at. To begin empty, used is 0.
+ * else 0. The number of each tells the clause behind it, counted from 1, or is 0. What comes after them isn't looked at. To
+ * begin empty, used is 0.
  *
  * Answered: answer[0] is an enum yajilin_search_answer, answer[1] the steps that this call made, answer[2] the used count.
- * trail and marks have the trail that was reached, with 0 after the used entries. After YAJILIN_FOUND all V entries are
- * used and their literals satisfy the list; after YAJILIN_NONE nothing that was open satisfies it; after YAJILIN_HALTED
- * the call may be made again, with trail, marks and answer[2], to go on. Budgets add up: such calls end with the answer,
- * trail, marks and used count of one call with all their budgets together, and their steps are its steps. Where a call
- * answers YAJILIN_FOUND or YAJILIN_NONE, one with a larger budget answers and leaves the same.
- * Refused: 17 (trail_length and marks_bytes must both be V), 16, 18.
+ * trail, marks and numbers have the trail that was reached, with 0 after the used entries. After YAJILIN_FOUND all V
+ * entries are used and their literals satisfy the list; after YAJILIN_NONE nothing that was open satisfies it; after
+ * YAJILIN_HALTED the call may be made again, with trail, marks, numbers and answer[2], to go on. Budgets add up: such calls
+ * end with the answer, trail, marks, numbers and used count of one call with all their budgets together, and their steps are
+ * its steps. Where a call answers YAJILIN_FOUND or YAJILIN_NONE, one with a larger budget answers and leaves the same.
+ *
+ * The numbers: an entry that a clause forced has that clause's number, a decision or a negated decision has 0. The clause
+ * is a reason for the entry: it has the entry's literal, and every literal in it that differs from that one is false by
+ * earlier entries. Numbers that are handed in must keep this, and an entry with mark 1 must have 0. Any entry may have 0;
+ * where all have, nothing is looked up in the list for them.
+ *
+ * Refused: 17 (trail_length and marks_bytes must both be V), 16, 18, 22 (numbers_length must be V).
  */
 uint64_t yajilin_search(uint64_t variables,
                         const int32_t *list, size_t list_length,
                         int32_t *trail, size_t trail_length,
                         uint8_t *marks, size_t marks_bytes,
+                        uint64_t *numbers, size_t numbers_length,
                         uint64_t used, uint64_t budget,
                         uint64_t answer[4]);
 
@@ -176,12 +188,15 @@ uint64_t yajilin_search(uint64_t variables,
  * Note on YAJILIN_HALTED: the trail may be full again, so only answer[1] tells whether the assignment was dropped. At 0
  * steps it was not: call yajilin_next again. After 1 or more steps call yajilin_search. Budgets add up here too.
  *
- * Refused: 17, 16, 18 as yajilin_search; 20, with budget 0 too.
+ * Numbers are as yajilin_search has them. The entry that the drop negates has the number 0.
+ *
+ * Refused: 17, 16, 18, 22 as yajilin_search; 20, with budget 0 too.
  */
 uint64_t yajilin_next(uint64_t variables,
                       const int32_t *list, size_t list_length,
                       int32_t *trail, size_t trail_length,
                       uint8_t *marks, size_t marks_bytes,
+                      uint64_t *numbers, size_t numbers_length,
                       uint64_t used, uint64_t budget,
                       uint64_t answer[4]);
 

@@ -1,11 +1,13 @@
 /*
- * yajilin FILE                                writes the clauses of the grid record in FILE as DIMACS text
- * yajilin --solve [--steps N] [--sheet] FILE  searches them, and prints the drawing's bytes in hexadecimal, a row a line,
- *                                             or with --sheet the proof sheet in place of them;
- *                                             or `none`, or `halted` after N steps (without --steps there is no limit)
- * yajilin --satisfied FILE                    reads value lists on standard input, each its literals and 0 (a variable that
- *                                             isn't named is false), and prints a line for each: `yes` if it satisfies
- *                                             the clauses, else `no`
+ * yajilin FILE                      writes the clauses of the grid record in FILE as DIMACS text
+ * yajilin --solve [OPTION ..] FILE  searches them, and prints the drawing's bytes in hexadecimal, a row a line;
+ *                                   or `none`, or `halted`
+ *     --steps N                     the search is halted after N steps (without this there is no limit)
+ *     --sheet                       prints the proof sheet in place of the bytes
+ *     --why CELL                    prints in place of them why the cell, counted from 0, is black or white: a choice of the
+ *                                   search, or a clause, with its literals in words, a literal a line
+ * yajilin --satisfied FILE          reads value lists on standard input, each its literals and 0 (a variable that isn't named
+ *                                   is false), and prints a line for each: `yes` if it satisfies the clauses, else `no`
  *
  * Exit status: 0 written, found or none, lists read; 1 bad input; 2 bad usage; 3 halted.
  */
@@ -32,6 +34,24 @@ struct clauses {
     int32_t *list;
     size_t length;
     uint64_t variables;
+};
+
+/* What a search leaves: literals, and beside each its mark and the number of its clause. */
+struct trail {
+    int32_t *literals;
+    uint8_t *marks;
+    uint64_t *numbers;
+};
+
+/* What the command line asks for. */
+struct request {
+    int solving;
+    int as_sheet;
+    int why;
+    uint64_t cell;
+    int satisfied;
+    uint64_t budget;
+    const char *name;
 };
 
 /* Words for the refusals that a record can get. */
@@ -115,6 +135,11 @@ static int print_text(const struct clauses *c)
     return written == bytes ? 0 : FAILED;
 }
 
+static size_t cell_count(void)
+{
+    return (size_t)record[4] * record[5];
+}
+
 /* A full trail as a value for each variable. */
 static uint8_t *values_of(const int32_t *trail, uint64_t variables)
 {
@@ -129,7 +154,7 @@ static uint8_t *values_of(const int32_t *trail, uint64_t variables)
 /* Draws what a full trail found; returns the number of cells. */
 static size_t decode(const int32_t *trail, uint64_t variables, uint8_t drawing[YAJILIN_MOST_CELLS])
 {
-    size_t cells = (size_t)record[4] * record[5];
+    size_t cells = cell_count();
     uint64_t answer[4];
     uint8_t *values = values_of(trail, variables);
     uint64_t number = yajilin_decode(record, record_bytes, values, variables, drawing, cells, answer);
@@ -166,20 +191,223 @@ static void print_drawing(const int32_t *trail, uint64_t variables, int as_sheet
         print_bytes(drawing, cells);
 }
 
-static int solve(const struct clauses *c, uint64_t budget, int as_sheet)
+static unsigned code(size_t x)
 {
-    int32_t *trail = room(c->variables, sizeof *trail);
-    uint8_t *marks = room(c->variables, 1);
-    uint64_t answer[4];
-    uint64_t number = yajilin_search(c->variables, c->list, c->length, trail, c->variables, marks, c->variables, 0, budget, answer);
+    return record[2] == 1 ? record[6 + x] : record[6 + 2 * x] | (unsigned)record[7 + 2 * x] << 8;
+}
+
+/* A clue's number is the lower four bits of its code, in kind 2 the lower twelve. */
+static unsigned number_bits(void)
+{
+    return record[2] == 1 ? 4 : 12;
+}
+
+static size_t clue_number(size_t x)
+{
+    return code(x) & ((1u << number_bits()) - 1);
+}
+
+/* What stands above the number: 0 at an open cell, 1 to 4 at a clue, which are its direction, 5 at a shaded cell. */
+enum { OPEN = 0, NORTH = 1, WEST = 4, SHADED = 5 };
+
+static const char *const directions[] = {NULL, "north", "east", "south", "west"};
+
+static unsigned sort_of(size_t x)
+{
+    return code(x) >> number_bits();
+}
+
+static int is_open(size_t x)
+{
+    return sort_of(x) == OPEN;
+}
+
+/* The cells from a cell's neighbour in a direction to the edge. */
+static size_t line_length(size_t x, unsigned d)
+{
+    size_t rows = record[4], columns = record[5], row = x / columns, column = x % columns;
+    size_t lengths[] = {row, columns - 1 - column, rows - 1 - row, column};
+    return lengths[d - NORTH];
+}
+
+/* May the loop go from a cell in a direction? */
+static int has_link(size_t x, unsigned d)
+{
+    size_t columns = record[5], neighbours[] = {x - columns, x + 1, x + columns, x - 1};
+    return is_open(x) && line_length(x, d) > 0 && is_open(neighbours[d - NORTH]);
+}
+
+/* The open cells before a cell. */
+static size_t rank_of(size_t x)
+{
+    size_t rank = 0;
+    for (size_t y = 0; y < x; y++) {
+        if (is_open(y))
+            rank++;
+    }
+    return rank;
+}
+
+/* The open cell with so many open cells before it. */
+static size_t ranked(size_t rank)
+{
+    size_t x = 0;
+    while (!is_open(x) || rank-- > 0)
+        x++;
+    return x;
+}
+
+/* The T variables of a cell: none unless it is a clue. */
+static size_t counts_of(size_t x)
+{
+    unsigned d = sort_of(x);
+    return d == OPEN || d == SHADED ? 0 : (line_length(x, d) + 1) * (clue_number(x) + 1);
+}
+
+/*
+ * What a variable says. Z: cell x is black. S: it is the start. E: the loop goes from it in direction d. Q: the start is n
+ * links ahead of it. T: of the j cells nearest the edge on the line of the clue in x, n are black.
+ */
+struct meaning {
+    char letter;
+    size_t x;
+    unsigned d;
+    size_t j;
+    size_t n;
+};
+
+/* Variables are numbered from 1: all Z, then all S, E, Q and T. */
+static struct meaning meaning_of(size_t variable)
+{
+    size_t cells = cell_count(), open = rank_of(cells), left = variable - 1;
+    if (left < open)
+        return (struct meaning){.letter = 'Z', .x = ranked(left)};
+    left -= open;
+    if (left < open)
+        return (struct meaning){.letter = 'S', .x = ranked(left)};
+    left -= open;
+    for (size_t x = 0; x < cells; x++) {
+        for (unsigned d = NORTH; d <= WEST; d++) {
+            if (has_link(x, d) && left-- == 0)
+                return (struct meaning){.letter = 'E', .x = x, .d = d};
+        }
+    }
+    if (left < open * open)
+        return (struct meaning){.letter = 'Q', .x = ranked(left / open), .n = left % open};
+    left -= open * open;
+    size_t x = 0;
+    while (left >= counts_of(x))
+        left -= counts_of(x++);
+    size_t numbers = clue_number(x) + 1;
+    return (struct meaning){.letter = 'T', .x = x, .j = left / numbers, .n = left % numbers};
+}
+
+/* A variable as the reference writes it. */
+static void print_variable(struct meaning m)
+{
+    printf("%c(%zu", m.letter, m.x);
+    if (m.letter == 'E')
+        printf(",%s", directions[m.d]);
+    if (m.letter == 'T')
+        printf(",%zu", m.j);
+    if (m.letter == 'Q' || m.letter == 'T')
+        printf(",%zu", m.n);
+    putchar(')');
+}
+
+/* What the board has where a variable is true, or where it is false. */
+static void print_words(struct meaning m, int is_true)
+{
+    const char *is = is_true ? "is" : "is not";
+    switch (m.letter) {
+    case 'Z': printf("cell %zu is %s", m.x, is_true ? "black" : "white"); break;
+    case 'S': printf("cell %zu %s the start", m.x, is); break;
+    case 'E': printf("the loop %s %s from cell %zu", is_true ? "goes" : "does not go", directions[m.d], m.x); break;
+    case 'Q': printf("the start %s %zu link%s ahead of cell %zu", is, m.n, m.n == 1 ? "" : "s", m.x); break;
+    case 'T':
+        printf("of the %zu cell%s nearest the edge on the line of the clue in cell %zu, ", m.j, m.j == 1 ? "" : "s", m.x);
+        printf("the number of black ones %s %zu", is, m.n);
+        break;
+    }
+}
+
+/* Where a clause begins, by its number from 1. */
+static const int32_t *clause_at(const struct clauses *c, uint64_t number)
+{
+    const int32_t *l = c->list;
+    for (; number > 1; l++) {
+        if (*l == 0)
+            number--;
+    }
+    return l;
+}
+
+/* The literals of a clause that forced one of them: the others are false. Behind each stands what the board has. */
+static void print_clause(const int32_t *clause, int32_t forced)
+{
+    for (; *clause != 0; clause++) {
+        struct meaning m = meaning_of((size_t)abs(*clause));
+        int is_forced = *clause == forced;
+        printf("%s", *clause < 0 ? "-" : "");
+        print_variable(m);
+        printf(" is %s: ", is_forced ? "forced" : "false");
+        print_words(m, is_forced == (*clause > 0));
+        putchar('\n');
+    }
+}
+
+/* A cell that is black or white is on the board and open. */
+static void check_cell(uint64_t cell)
+{
+    const char *why = "not on the board";
+    if (cell < cell_count() && is_open(cell))
+        return;
+    if (cell < cell_count())
+        why = sort_of(cell) == SHADED ? "shaded, so neither black nor white" : "a clue, so neither black nor white";
+    fprintf(stderr, "yajilin: cell %llu: %s\n", (unsigned long long)cell, why);
+    exit(FAILED);
+}
+
+/* Why a cell is black or white on a full trail. */
+static void print_why(const struct clauses *c, const struct trail *t, size_t cell)
+{
+    int32_t z = (int32_t)rank_of(cell) + 1;
+    size_t i = 0;
+    while (abs(t->literals[i]) != z)
+        i++;
+    print_words(meaning_of((size_t)z), t->literals[i] > 0);
+    if (t->numbers[i] != 0) {
+        printf(": forced by clause %llu\n", (unsigned long long)t->numbers[i]);
+        print_clause(clause_at(c, t->numbers[i]), t->literals[i]);
+    } else {
+        puts(t->marks[i] == 1 ? ": chosen, not forced" : ": white was chosen first, and failed");
+    }
+}
+
+static void print_found(const struct clauses *c, const struct trail *t, const struct request *r)
+{
+    if (r->why)
+        print_why(c, t, r->cell);
+    else
+        print_drawing(t->literals, c->variables, r->as_sheet);
+}
+
+static int solve(const struct clauses *c, const struct request *r)
+{
+    uint64_t v = c->variables, answer[4];
+    struct trail t = {room(v, sizeof *t.literals), room(v, 1), room(v, sizeof *t.numbers)};
+    if (r->why)
+        check_cell(r->cell);
+    uint64_t number = yajilin_search(v, c->list, c->length, t.literals, v, t.marks, v, t.numbers, v, 0, r->budget, answer);
     if (number != 0)
         refuse("searching", number, answer);
     if (answer[0] == YAJILIN_FOUND)
-        print_drawing(trail, c->variables, as_sheet);
+        print_found(c, &t, r);
     else
         puts(answer[0] == YAJILIN_NONE ? "none" : "halted");
-    free(trail);
-    free(marks);
+    free(t.literals);
+    free(t.marks);
+    free(t.numbers);
     return answer[0] == YAJILIN_HALTED ? HALTED : 0;
 }
 
@@ -248,29 +476,36 @@ static int print_satisfied(const struct clauses *c)
 
 static int usage(void)
 {
-    fputs("usage: yajilin [--solve [--steps N] [--sheet] | --satisfied] FILE\n", stderr);
+    fputs("usage: yajilin [--solve [--steps N] [--sheet | --why CELL] | --satisfied] FILE\n", stderr);
     return USAGE;
 }
 
-/* A number of steps, in decimal digits only. */
-static int read_steps(const char *word, uint64_t *steps)
+/* A number in decimal digits only. */
+static int read_number(const char *word, uint64_t *number)
 {
     char *end;
     if (word[0] < '0' || word[0] > '9')
         return 0;
     errno = 0;
-    *steps = strtoull(word, &end, 10);
+    *number = strtoull(word, &end, 10);
     return errno == 0 && *end == '\0';
 }
 
-/* What the command line asks for. */
-struct request {
-    int solving;
-    int as_sheet;
-    int satisfied;
-    uint64_t budget;
-    const char *name;
-};
+/* An option of --solve at a word; returns how many words it has, 0 where there is none. */
+static int read_option(int words, char **word, struct request *r)
+{
+    if (strcmp(word[0], "--sheet") == 0) {
+        r->as_sheet = 1;
+        return 1;
+    }
+    if (strcmp(word[0], "--steps") == 0 && words > 1 && read_number(word[1], &r->budget))
+        return 2;
+    if (strcmp(word[0], "--why") == 0 && words > 1 && read_number(word[1], &r->cell)) {
+        r->why = 1;
+        return 2;
+    }
+    return 0;
+}
 
 /* The options of --solve come after it, in any order. */
 static int read_words(int argc, char **argv, struct request *r)
@@ -283,15 +518,12 @@ static int read_words(int argc, char **argv, struct request *r)
         r->satisfied = 1;
         i++;
     }
-    for (; r->solving && i < argc; i++) {
-        if (strcmp(argv[i], "--sheet") == 0)
-            r->as_sheet = 1;
-        else if (strcmp(argv[i], "--steps") == 0 && i + 1 < argc && read_steps(argv[i + 1], &r->budget))
-            i++;
-        else
-            break;
+    int taken = r->solving;
+    while (taken > 0 && i < argc) {
+        taken = read_option(argc - i, argv + i, r);
+        i += taken;
     }
-    if (i + 1 != argc || strncmp(argv[i], "--", 2) == 0)
+    if (i + 1 != argc || strncmp(argv[i], "--", 2) == 0 || (r->as_sheet && r->why))
         return 0;
     r->name = argv[i];
     return 1;
@@ -300,7 +532,7 @@ static int read_words(int argc, char **argv, struct request *r)
 static int answer_request(const struct request *r, const struct clauses *c)
 {
     if (r->solving)
-        return solve(c, r->budget, r->as_sheet);
+        return solve(c, r);
     if (r->satisfied)
         return print_satisfied(c);
     return print_text(c);
