@@ -87,7 +87,7 @@ fn random_word(dice: &mut Dice) -> u64 {
 }
 
 /// Up to six clauses, an empty one now and then. The last 0 is seldom missing.
-fn random_list(variables: usize, dice: &mut Dice) -> Vec<i32> {
+pub fn random_list(variables: usize, dice: &mut Dice) -> Vec<i32> {
     let mut list = Vec::new();
     for _ in 0..dice.below(7) {
         let literals = if dice.below(12) == 0 { 0 } else { 1 + dice.below(4) };

@@ -107,7 +107,7 @@ impl Dice {
         ((z ^ (z >> 31)) % n as u64) as usize
     }
 
-    fn shuffled(&mut self, n: usize) -> Vec<usize> {
+    pub fn shuffled(&mut self, n: usize) -> Vec<usize> {
         let mut all: Vec<usize> = (0..n).collect();
         for i in (1..n).rev() {
             all.swap(i, self.below(i + 1));

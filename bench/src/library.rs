@@ -1,5 +1,7 @@
 //! The functions of include/yajilin.h, with slices for pointers and lengths.
 
+use crate::trails::Slices;
+
 pub const ROOM: u64 = 6;
 
 mod c {
@@ -24,6 +26,22 @@ mod c {
             t: usize,
             marks: *mut u8,
             m: usize,
+            numbers: *mut u64,
+            n: usize,
+            used: u64,
+            budget: u64,
+            answer: *mut u64,
+        ) -> u64;
+        pub fn yajilin_next(
+            variables: u64,
+            list: *const i32,
+            l: usize,
+            trail: *mut i32,
+            t: usize,
+            marks: *mut u8,
+            m: usize,
+            numbers: *mut u64,
+            n: usize,
             used: u64,
             budget: u64,
             answer: *mut u64,
@@ -81,17 +99,40 @@ pub fn decode(record: &[u8], values: &[u8], drawing: &mut [u8]) -> Told {
     (number, answer)
 }
 
-pub fn search(variables: usize, list: &[i32], trail: &mut [i32], marks: &mut [u8], used: u64, budget: u64) -> Told {
+pub fn search(variables: usize, list: &[i32], slices: &mut Slices, used: u64, budget: u64) -> Told {
     let mut answer = [0; 4];
     let number = unsafe {
         c::yajilin_search(
             variables as u64,
             list.as_ptr(),
             list.len(),
-            trail.as_mut_ptr(),
-            trail.len(),
-            marks.as_mut_ptr(),
-            marks.len(),
+            slices.trail.as_mut_ptr(),
+            slices.trail.len(),
+            slices.marks.as_mut_ptr(),
+            slices.marks.len(),
+            slices.numbers.as_mut_ptr(),
+            slices.numbers.len(),
+            used,
+            budget,
+            answer.as_mut_ptr(),
+        )
+    };
+    (number, answer)
+}
+
+pub fn next(variables: usize, list: &[i32], slices: &mut Slices, used: u64, budget: u64) -> Told {
+    let mut answer = [0; 4];
+    let number = unsafe {
+        c::yajilin_next(
+            variables as u64,
+            list.as_ptr(),
+            list.len(),
+            slices.trail.as_mut_ptr(),
+            slices.trail.len(),
+            slices.marks.as_mut_ptr(),
+            slices.marks.len(),
+            slices.numbers.as_mut_ptr(),
+            slices.numbers.len(),
             used,
             budget,
             answer.as_mut_ptr(),

@@ -4,6 +4,7 @@ mod batches;
 mod clock;
 mod files;
 mod grid;
+mod handed;
 mod library;
 mod plain;
 mod sheets;
@@ -11,10 +12,12 @@ mod solvers;
 mod steps;
 mod table;
 mod texts;
+mod trails;
 
 use clock::{now, side_by_side, Times};
 use std::hint::black_box;
 use table::{fail, same, Goal, Row};
+use trails::Slices;
 
 const ROUNDS: usize = 15;
 
@@ -36,11 +39,8 @@ pub fn clauses_of(what: &str, record: &[u8]) -> Clauses {
 }
 
 /// The drawing of a full trail that satisfies a grid's clauses.
-pub fn decoded(what: &str, record: &[u8], trail: &[i32]) -> Vec<u8> {
-    let mut values = vec![0; trail.len()];
-    for &l in trail.iter().filter(|&&l| l > 0) {
-        values[l as usize - 1] = 1;
-    }
+pub fn decoded(what: &str, record: &[u8], slices: &Slices) -> Vec<u8> {
+    let values: Vec<u8> = slices.values().into_iter().map(u8::from).collect();
     let mut drawing = vec![0; record[4] as usize * record[5] as usize];
     same(what, &library::decode(record, &values, &mut drawing), &(0, [0; 4]));
     drawing
@@ -156,19 +156,14 @@ impl Text {
 /// The search from the empty trail by the library and by plain Rust, to the same end.
 fn search_row(what: &str, record: &[u8], budget: u64, goal: Goal) -> Row {
     let Clauses { list, variables } = clauses_of(what, record);
-    let mut trails = (vec![0; variables], vec![0; variables]);
-    let mut marks = (vec![0; variables], vec![0; variables]);
-    let mut told = (0, [0; 4]);
-    let mut plain = (0, 0, 0);
-    let times = side_by_side(
-        ROUNDS,
-        &mut || told = library::search(variables, black_box(&list), &mut trails.0, &mut marks.0, 0, budget),
-        &mut || plain = plain::search(black_box(&list), &mut trails.1, &mut marks.1, budget),
-    );
-    let (answer, steps, used) = plain;
-    same(what, &told, &(0, [answer, steps, used, 0]));
-    same(what, &trails.0, &trails.1);
-    same(what, &marks.0, &marks.1);
+    let mut slices = (Slices::empty(variables), Slices::empty(variables));
+    let (mut told, mut plain) = ((0, [0; 4]), (0, [0; 4]));
+    let mut searching = || told = library::search(variables, black_box(&list), &mut slices.0, 0, budget);
+    let times = side_by_side(ROUNDS, &mut searching, &mut || plain = plain::search(variables, black_box(&list), &mut slices.1, 0, budget));
+    same(what, &told, &plain);
+    same(what, &slices.0, &slices.1);
+    let (number, [_, steps, ..]) = told;
+    same(what, &number, &0);
     let shown = |seconds: f64| {
         let step = seconds * 1e9 / steps as f64;
         format!("{step:.0} ns/step, {:.2} ns/step/element", step / list.len() as f64)
@@ -191,24 +186,48 @@ fn search_rows(rows: &mut Vec<Row>) {
 fn trail_row() -> Row {
     const V: usize = 21552;
     let what = format!("search, check of {V} entries handed in");
-    let mut trail: Vec<i32> = (1..=V as i32).map(|x| -x).collect();
-    let mut marks = vec![0; V];
-    let (mut handed, mut given) = (trail.clone(), marks.clone());
+    let mut slices = Slices { trail: (1..=V as i32).map(|x| -x).collect(), ..Slices::empty(V) };
+    let mut given = slices.clone();
     let times = side_by_side(
         ROUNDS,
-        &mut || same(&what, &library::search(V, &[], black_box(&mut trail), &mut marks, V as u64, 0), &(0, [3, 0, V as u64, 0])),
-        &mut || same(&what, &plain::wrong_entry(black_box(&handed), &given), &None),
+        &mut || same(&what, &library::search(V, &[], black_box(&mut slices), V as u64, 0), &(0, [3, 0, V as u64, 0])),
+        &mut || same(&what, &plain::wrong_entry(V, black_box(&given.trail), &given.marks), &None),
     );
-    same(&what, &(&trail, &marks), &(&handed, &given));
+    same(&what, &slices, &given);
     for (at, literal, mark) in [(V - 1, 1, 0), (V / 2, 0, 0), (7, i32::MIN, 1), (0, -1, 2)] {
-        let was = (handed[at], given[at]);
-        (handed[at], given[at]) = (literal, mark);
-        let beside = plain::wrong_entry(&handed, &given).map(|i| i as u64);
-        let (number, answer) = library::search(V, &[], &mut handed, &mut given, V as u64, 0);
+        let was = (given.trail[at], given.marks[at]);
+        (given.trail[at], given.marks[at]) = (literal, mark);
+        let beside = plain::wrong_entry(V, &given.trail, &given.marks).map(|i| i as u64);
+        let (number, answer) = library::search(V, &[], &mut given, V as u64, 0);
         same(&what, &(number, Some(answer[0])), &(18, beside));
-        (handed[at], given[at]) = was;
+        (given.trail[at], given.marks[at]) = was;
     }
     time_row(&what, times, |seconds| format!("{:.1} ns/entry", seconds * 1e9 / V as f64), Goal::Shown)
+}
+
+/// A full trail handed in with the clauses behind its entries: the one at which a search of an open grid finds a solution. The budget is 0,
+/// so that the checks are timed. Against plain Rust, which makes the same checks, and against the same call with all numbers 0.
+fn number_rows(rows: &mut Vec<Row>, side: usize, most: f64) {
+    let record = grid::open(side);
+    let Clauses { list, variables } = clauses_of("search, numbers handed in", &record);
+    let mut slices = trails::made(&list, &plain::assignment(&record, &grid::drawn_open(side, 1)));
+    let forced = slices.numbers.iter().filter(|&&n| n != 0).count();
+    let what = format!("search, check of {variables} entries handed in, {forced} of them with a clause, open {side}×{side}");
+    let mut bare = Slices { numbers: vec![0; variables], ..slices.clone() };
+    let given = slices.clone();
+    handed::compare_wrong(&what, &list, &given);
+    let halted = (0, [3, 0, variables as u64, 0]);
+    let mut check = || same(&what, &library::search(variables, black_box(&list), &mut slices, variables as u64, 0), &halted);
+    let mut check_bare = || same(&what, &library::search(variables, black_box(&list), &mut bare, variables as u64, 0), &halted);
+    let mut plain = || same(&what, &plain::refused(variables, black_box(&list), black_box(&given), variables as u64), &None);
+    let entry = |seconds: f64| seconds * 1e9 / variables as f64;
+    let shown = |seconds: f64| format!("{:.1} ns/entry", entry(seconds));
+    let times = side_by_side(ROUNDS, &mut check, &mut plain);
+    rows.push(time_row(&what, times, shown, Goal::Under(entry(times.a), most)));
+    let times = side_by_side(ROUNDS, &mut check, &mut check_bare);
+    let against = format!("library, all numbers 0: {:.1} ns/entry less", entry(times.a - times.b));
+    rows.push(row(&what, &against, times, shown, times.ratio, Goal::Shown));
+    same(&what, &slices, &given);
 }
 
 /// One call for 64 value lists against a reading for each. All are solutions, so that no reading stops before the last clause.
@@ -313,6 +332,9 @@ fn main() {
     texts::compare();
     search_rows(&mut rows);
     rows.push(trail_row());
+    handed::compare();
+    number_rows(&mut rows, 12, 200.0);
+    number_rows(&mut rows, 24, 1000.0);
     batches::compare();
     rows.push(batch_row(12, Goal::AtLeast(30.0)));
     compare_kinds();

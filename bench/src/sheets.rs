@@ -2,6 +2,7 @@
 
 use crate::grid::{self, Dice, Sides, BLACK, KINDS, NOT_OPEN};
 use crate::table::{fail, same};
+use crate::trails::Slices;
 use crate::{clauses_of, decoded, library, plain, Clauses};
 use std::collections::BTreeSet;
 
@@ -135,10 +136,10 @@ fn random_drawing(record: &[u8], dice: &mut Dice) -> Vec<u8> {
 /// The solution that the search finds, in a number of steps that is enough for most small grids.
 fn solution(record: &[u8]) -> Option<Vec<u8>> {
     let Clauses { list, variables } = clauses_of(WHAT, record);
-    let (mut trail, mut marks) = (vec![0; variables], vec![0; variables]);
-    let (number, answer) = library::search(variables, &list, &mut trail, &mut marks, 0, 1000);
+    let mut slices = Slices::empty(variables);
+    let (number, answer) = library::search(variables, &list, &mut slices, 0, 1000);
     same(WHAT, &number, &0);
-    (answer[0] == 1).then(|| decoded(WHAT, record, &trail))
+    (answer[0] == 1).then(|| decoded(WHAT, record, &slices))
 }
 
 /// A solved grid's record of either kind with one byte changed, at every place.

@@ -2,6 +2,7 @@
 
 use crate::clock::{median, now};
 use crate::table::{print_head, print_machine, print_row, same};
+use crate::trails::Slices;
 use crate::{clauses_of, decoded, grid, library};
 
 const GRIDS: u64 = 10;
@@ -27,11 +28,11 @@ fn searched(side: usize, seed: u64, most_seconds: f64) -> Searched {
     let (record, _) = grid::dealt(side, seed);
     let clauses = clauses_of(&what, &record);
     let v = clauses.variables;
-    let (mut trail, mut marks) = (vec![0; v], vec![0; v]);
+    let mut slices = Slices::empty(v);
     let (mut used, mut steps) = (0, 0);
     let start = now();
     let answer = loop {
-        let (number, answer) = library::search(v, &clauses.list, &mut trail, &mut marks, used, SLICE);
+        let (number, answer) = library::search(v, &clauses.list, &mut slices, used, SLICE);
         same(&what, &number, &0);
         steps += answer[1];
         used = answer[2];
@@ -43,7 +44,7 @@ fn searched(side: usize, seed: u64, most_seconds: f64) -> Searched {
     let ended = if answer == 3 { Ended::Halted(steps as f64) } else { Ended::Found(steps as f64) };
     if answer != 3 {
         same(&what, &answer, &1);
-        let drawing = decoded(&what, &record, &trail);
+        let drawing = decoded(&what, &record, &slices);
         same(&what, &library::judge(&record, &drawing), &(0, [0; 4]));
     }
     Searched { variables: v as f64, elements: clauses.list.len() as f64, ended, seconds }

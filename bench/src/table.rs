@@ -3,8 +3,11 @@
 use std::process::exit;
 
 pub enum Goal {
+    /// Of the ratio.
     AtLeast(f64),
     AtMost(f64),
+    /// Of the library's nanoseconds an entry, which stand first.
+    Under(f64, f64),
     Shown,
 }
 
@@ -22,6 +25,7 @@ impl Row {
         let (words, met) = match self.goal {
             Goal::AtLeast(g) => (format!("at least {g:.2}"), self.ratio >= g),
             Goal::AtMost(g) => (format!("at most {g:.2}"), self.ratio <= g),
+            Goal::Under(is, g) => (format!("under {g:.0} ns/entry"), is < g),
             Goal::Shown => return String::new(),
         };
         format!("{words}: {}", if met { "met" } else { "missed" })
