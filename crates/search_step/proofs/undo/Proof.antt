@@ -1,10 +1,9 @@
 -- `search_step::undo` meets its contract. Assumes nothing.
 use Rattle.search_step.proofs.Append.{append-assign, Backed, UnassignedFrom, undo-nothing, back-below, back-within, back-inside, back-numbered}
 use Rattle.search_step.proofs.Append.{back-small, back-running, back-allowed, back-steps}
-use Prim.Native.Nat.{ℕ, _<_}
+use Prim.Native.Nat.{_<_}
 use native.Mathlib.Omega.{arith}
 use mathlib.Core.Path.{refl}
-use mathlib.Core.List.{List}
 use Rattle.search.specs.Trail.{Slices, slices}
 use Rattle.answers.proofs.First.{found-at, found-none}
 use Rattle.cnf.specs.Literals.{mostVariables}
@@ -17,8 +16,9 @@ use Rattle.search_step.proofs.undo.Tie as tie
 abbrev start1 : tie.After-p → tie.Start
 start1 c = c .before .before .before .before .before .before
 
-abbrev start2 : tie.After-slice-known3 → tie.Start
-start2 c = start1 (c .before .before .before .before .before .before)
+-- the state in which an entry marked 1 was found, seen from that in which it is negated
+abbrev found : tie.After-slice-known3 → tie.After-p
+found c = c .before .before .before .before .before .before
 
 abbrev lent : tie.Start → Slices
 lent c = slices (c .args .trail .now) (c .args .marks .now) (c .args .numbers .now)
@@ -28,12 +28,10 @@ back : (c : tie.After-p) → Backed (lent (start1 c)) (start1 c .args .used) (c 
 back c = record { was = start1 c .pre; last = found-at (c .p .given .1) (c .before .before .last-mark .ensures) }
 
 -- and the values from there on are taken away
-abbrev UnassignedFromAt : tie.Start → List ℕ → ℕ → Type 0
-UnassignedFromAt c ns i = UnassignedFrom (lent c) ns (c .args .used) i
-
 unassigned-from : (c : tie.After-slice-known3)
-    → UnassignedFromAt (start2 c) (c .before .before .unassign .last .1 .0) (c .before .before .before .before .before .before .p .given .0 .0)
-unassigned-from c = record { back = back (c .before .before .before .before .before .before); unassigns = c .before .before .unassign .ensures }
+    → let start = start1 (found c) in
+    UnassignedFrom (lent start) (c .before .before .unassign .last .1 .0) (start .args .used) (found c .p .given .0 .0)
+unassigned-from c = record { back = back (found c); unassigns = c .before .before .unassign .ensures }
 
 last-mark-requires : tie.Need-last-mark-requires
 last-mark-requires c κs = running-used (c .before .before .before .pre .packed)
@@ -72,7 +70,7 @@ abbrev taken : tie.After-slice-known4 → tie.After-slice-known3
 taken c = c .before .before .before .before .before .before .before .before
 
 -- few entries
-small : (c : tie.After-slice-known3) → c .before .before .before .before .before .before .p .given .0 .0 < mostVariables
+small : (c : tie.After-slice-known3) → found c .p .given .0 .0 < mostVariables
 small c =
     let b = unassigned-from c .back in
     let h = back-within b in
