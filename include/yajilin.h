@@ -83,8 +83,9 @@ enum yajilin_refusal {
                                     on, or the text's length if it ends too soon */
     YAJILIN_UNTRUE = 20,         /* trail not full, or some clause without a true literal under it: 0 */
     YAJILIN_WORDS = 21,          /* words not V long: 0 */
-    YAJILIN_NUMBERS = 22         /* numbers not V long: 0; else a used entry whose number is not 0 and has mark 1 beside it,
-                                    or is not that of a clause that is a reason for it: the first such entry's index */
+    YAJILIN_NUMBERS = 22         /* numbers not V long: 0; else a used entry that has a number other than 0 and mark 1, or
+                                    the number of no clause that is a reason for the entry (see yajilin_search): the first
+                                    such entry's index */
 };
 
 /* What yajilin_search and yajilin_next answer. */
@@ -160,8 +161,8 @@ uint64_t yajilin_decode(const uint8_t *record, size_t record_bytes,
  *
  * The numbers: an entry that a clause forced has that clause's number, a decision or a negated decision has 0. The clause
  * is a reason for the entry: it has the entry's literal, and every literal in it that differs from that one is false by
- * earlier entries. Numbers that are handed in must keep this, and an entry with mark 1 must have 0. Any entry may have 0;
- * where all have, nothing is looked up in the list for them.
+ * earlier entries. Numbers that are handed in must keep this, and an entry with mark 1 must have 0. Any entry may have 0.
+ * If all used entries have 0, the list is not read for this check.
  *
  * Refused: 17 (trail_length and marks_bytes must both be V), 16, 18, 22 (numbers_length must be V).
  */
