@@ -134,7 +134,7 @@ pub fn wrong_list(list: &[i32], v: usize) -> Place
     Place::Nowhere
 }
 
-// The closing zeros of a part of a list. A count of 32 bits is four to a machine word of the loop, where one of 64 is two.
+// The closing zeros of a part of a list. As compiled, four counts of 32 bits are made at a time; of 64 bits it would be two.
 fn closed_in(part: &[i32]) -> u32
     requires { ⌜ length (now part) < 2 ^ 32 ⌝ }
     ensures { λ r. ⌜ r ≡ clauseCount (now (part .entry)) ⌝ }

@@ -398,7 +398,7 @@ fn first_wrong_number(
     with_large_table(v, list, trail, marks, numbers, n)
 }
 
-// 22: the numbers are not V, or the first of the used entries whose number is wrong. If no entry has one, the list is not gone through.
+// 22: there are not V numbers, or the first of the used entries whose number is wrong. If all used entries have 0, the list is not gone through.
 pub fn wrong_numbers(
     v: usize,
     list: &[i32],

@@ -1,4 +1,5 @@
--- What is true of each entry that a step appends or negates stays true of each entry of the trail. Assumes nothing.
+-- A property of each entry, given those before it, that every entry which a step appends or negates has too, holds after a step and after a run. Assumes
+-- nothing.
 use Prim.Native.Nat.{ℕ, zero, suc}
 use lib.Dec.{eqb}
 use lib.IntN.{ℤ, pos, negsuc}
