@@ -122,7 +122,7 @@ module _ (v : ℕ) (t : Trail) (legal : Legal v t) where
       by false q = refl
 
 -- the V values of a trail
-length-values : (t : Trail) (k n : ℕ) → length (valuesFrom t k n) ≡ n
+pub length-values : (t : Trail) (k n : ℕ) → length (valuesFrom t k n) ≡ n
 unfolding valuesFrom
 length-values t k zero = refl
 length-values t k (suc n) = ap suc (length-values t (suc k) n)
@@ -133,7 +133,7 @@ values-at t k zero i h = absurd (omega arith)
 values-at t k (suc n) zero h = let e : k + 0 ≡ k = omega arith in rw e
 values-at t k (suc n) (suc i) h = let e : k + suc i ≡ suc k + i = omega arith in rw e (values-at t (suc k) n i (omega arith))
 
-values-of : (v : ℕ) (t : Trail) (i : ℕ) → i < v → getD (valuesOf v t) i false ≡ isTrue (variableValue t (suc i))
+pub values-of : (v : ℕ) (t : Trail) (i : ℕ) → i < v → getD (valuesOf v t) i false ≡ isTrue (variableValue t (suc i))
 values-of v t i h = let e : 0 + i ≡ i = omega arith in rw e at (values-at t 0 v i h)
 
 -- each literal of a legal trail is true under it

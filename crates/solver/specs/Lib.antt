@@ -1,5 +1,7 @@
--- Begun: a search begun empty on a grid's clauses. SolverCall: the solver's call, made of the encoder's, the search's and the decoder's definitions.
--- SolutionCount: whether a grid has no solution, one or several.
+-- Begun: a search begun empty on a grid's clauses. Work: the work buffers. SolverCall: the solver's call, made of the encoder's, the search's and the
+-- decoder's definitions. Listing: search and `next` on one budget. SolutionCount: whether a grid has no solution, one or several.
 pub mod Begun
+pub mod Work
 pub mod SolverCall
+pub mod Listing
 pub mod SolutionCount

@@ -12,7 +12,9 @@ use Rattle.encoder.specs.Variables.{variableCount}
 use Rattle.encoder.specs.Clauses.{clauseList}
 use Rattle.encoder.specs.Decoding.{bytesOf, decoded}
 use Rattle.search.specs.Trail.{Trail, Slices, filledSlices, image, valuesOf}
-use Rattle.search.specs.Run.{Ending, Found, None, Halted, Done, run, doneOutcome}
+use Rattle.search.specs.Run.{Ending, Found, None, Halted, Done, doneOutcome}
+use Rattle.solver.specs.Work.{workOf, gridWorkRows}
+use Rattle.solver.specs.Listing.{begun}
 
 -- the lent buffers
 pub record Lent : Type 0 where
@@ -23,7 +25,7 @@ pub record Lent : Type 0 where
 
 -- the search begun empty on the grid's clauses
 abbrev pub solved : Board → ℕ → Done
-solved b budget = run (variableCount b) (clauseList b) budget []
+solved b budget = begun (variableCount b) (clauseList b) budget
 
 -- a trail with all V entries used is also an assignment: its V bytes
 abbrev pub trailBytes : ℕ → Trail → List ℕ
@@ -32,13 +34,11 @@ trailBytes v t = bytesOf (valuesOf v t)
 -- 6, in the order list, trail, marks, clause numbers, values, drawing; beside it the elements needed
 abbrev pub roomRows : Board → Lent → List Row
 roomRows b lent =
-    row 6 (tooShort (length (lent .list)) (length (clauseList b))) ∷
-    row 6 (tooShort (length (lent .slices .trail)) (variableCount b)) ∷
-    row 6 (tooShort (length (lent .slices .marks)) (variableCount b)) ∷
-    row 6 (tooShort (length (lent .slices .numbers)) (variableCount b)) ∷
+    gridWorkRows b (workOf (lent .list) (lent .slices)) ++ (
     row 6 (tooShort (length (lent .values)) (variableCount b)) ∷
     row 6 (tooShort (length (lent .drawing)) (b .size)) ∷
     []
+    )
 
 -- solver 1-5, 6
 abbrev pub solverRows : List ℕ → Lent → List Row

@@ -2,13 +2,11 @@
 use Prim.Native.Nat.{ℕ}
 use native.Mathlib.Omega.{arith}
 use lib.IntN.{ℤ}
-use lib.ListN.{length, take, drop, length-append}
-use lib.Seq.{take-at}
 use mathlib.Core.Path.{_≡_, refl, sym, _∙_, ap}
-use mathlib.Core.List.{List, [], _∷_}
+use mathlib.Core.List.{List}
 use Rattle.answers.specs.declared.Outcome.{Outcome}
-use Rattle.answers.specs.Outcome.{refusal, answer, row, firstRefusal}
-use Rattle.answers.specs.Lent.{tooShort, filled, unlessRefused}
+use Rattle.answers.specs.Outcome.{refusal, firstRefusal}
+use Rattle.answers.specs.Lent.{filled, unlessRefused}
 use Rattle.answers.proofs.Rows.{Clear, answered-clear, clear-answered, refusals-append}
 use Rattle.answers.proofs.Settled.{untouched, enough}
 use Rattle.rules.specs.declared.Grid.{Grid}
@@ -18,31 +16,20 @@ use Rattle.rules.specs.declared.RecordRefusal.{RecordRefusal}
 use Rattle.rules.specs.Record.{recordRows, recordAnswer, recordRefusalOutcome, parsedOutcome}
 use Rattle.rules.specs.Board.{gridBoard, boardOf}
 use Rattle.rules.proofs.Records.{accepted-clear, refusal-number, passes-up, is-accepted, read-grid}
-use Rattle.encoder.specs.Variables.{variableCount}
 use Rattle.encoder.specs.Clauses.{clauses, clauseList}
-use Rattle.encoder.specs.Encoding.{encoderAnswer, encoderLeaves}
+use Rattle.encoder.specs.Encoding.{encoderLeaves}
 use Rattle.search.specs.Trail.{Slices}
 use Rattle.search.specs.Run.{Done, doneOutcome}
 use Rattle.search_call.specs.declared.End.{End}
 use Rattle.search_call.specs.Answers.{endOutcome}
 use Rattle.solver.specs.SolverCall.{Lent, solved, roomRows, solverAnswer, written, solverLeaves}
-use Rattle.solver_call.specs.declared.Lengths.{Lengths}
+use Rattle.solver.proofs.Encoded.{list-filled, list-clauses, list-long}
+use Rattle.solver_listing.specs.declared.Room.{Room}
+use Rattle.solver_listing.specs.declared.Room.the-variants.{Enough, Short}
+use Rattle.solver_listing.specs.Room.{roomTells}
 use Rattle.solver_call.specs.declared.Needs.{Needs}
-use Rattle.solver_call.specs.declared.Room.{Room}
-use Rattle.solver_call.specs.declared.Room.the-variants.{Enough, Short}
-use Rattle.solver_call.specs.Room.{needsOf, roomTells, shortRows}
+use Rattle.solver_call.specs.Room.{needsOf, shortRows}
 use Rattle.solver_call.specs.GridSearch.{Fits, Ends}
-
-abbrev lengthsOf : Lent → Lengths
-lengthsOf lent =
-    record {
-      list = length (lent .list);
-      trail = length (lent .slices .trail);
-      marks = length (lent .slices .marks);
-      numbers = length (lent .slices .numbers);
-      values = length (lent .values);
-      drawing = length (lent .drawing);
-    }
 
 module _ (s : List ℕ) (budget : ℕ) (lent : Lent) where
   abbrev done : Done
@@ -60,12 +47,12 @@ module _ (s : List ℕ) (budget : ℕ) (lent : Lent) where
 
   -- it is read, and room is sought
   module _ {p : Parsed} {g : Grid} (q : p ≡ Accepted g) (e : parsedOutcome p ≡ recordAnswer s) {needed : Needs} (needs : needed ≡ needsOf (gridBoard g s))
-      (room : Room) (says : (t : Outcome) → roomTells room t ≡ firstRefusal (shortRows (lengthsOf lent) needed) t) where
+      (room : Room) (says : (t : Outcome) → roomTells room t ≡ firstRefusal (shortRows lent needed) t) where
     needed-is : needed ≡ needsOf (boardOf s)
     needed-is = needs ∙ ap (λ g. needsOf (gridBoard g s)) (read-grid s q e)
 
     by-room : {x : Room} → room ≡ x → (t : Outcome) → roomTells x t ≡ firstRefusal (roomRows (boardOf s) lent) t
-    by-room w t = sym (ap (λ x. roomTells x t) w) ∙ says t ∙ ap (λ z. firstRefusal (shortRows (lengthsOf lent) z) t) needed-is
+    by-room w t = sym (ap (λ x. roomTells x t) w) ∙ says t ∙ ap (λ z. firstRefusal (shortRows lent z) t) needed-is
 
     -- the call is left to the rows after the reader's
     goes : firstRefusal (roomRows (boardOf s) lent) (doneOutcome done) ≡ solverAnswer s budget lent
@@ -82,26 +69,16 @@ module _ (s : List ℕ) (budget : ℕ) (lent : Lent) where
 
       -- so the encoder is not refused
       encoded : ls ≡ filled (lent .list) (clauseList (boardOf s))
-      encoded = wrote ∙ ap (λ t. unlessRefused t (lent .list) (filled (lent .list) (clauseList (boardOf s)))) outcome
-        where
-          t : Outcome
-          t = answer (length (clauseList (boardOf s))) (variableCount (boardOf s)) (length (clauses (boardOf s)))
-
-          outcome : encoderAnswer s (lent .list) ≡ t
-          outcome =
-              let rows = row 6 (tooShort (length (lent .list)) (length (clauseList (boardOf s)))) ∷ [] in
-              refusals-append (recordRows s) rows t ∙ clear-answered (recordRows s) _ (accepted-clear s (is-accepted s q e))
-              ∙ clear-answered rows t (clear .0, tt)
+      encoded = list-filled s (is-accepted s q e) (lent .list) (clear .0) wrote
 
       pub fits : Fits g s needed ls (lent .slices) (lent .values) (lent .drawing)
       fits =
           let (c1, (c2, (c3, (c4, (c5, (c6, c)))))) = clear in
-          let cs = clauseList (boardOf s) in
           rw needed-is (record {
             read = sym (ap parsedOutcome q) ∙ e;
             needs = refl;
-            clauses = ap (take (length cs)) encoded ∙ take-at cs _ (length cs) refl;
-            list = omega (arith, ap length encoded, length-append cs (drop (length cs) (lent .list)));
+            clauses = list-clauses s (is-accepted s q e) (lent .list) c1 wrote refl;
+            list = list-long s (is-accepted s q e) (lent .list) c1 wrote;
             trail = enough _ c2;
             marks = enough _ c3;
             numbers = enough _ c4;

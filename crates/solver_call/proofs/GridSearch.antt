@@ -1,13 +1,14 @@
 -- The search on a grid's clauses: how it ends, and at "found" the trail's bytes and the drawing. Assumes nothing.
-use Prim.Native.Nat.{ℕ, _≤_}
+use Prim.Native.Nat.{ℕ}
+use native.Mathlib.Omega.{arith}
 use lib.IntN.{ℤ}
 use lib.ListN.{length, take, drop}
-use lib.Seq.{length-take-le, take-at}
-use mathlib.Core.Path.{_≡_, refl, sym, _∙_, ap, subst}
+use lib.Seq.{length-take-le}
+use mathlib.Core.Path.{_≡_, refl, sym, _∙_, ap}
 use mathlib.Core.List.{List, _++_}
 use Rattle.answers.specs.declared.Outcome.{Outcome}
 use Rattle.answers.specs.Outcome.{firstRefusal}
-use Rattle.answers.specs.Lent.{filled, unlessRefused}
+use Rattle.answers.specs.Lent.{unlessRefused}
 use Rattle.rules.specs.declared.Grid.{Grid}
 use Rattle.rules.specs.Record.{IsAccepted, RecordFits}
 use Rattle.rules.specs.Board.{gridBoard, boardOf}
@@ -15,12 +16,10 @@ use Rattle.rules.specs.Judge.{saysYes}
 use Rattle.rules.proofs.Records.{is-accepted, read-grid, read-fits, goes-on}
 use Rattle.encoder.specs.Variables.{variableCount}
 use Rattle.encoder.specs.Decoding.{decoded, decoderLeaves, decoderGridRows}
-use Rattle.search.specs.Trail.{Slices, slices, filledSlices, image, trailOf}
+use Rattle.search.specs.Trail.{Slices, slices, filledSlices, image}
 use Rattle.search.specs.Run.{Ending, Found as DoneFound, None as DoneNone, Halted as DoneHalted, Done, doneOutcome}
 use Rattle.search.specs.Call.{Search, Handed, Searching, IsTaken, handsDone, handsTaken}
-use Rattle.search.proofs.Trails.{read-image}
 use Rattle.search.proofs.Endings.{same-ending, other-ending}
-use Rattle.search_theory.specs.Legal.{Legal}
 use Rattle.search_call.specs.declared.Ending.{Ending as Answer}
 use Rattle.search_call.specs.declared.Ending.the-variants.{Found, None, Halted}
 use Rattle.search_call.specs.declared.End.{End}
@@ -28,10 +27,12 @@ use Rattle.search_call.specs.Answers.{endingOf, endOutcome}
 use Rattle.search_call.proofs.Calls.{searchIn}
 use Rattle.solver.specs.Begun.{BegunOn}
 use Rattle.solver.specs.SolverCall.{solved, trailBytes, atFound}
-use Rattle.solver_call.specs.declared.Needs.{Needs}
 use Rattle.solver.proofs.Begun as begun
-use Rattle.solver_call.specs.GridSearch.{literalTrail, Full, Fits, Ends}
-use Rattle.solver_call.proofs.TrailBytes.{literal-bytes, literal-legal}
+use Rattle.solver_listing.specs.Values.{literalTrail, Fillable}
+use Rattle.solver_listing.proofs.TrailBytes.{full-legal, full-bytes}
+use Rattle.solver_listing.proofs.Parts.{part-read, part-filled, part, whole, slices-filled}
+use Rattle.solver_call.specs.declared.Needs.{Needs}
+use Rattle.solver_call.specs.GridSearch.{Fits, Ends}
 
 -- a search that ends as found says so
 is-found : (x : Answer) → endingOf x ≡ DoneFound → x ≡ Found
@@ -43,17 +44,6 @@ kept : {A : Type 0} (x : Ending) (before after : A) → (x ≡ DoneFound → ⊥
 kept DoneFound before after n = absurd (n refl)
 kept DoneNone before after n = refl
 kept DoneHalted before after n = refl
-
--- a buffer whose first n elements were lent on
-module _ {A : Type 0} {n : ℕ} (buf us : List A) (long : length us ≡ length (take n buf)) (h : n ≤ length buf) where
-  part-long : length us ≡ n
-  part-long = long ∙ length-take-le n buf h
-
-  part-read : take n (us ++ drop n buf) ≡ us
-  part-read = take-at us (drop n buf) n part-long
-
-  part-filled : {xs : List A} → us ≡ xs → us ++ drop n buf ≡ filled buf xs
-  part-filled e = (λ i. e i ++ drop ((sym part-long ∙ ap length e) i) buf)
 
 module _ {g : Grid} {s : List ℕ} {needed : Needs} {ls : List ℤ} {lent : Slices} {vs ds : List ℕ} (fits : Fits g s needed ls lent vs ds) (budget : ℕ) where
   accepted : IsAccepted s
@@ -77,17 +67,14 @@ module _ {g : Grid} {s : List ℕ} {needed : Needs} {ls : List ℤ} {lent : Slic
   variables : m ≡ v
   variables = ap (λ (n : Needs). n .variables) (fits .needs)
 
-  -- the parts that are lent on
-  abbrev part : Slices
-  part = slices (take m (lent .trail)) (take m (lent .marks)) (take m (lent .numbers))
-
-  ts-long : length (part .trail) ≡ v
+  -- the parts that are lent on have their lengths
+  ts-long : length (part m lent .trail) ≡ v
   ts-long = length-take-le m (lent .trail) (fits .trail) ∙ variables
 
-  ms-long : length (part .marks) ≡ v
+  ms-long : length (part m lent .marks) ≡ v
   ms-long = length-take-le m (lent .marks) (fits .marks) ∙ variables
 
-  ns-long : length (part .numbers) ≡ v
+  ns-long : length (part m lent .numbers) ≡ v
   ns-long = length-take-le m (lent .numbers) (fits .numbers) ∙ variables
 
   vs-long : length (take m vs) ≡ v
@@ -98,7 +85,7 @@ module _ {g : Grid} {s : List ℕ} {needed : Needs} {ls : List ℤ} {lent : Slic
 
   -- what the search gets
   abbrev gets : Search
-  gets = searchIn (take (needed .elements) ls) part 0
+  gets = searchIn (take (needed .elements) ls) (part m lent) 0
 
   on : BegunOn s gets
   on =
@@ -125,8 +112,8 @@ module _ {g : Grid} {s : List ℕ} {needed : Needs} {ls : List ℤ} {lent : Slic
 
   -- after the search: what it leaves in those parts
   module _ (e : End) {after : Slices} (h : record { outcome = endOutcome e; slices = after } ≡ handsTaken Searching gets budget)
-      (us-long : length (after .trail) ≡ length (part .trail)) (ms-same : length (after .marks) ≡ length (part .marks))
-      (ns-same : length (after .numbers) ≡ length (part .numbers)) where
+      (us-long : length (after .trail) ≡ length (part m lent .trail)) (ms-same : length (after .marks) ≡ length (part m lent .marks))
+      (ns-same : length (after .numbers) ≡ length (part m lent .numbers)) where
     hands : record { outcome = endOutcome e; slices = after } ≡ handsDone v done
     hands = h ∙ begun.taken-solved s gets on budget
 
@@ -136,17 +123,14 @@ module _ {g : Grid} {s : List ℕ} {needed : Needs} {ls : List ℤ} {lent : Slic
     ending : endingOf (e .ending) ≡ done .ending
     ending = same-ending (endingOf (e .ending)) (done .ending) (ap (λ (t : Outcome). t .first) outcome)
 
-    abbrev whole : Slices
-    whole = slices (after .trail ++ drop m (lent .trail)) (after .marks ++ drop m (lent .marks)) (after .numbers ++ drop m (lent .numbers))
+    at : after ≡ image v (done .trail)
+    at = ap (λ (h : Handed). h .slices) hands
 
-    left : whole ≡ filledSlices lent (image v (done .trail))
+    left : whole m lent after ≡ filledSlices lent (image v (done .trail))
     left =
-        (λ i.
-        slices (part-filled (lent .trail) (after .trail) us-long (fits .trail) (ap (λ (h : Handed). h .slices .trail) hands) i)
-        (part-filled (lent .marks) (after .marks) ms-same (fits .marks) (ap (λ (h : Handed). h .slices .marks) hands) i)
-        (part-filled (lent .numbers) (after .numbers) ns-same (fits .numbers) (ap (λ (h : Handed). h .slices .numbers) hands) i))
+        slices-filled lent after (record { trail = fits .trail; marks = fits .marks; numbers = fits .numbers }) us-long ms-same ns-same at
 
-    pub unfound : (e .ending ≡ Found → ⊥) → Ends s budget lent vs ds e whole vs ds
+    pub unfound : (e .ending ≡ Found → ⊥) → Ends s budget lent vs ds e (whole m lent after) vs ds
     unfound other =
         let k : done .ending ≡ DoneFound → ⊥ = λ f. other (is-found (e .ending) (ending ∙ f)) in
         record { outcome = outcome; slices = left; values = kept (done .ending) _ _ k; drawing = kept (done .ending) _ _ k }
@@ -155,30 +139,25 @@ module _ {g : Grid} {s : List ℕ} {needed : Needs} {ls : List ℤ} {lent : Slic
       ends-found : done .ending ≡ DoneFound
       ends-found = sym ending ∙ ap endingOf q
 
-      -- the slices hold the trail, which is full
-      reads : trailOf after v ≡ done .trail
-      reads =
-          (λ i. trailOf (hands i .slices) (sym (begun.solved-full s accepted budget ends-found) i)) ∙ read-image v (done .trail)
+      full : length (done .trail) ≡ v
+      full = begun.solved-full s accepted budget ends-found
 
-      legal : Legal v (trailOf after v)
-      legal = subst (Legal v) (sym reads) (begun.solved-legal s accepted budget)
-
-      us-full : length (after .trail) ≡ v
-      us-full = us-long ∙ ts-long
-
-      pub literals : Full (length (take m vs)) (take m (after .trail ++ drop m (lent .trail)))
+      -- the trail that is left is full, and as long as the values, so that none of these is past it
+      pub literals : Fillable (take m (after .trail ++ drop m (lent .trail))) (take m vs)
       literals =
-          rw (vs-long, part-read (lent .trail) (after .trail) us-long (fits .trail))
-          (record { long = us-full; legal = literal-legal v after (length (after .trail)) (rw us-full legal) })
+          rw (part-read (lent .trail) (after .trail) us-long (fits .trail)) (record {
+            legal = full-legal v (done .trail) at full (begun.solved-legal s accepted budget);
+            zeros = λ j o l. absurd (omega (arith, us-long, ts-long, vs-long));
+          })
 
       pub found : {ws es : List ℕ} → ws ≡ trailBytes (length (take m vs)) (literalTrail (take m (after .trail ++ drop m (lent .trail))))
           → es ≡ gridLeaves g (take m (ws ++ drop m vs)) (take n ds)
           → length ws ≡ length (take m vs) → length es ≡ length (take n ds)
-          → Ends s budget lent vs ds e whole (ws ++ drop m vs) (es ++ drop n ds)
+          → Ends s budget lent vs ds e (whole m lent after) (ws ++ drop m vs) (es ++ drop n ds)
       found {ws} {es} w d ws-long es-long =
           let given : ws ≡ trailBytes v (literalTrail (after .trail)) =
           rw (vs-long, part-read (lent .trail) (after .trail) us-long (fits .trail)) at w in
-          let bytes = given ∙ literal-bytes after v (length (after .trail)) ∙ ap (λ k. trailBytes v (trailOf after k)) us-full ∙ ap (trailBytes v) reads in
+          let bytes = given ∙ full-bytes v (done .trail) at full (begun.solved-legal s accepted budget) v in
           let yes = begun.decoder-says s accepted budget ends-found (take n ds) ds-long in
           let drawn = d ∙ grid-leaves (take m (ws ++ drop m vs)) (take n ds)
           ∙ ap (λ b. decoderLeaves s b (take n ds)) (part-read vs ws ws-long (fits .values) ∙ bytes)

@@ -3,36 +3,21 @@ use Prim.Native.Nat.{ℕ, _≤_}
 use lib.IntN.{ℤ}
 use lib.ListN.{length, take}
 use mathlib.Core.Path.{_≡_}
-use mathlib.Core.List.{List, []}
+use mathlib.Core.List.{List}
 use Rattle.answers.specs.Lent.{filled}
 use Rattle.rules.specs.declared.Grid.{Grid}
-use Rattle.rules.specs.declared.Parsed.the-variants.{Accepted}
-use Rattle.rules.specs.Record.{parsedOutcome, recordAnswer}
 use Rattle.rules.specs.Board.{boardOf}
 use Rattle.encoder.specs.Variables.{variableCount}
 use Rattle.encoder.specs.Clauses.{clauseList}
 use Rattle.encoder.specs.Decoding.{decoded}
-use Rattle.search.specs.Trail.{Trail, Slices, slices, filledSlices, image, trailOf}
+use Rattle.search.specs.Trail.{Slices, filledSlices, image}
 use Rattle.search.specs.Run.{doneOutcome}
-use Rattle.search_theory.specs.Legal.{Legal}
 use Rattle.search_call.specs.declared.End.{End}
 use Rattle.search_call.specs.Answers.{endOutcome}
 use Rattle.solver.specs.SolverCall.{solved, trailBytes, atFound}
+use Rattle.solver_listing.specs.Read.{IsRead}
 use Rattle.solver_call.specs.declared.Needs.{Needs}
 use Rattle.solver_call.specs.Room.{needsOf}
-
--- the trail of these literals, each marked 0 and with the number 0 since no marks and numbers are given: these give no value
-abbrev pub literalTrail : List ℤ → Trail
-literalTrail ts = trailOf (slices ts [] []) (length ts)
-
--- the literals of a full trail
-pub record Full (v : ℕ) (ts : List ℤ) : Type 0 where
-  pub long : length ts ≡ v
-  pub legal : Legal v (literalTrail ts)
-
--- the grid that the reader makes of an accepted record
-abbrev pub IsRead : Grid → List ℕ → Type 0
-IsRead g s = parsedOutcome (Accepted g) ≡ recordAnswer s
 
 -- a grid and its record, a list that begins with the grid's clauses, and buffers that have room
 pub record Fits (g : Grid) (s : List ℕ) (needed : Needs) (ls : List ℤ) (lent : Slices) (vs ds : List ℕ) : Type 0 where

@@ -1,30 +1,13 @@
 // The search on a grid's clauses, and at "found" the drawing to which its trail decodes.
-ghost use mathlib.Core.Path.{_≡_};
-ghost use lib.ListN.{length};
 ghost use Rattle.search.specs.Trail.{slices};
-ghost use Rattle.solver.specs.SolverCall.{trailBytes};
-ghost use Rattle.solver_call.specs.GridSearch.{literalTrail, Full, Fits, Ends};
+ghost use Rattle.solver_call.specs.GridSearch.{Fits, Ends};
 use super::Needs;
-use cnf::code_at;
 use decoder::decode_grid;
 use rules::Grid;
 use search_call::End;
 use search_call::Ending;
 use search_call::searched;
-
-// Writes a full trail's bytes: 1 at the variable of each literal, 0 if it is negated.
-fn give_values(trail: &[i32], values: &mut [u8])
-    requires { ⌜ Full (length (now values)) (now trail) ⌝ }
-    ensures { λ r. ⌜ now (values .exit) ≡ trailBytes (length (now (values .entry))) (literalTrail (now (trail .entry))) ⌝ }
-{
-    let mut i: usize = 0;
-    while i < trail.len() {
-        let k = code_at(trail, i);
-        let x = k / 2 - 1;
-        values[x] = 1 - (k % 2) as u8;
-        i += 1;
-    }
-}
+use solver_listing::values::give_values;
 
 // Searches a grid's clauses, begun empty; at "found" writes the trail's bytes and draws them. Of each buffer the part that is needed is lent on.
 pub fn find_drawing(

@@ -1,7 +1,7 @@
 // The solver: a record's bytes in; a drawing, "none" or "halted" out.
 ghost use mathlib.Core.Path.{_≡_};
 ghost use Rattle.solver.specs.SolverCall.{solverAnswer, solverLeaves};
-ghost use Rattle.solver_call.specs.GridSearch.{IsRead};
+ghost use Rattle.solver_listing.specs.Read.{IsRead};
 ghost use Rattle.solver_call.specs.Answer.{solvedOutcome, lentOf};
 use encoder_call::encode_grid;
 use encoder_size::count;
@@ -12,6 +12,7 @@ use rules::Parsed;
 use rules::RecordRefusal;
 use rules::record::read;
 use search_call::End;
+use solver_listing::Room;
 
 pub mod outcome; // the outcomes in document 01's numbers
 mod rooms; // what a grid needs of the lent buffers
@@ -22,22 +23,6 @@ pub struct Needs {
     pub elements: usize,
     pub variables: usize,
     pub cells: usize,
-}
-
-// The elements of the six lent buffers.
-pub struct Lengths {
-    pub list: usize,
-    pub trail: usize,
-    pub marks: usize,
-    pub numbers: usize,
-    pub values: usize,
-    pub drawing: usize,
-}
-
-// Whether there is room, or the elements needed where there is not.
-pub enum Room {
-    Enough,
-    Short(usize),
 }
 
 // Why a call is refused: the record's refusal, else 6 with the elements needed.
@@ -79,15 +64,7 @@ pub fn solve_grid(
         variables: counts.variables,
         cells,
     };
-    let lent = Lengths {
-        list: list.len(),
-        trail: trail.len(),
-        marks: marks.len(),
-        numbers: numbers.len(),
-        values: values.len(),
-        drawing: drawing.len(),
-    };
-    let room = first_short(lent, needed);
+    let room = first_short(list, trail, marks, numbers, values, drawing, needed);
     if let Room::Short(n) = room {
         return Solved::Refused(SolveRefusal::TooShort(n));
     }

@@ -1,78 +1,78 @@
 -- `solver_call::rooms::first_short` meets its contract. Assumes nothing.
-use Prim.Native.Nat.{ℕ}
 use lib.ListN.{drop}
-use mathlib.Core.Path.{sym}
-use mathlib.Core.List.{List}
+use mathlib.Core.Path.{_≡_, sym, _∙_, ap}
+use mathlib.Core.List.{List, _++_}
 use Rattle.answers.specs.declared.Outcome.{Outcome}
-use Rattle.answers.specs.Outcome.{Row}
-use Rattle.answers.proofs.Rows.{Left, left-all, left-next, left-turn, left-done}
+use Rattle.answers.specs.Outcome.{Row, firstRefusal}
+use Rattle.answers.proofs.Rows.{rows-give, Left, left-next, left-turn, left-done, refusals-append}
 use Rattle.answers.proofs.Settled.{short-by, long-enough}
-use Rattle.solver_call.specs.Room.{shortRows}
+use Rattle.solver.specs.Work.{workOf, workRows}
+use Rattle.solver.specs.SolverCall.{Lent}
+use Rattle.solver_listing.specs.declared.Room.{Room}
+use Rattle.solver_listing.specs.Room.{roomTells}
+use Rattle.solver_call.specs.Room.{drawingRows, shortRows}
+use Rattle.solver_call.specs.Answer.{lentOf}
 use borrow.Author.Needs.{needs}
 use Rattle.solver_call.proofs.rooms.first_short.Statement.{statement}
 use Rattle.solver_call.proofs.rooms.first_short.Tie as tie
 
+-- the state at the start, once the work buffers were tested
+abbrev start1 : tie.After-work-room → tie.Start
+start1 c = c .before .before .before .before .before
+
+abbrev lent : tie.Start → Lent
+lent c =
+    lentOf (c .args .list .now) (c .args .trail .now) (c .args .marks .now) (c .args .numbers .now) (c .args .values .now) (c .args .drawing .now)
+
+-- the rows of the work buffers, those after them, and all
+abbrev work : tie.Start → List Row
+work c = workRows (c .args .needed .elements) (c .args .needed .variables) (workOf (lent c .list) (lent c .slices))
+
+abbrev rest : tie.Start → List Row
+rest c = drawingRows (lent c) (c .args .needed)
+
 abbrev rows : tie.Start → List Row
-rows c = shortRows (c .args .lent) (c .args .needed)
+rows c = shortRows (lent c) (c .args .needed)
 
--- the state at the start, from where a buffer had room
-abbrev start1 : tie.Else1 → tie.Start
-start1 c = c .before .before .before
+-- what a table gives, by what was told of its first rows
+by-first : (first rest : List Row) (r : Room) → ((t : Outcome) → roomTells r t ≡ firstRefusal first t)
+    → {x : Room} → r ≡ x → (t : Outcome) → roomTells x (firstRefusal rest t) ≡ firstRefusal (first ++ rest) t
+by-first first rest r says w t =
+    sym (ap (λ x. roomTells x (firstRefusal rest t)) w) ∙ says (firstRefusal rest t) ∙ sym (refusals-append first rest t)
 
-abbrev start2 : tie.Else2 → tie.Start
-start2 c = start1 (c .before .before .before)
+by-work : (c : tie.After-work-room) {x : Room} → c .work-room .result ≡ x
+    → (t : Outcome) → roomTells x (firstRefusal (rest (start1 c)) t) ≡ firstRefusal (rows (start1 c)) t
+by-work c = by-first (work (start1 c)) (rest (start1 c)) (c .work-room .result) (c .work-room .ensures)
 
-abbrev start3 : tie.Else3 → tie.Start
-start3 c = start2 (c .before .before .before)
+-- they had room, and the values too
+past-work : (c : tie.After-enum-told) (t : Outcome) → let start = start1 (c .before .before) in Left (rows start) t (rest start)
+past-work c t = record { leads = λ h. rows-give h ∙ by-work (c .before .before) (c .enum-told .given .1) t }
 
-abbrev start4 : tie.Else4 → tie.Start
-start4 c = start3 (c .before .before .before)
+past-values : (c : tie.Else1) (t : Outcome) → let start = start1 (c .before .before .before .before) in Left (rows start) t (drop 1 (rest start))
+past-values c t = left-next (past-work (c .before .before) t) (sym (long-enough _ (c .if1 .left)))
 
-abbrev start5 : tie.Else5 → tie.Start
-start5 c = start4 (c .before .before .before)
+work-room-requires : tie.Need-work-room-requires
+work-room-requires c κs = search needs
 
--- the first n rows have no cause
-abbrev Past : tie.Start → ℕ → Outcome → Type 0
-Past c n t = Left (rows c) t (drop n (rows c))
-
-past-list : (c : tie.Else1) (t : Outcome) → Past (start1 c) 1 t
-past-list c t = left-next (left-all (rows (start1 c)) t) (sym (long-enough _ (c .if1 .left)))
-
-past-trail : (c : tie.Else2) (t : Outcome) → Past (start2 c) 2 t
-past-trail c t = left-next (past-list (c .before .before .before) t) (sym (long-enough _ (c .if2 .left)))
-
-past-marks : (c : tie.Else3) (t : Outcome) → Past (start3 c) 3 t
-past-marks c t = left-next (past-trail (c .before .before .before) t) (sym (long-enough _ (c .if3 .left)))
-
-past-numbers : (c : tie.Else4) (t : Outcome) → Past (start4 c) 4 t
-past-numbers c t = left-next (past-marks (c .before .before .before) t) (sym (long-enough _ (c .if4 .left)))
-
-past-values : (c : tie.Else5) (t : Outcome) → Past (start5 c) 5 t
-past-values c t = left-next (past-numbers (c .before .before .before) t) (sym (long-enough _ (c .if5 .left)))
-
-past-drawing : (c : tie.Else6) (t : Outcome) → Past (start5 (c .before .before .before)) 6 t
-past-drawing c t = left-next (past-values (c .before .before .before) t) (sym (long-enough _ (c .if6 .left)))
+enum-known-work : tie.Need-enum-known-work
+enum-known-work c = search needs
 
 returns : tie.Need-returns
-returns c t = left-turn (left-all (rows (c .before .before .before)) t) (sym (short-by _ (c .if1 .taken) (search needs)))
+returns c t = by-work (c .before .before .before) (c .before .work .given .1) t
+
+enum-told : tie.Need-enum-told
+enum-told c = search needs
 
 returns-2 : tie.Need-returns-2
-returns-2 c t = left-turn (past-list (c .before .before .before) t) (sym (short-by _ (c .if2 .taken) (search needs)))
+returns-2 c t = left-turn (past-work (c .before .before) t) (sym (short-by _ (c .if1 .taken) (search needs)))
 
 returns-3 : tie.Need-returns-3
-returns-3 c t = left-turn (past-trail (c .before .before .before) t) (sym (short-by _ (c .if3 .taken) (search needs)))
+returns-3 c t = left-turn (past-values (c .before .before) t) (sym (short-by _ (c .if2 .taken) (search needs)))
 
 returns-4 : tie.Need-returns-4
-returns-4 c t = left-turn (past-marks (c .before .before .before) t) (sym (short-by _ (c .if4 .taken) (search needs)))
-
-returns-5 : tie.Need-returns-5
-returns-5 c t = left-turn (past-numbers (c .before .before .before) t) (sym (short-by _ (c .if5 .taken) (search needs)))
-
-returns-6 : tie.Need-returns-6
-returns-6 c t = left-turn (past-values (c .before .before .before) t) (sym (short-by _ (c .if6 .taken) (search needs)))
-
-returns-7 : tie.Need-returns-7
-returns-7 c t = left-done (past-drawing c t)
+returns-4 c t = left-done (left-next (past-values (c .before .before) t) (sym (long-enough _ (c .if2 .left))))
 
 pub first-short-spec : {M : Type 1} → statement M
-first-short-spec = tie.close (tie.spec returns returns-2 returns-3 returns-4 returns-5 returns-6 returns-7)
+first-short-spec =
+    tie.close
+    (tie.spec work-room-requires enum-known-work returns enum-told returns-2 returns-3 returns-4)
