@@ -1,6 +1,6 @@
 /*
- * Yajilin: judge, proof sheet, encoder, decoder, search, batches of value lists and DIMACS text. docs/REFERENCE.md has
- * the formats, clauses, steps and refusals in full, with examples.
+ * Yajilin: judge, proof sheet, encoder, decoder, search, batches of value lists, tally of a line's numbers and DIMACS
+ * text. docs/REFERENCE.md has the formats, clauses, steps and refusals in full, with examples.
  *
  * Link with target/staticlib/libffi.a, which `rt staticlib ffi` writes (x86-64, System V calls). Of the C library it
  * needs memcpy and memset. It allocates nothing, keeps nothing between calls and does no input or output, so calls may
@@ -22,7 +22,7 @@
  * - A buffer that a call writes overlaps no other buffer of that call.
  * - While a call runs, nothing else writes its buffers or reads those that it writes.
  * - The thread has room on its stack: yajilin_search and yajilin_next take up to 257 KiB, with a non-zero number among the
- *   used entries up to 513 KiB, the other functions less than 64 KiB.
+ *   used entries up to 513 KiB, yajilin_tally up to 99 KiB, the other functions less than 64 KiB.
  *
  * The contents of a buffer may be anything: the call is answered or refused.
  *
@@ -56,6 +56,7 @@ extern "C" {
 #define YAJILIN_MOST_VARIABLES 16777216
 #define YAJILIN_MOST_CELLS 2025
 #define YAJILIN_MOST_SHEET_BYTES 12104
+#define YAJILIN_COUNTERS 45
 
 /* The refusals, and the value beside each. Cells, indexes and bytes are counted from 0, variables from 1. */
 enum yajilin_refusal {
@@ -83,12 +84,14 @@ enum yajilin_refusal {
                                     on, or the text's length if it ends too soon */
     YAJILIN_UNTRUE = 20,         /* trail not full, or some clause without a true literal under it: 0 */
     YAJILIN_WORDS = 21,          /* words not V long: 0 */
-    YAJILIN_NUMBERS = 22         /* numbers not V long: 0; else a used entry that has a number other than 0 and mark 1, or
+    YAJILIN_NUMBERS = 22,        /* numbers not V long: 0; else a used entry that has a number other than 0 and mark 1, or
                                     the number of no clause that is a reason for the entry (see yajilin_search): the first
                                     such entry's index */
+    YAJILIN_TALLY = 23           /* not 45 counters, a cell that isn't shaded or isn't on the board, a direction not 1 to
+                                    4: 0 */
 };
 
-/* What yajilin_search and yajilin_next answer. */
+/* What yajilin_search and yajilin_next answer; yajilin_tally answers one of the last two. */
 enum yajilin_search_answer {
     YAJILIN_FOUND = 1,
     YAJILIN_NONE = 2,
@@ -200,6 +203,32 @@ uint64_t yajilin_next(uint64_t variables,
                       uint64_t *numbers, size_t numbers_length,
                       uint64_t used, uint64_t budget,
                       uint64_t answer[4]);
+
+/*
+ * What would each number on an arrow allow? Given a shaded cell and a direction, 1 north, 2 east, 3 south or 4 west,
+ * counters[n] becomes the number of solutions of the record's grid that were found with n black cells on the line from the
+ * cell's neighbour in that direction to the edge. The cell stays shaded.
+ *
+ * The solutions are listed as yajilin_next says: the grid's clauses are written into list, a search on them is begun empty
+ * and carried on until YAJILIN_NONE. All calls together make at most budget steps.
+ *
+ * Answered: answer[0] is YAJILIN_NONE or YAJILIN_HALTED, answer[1] the steps in all. After YAJILIN_NONE every solution is
+ * counted. So the counters add up to the number of solutions, and with an arrow of that direction and the number n in the
+ * cell the grid has counters[n] solutions. After YAJILIN_HALTED those found by the first budget steps are counted, also one
+ * that the last of them found. All counters are written. list has the clauses; trail, marks and numbers have in their first
+ * V elements the trail at the end. Elements past what is needed are untouched.
+ * Refused: 1 to 5; 23 (counters_length must be YAJILIN_COUNTERS); 6 for list, trail, marks and numbers, in this order, with
+ * the elements needed, which are V for the last three. yajilin_encode tells the elements that the list needs, and V.
+ */
+uint64_t yajilin_tally(const uint8_t *record, size_t record_bytes,
+                       uint64_t cell, uint64_t direction,
+                       uint64_t *counters, size_t counters_length,
+                       int32_t *list, size_t list_length,
+                       int32_t *trail, size_t trail_length,
+                       uint8_t *marks, size_t marks_bytes,
+                       uint64_t *numbers, size_t numbers_length,
+                       uint64_t budget,
+                       uint64_t answer[4]);
 
 /*
  * Which of 64 value lists satisfy the clause list? One reading of it tells for all of them. A value list has 0 or 1 for

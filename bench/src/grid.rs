@@ -95,6 +95,20 @@ pub fn open(side: usize) -> Vec<u8> {
     Kind::with_side(side).record_of(Sides { rows: side, columns: side }, &vec![Cell::Open; side * side])
 }
 
+/// A grid that is open but for these cells, which are shaded.
+pub fn shaded_in(kind: Kind, sides: Sides, shaded: &[usize]) -> Vec<u8> {
+    let mut cells = vec![Cell::Open; sides.size()];
+    for &x in shaded {
+        cells[x] = Cell::Shaded;
+    }
+    kind.record_of(sides, &cells)
+}
+
+/// Shades a cell of a record, whatever it was.
+pub fn shade(kind: Kind, record: &mut [u8], x: usize) {
+    record[6 + kind.cell_bytes * x..][..kind.cell_bytes].copy_from_slice(&kind.shaded.to_le_bytes()[..kind.cell_bytes]);
+}
+
 /// Numbers that are the same in every run (SplitMix64).
 pub struct Dice(pub u64);
 

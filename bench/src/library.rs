@@ -1,5 +1,6 @@
 //! The functions of include/yajilin.h, with slices for pointers and lengths.
 
+use crate::tallies::{Arrow, Lent};
 use crate::trails::Slices;
 
 pub const ROOM: u64 = 6;
@@ -43,6 +44,24 @@ mod c {
             numbers: *mut u64,
             n: usize,
             used: u64,
+            budget: u64,
+            answer: *mut u64,
+        ) -> u64;
+        pub fn yajilin_tally(
+            record: *const u8,
+            r: usize,
+            cell: u64,
+            direction: u64,
+            counters: *mut u64,
+            c: usize,
+            list: *mut i32,
+            l: usize,
+            trail: *mut i32,
+            t: usize,
+            marks: *mut u8,
+            m: usize,
+            numbers: *mut u64,
+            n: usize,
             budget: u64,
             answer: *mut u64,
         ) -> u64;
@@ -134,6 +153,31 @@ pub fn next(variables: usize, list: &[i32], slices: &mut Slices, used: u64, budg
             slices.numbers.as_mut_ptr(),
             slices.numbers.len(),
             used,
+            budget,
+            answer.as_mut_ptr(),
+        )
+    };
+    (number, answer)
+}
+
+pub fn tally(record: &[u8], arrow: Arrow, lent: Lent, budget: u64) -> Told {
+    let mut answer = [0; 4];
+    let number = unsafe {
+        c::yajilin_tally(
+            record.as_ptr(),
+            record.len(),
+            arrow.cell,
+            arrow.direction,
+            lent.counters.as_mut_ptr(),
+            lent.counters.len(),
+            lent.list.as_mut_ptr(),
+            lent.list.len(),
+            lent.trail.as_mut_ptr(),
+            lent.trail.len(),
+            lent.marks.as_mut_ptr(),
+            lent.marks.len(),
+            lent.numbers.as_mut_ptr(),
+            lent.numbers.len(),
             budget,
             answer.as_mut_ptr(),
         )

@@ -11,12 +11,14 @@ mod sheets;
 mod solvers;
 mod steps;
 mod table;
+mod tallies;
 mod texts;
 mod trails;
 
 use clock::{now, side_by_side, Times};
 use std::hint::black_box;
 use table::{fail, same, Goal, Row};
+use tallies::{Arrow, Buffers};
 use trails::Slices;
 
 const ROUNDS: usize = 15;
@@ -230,6 +232,26 @@ fn number_rows(rows: &mut Vec<Row>, side: usize, most: f64) {
     same(&what, &slices, &given);
 }
 
+/// Every solution of the 4×4 grid that is open but for its first cell, tallied on the line east of it.
+fn tally_row() -> Row {
+    let what = "tally, 4×4 with cell 0 shaded, eastwards";
+    let record = grid::shaded_in(grid::KINDS[0], grid::Sides { rows: 4, columns: 4 }, &[0]);
+    let arrow = Arrow { cell: 0, direction: 2 };
+    let rooms = tallies::needed(&record);
+    let mut buffers = (Buffers::filled(rooms), Buffers::filled(rooms));
+    let (mut told, mut plain) = ((0, [0; 4]), (0, [0; 4]));
+    let times =
+        side_by_side(ROUNDS, &mut || told = library::tally(black_box(&record), arrow, buffers.0.lent(rooms), u64::MAX), &mut || {
+            plain = tallies::tally(black_box(&record), arrow, buffers.1.lent(rooms), u64::MAX)
+        });
+    same(what, &told, &plain);
+    same(what, &buffers.0, &buffers.1);
+    let (number, [answer, steps, ..]) = told;
+    same(what, &(number, answer), &(0, 2));
+    let solutions = buffers.0.solutions();
+    time_row(&format!("{what}: {steps} steps, {solutions} solutions"), times, |seconds| format!("{:.1} ms", seconds * 1e3), Goal::Shown)
+}
+
 /// One call for 64 value lists against a reading for each. All are solutions, so that no reading stops before the last clause.
 fn batch_row(side: usize, goal: Goal) -> Row {
     let record = grid::open(side);
@@ -335,6 +357,8 @@ fn main() {
     handed::compare();
     number_rows(&mut rows, 12, 200.0);
     number_rows(&mut rows, 24, 1000.0);
+    tallies::compare();
+    rows.push(tally_row());
     batches::compare();
     rows.push(batch_row(12, Goal::AtLeast(30.0)));
     compare_kinds();

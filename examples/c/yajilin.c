@@ -6,10 +6,14 @@
  *     --sheet                       prints the proof sheet in place of the bytes
  *     --why CELL                    prints in place of them why the cell, counted from 0, is black or white: a choice of the
  *                                   search, or a clause, with its literals in words, a literal a line
+ * yajilin --numbers CELL N|E|S|W [--steps N] FILE
+ *                                   what a number on an arrow in that shaded cell would allow: for each number with which the
+ *                                   grid has a solution a line with it and how many solutions; and `halted` if the budget
+ *                                   was used up, so that there may be more
  * yajilin --satisfied FILE          reads value lists on standard input, each its literals and 0 (a variable that isn't named
  *                                   is false), and prints a line for each: `yes` if it satisfies the clauses, else `no`
  *
- * Exit status: 0 written, found or none, lists read; 1 bad input; 2 bad usage; 3 halted.
+ * Exit status: 0 written, found or none, counted, lists read; 1 bad input; 2 bad usage; 3 halted.
  */
 #include <errno.h>
 #include <stdio.h>
@@ -49,12 +53,14 @@ struct request {
     int as_sheet;
     int why;
     uint64_t cell;
+    int tally;
+    unsigned direction;
     int satisfied;
     uint64_t budget;
     const char *name;
 };
 
-/* Words for the refusals that a record can get. */
+/* Words for the refusals that a record, or a cell that is asked about, can get. */
 static const char *cause(uint64_t number)
 {
     switch (number) {
@@ -63,6 +69,7 @@ static const char *cause(uint64_t number)
     case YAJILIN_SIDES: return "a side isn't 1 to 24 (in kind 2: 1 to 45)";
     case YAJILIN_CELL_COUNT: return "the record's length doesn't fit its kind and sides";
     case YAJILIN_CELL_BYTE: return "a cell's code that isn't allowed";
+    case YAJILIN_TALLY: return "the cell isn't shaded, or isn't on the board";
     default: return "turned down";
     }
 }
@@ -392,10 +399,23 @@ static void print_found(const struct clauses *c, const struct trail *t, const st
         print_drawing(t->literals, c->variables, r->as_sheet);
 }
 
+static struct trail new_trail(uint64_t v)
+{
+    struct trail t = {room(v, sizeof *t.literals), room(v, 1), room(v, sizeof *t.numbers)};
+    return t;
+}
+
+static void free_trail(struct trail *t)
+{
+    free(t->literals);
+    free(t->marks);
+    free(t->numbers);
+}
+
 static int solve(const struct clauses *c, const struct request *r)
 {
     uint64_t v = c->variables, answer[4];
-    struct trail t = {room(v, sizeof *t.literals), room(v, 1), room(v, sizeof *t.numbers)};
+    struct trail t = new_trail(v);
     if (r->why)
         check_cell(r->cell);
     uint64_t number = yajilin_search(v, c->list, c->length, t.literals, v, t.marks, v, t.numbers, v, 0, r->budget, answer);
@@ -405,9 +425,26 @@ static int solve(const struct clauses *c, const struct request *r)
         print_found(c, &t, r);
     else
         puts(answer[0] == YAJILIN_NONE ? "none" : "halted");
-    free(t.literals);
-    free(t.marks);
-    free(t.numbers);
+    free_trail(&t);
+    return answer[0] == YAJILIN_HALTED ? HALTED : 0;
+}
+
+/* The call writes the clauses again, into the same list. */
+static int print_numbers(const struct clauses *c, const struct request *r)
+{
+    uint64_t v = c->variables, answer[4], counters[YAJILIN_COUNTERS] = {0};
+    struct trail t = new_trail(v);
+    uint64_t number = yajilin_tally(record, record_bytes, r->cell, r->direction, counters, YAJILIN_COUNTERS, c->list, c->length,
+                                    t.literals, v, t.marks, v, t.numbers, v, r->budget, answer);
+    if (number != 0)
+        refuse("counting", number, answer);
+    for (int n = 0; n < YAJILIN_COUNTERS; n++) {
+        if (counters[n] != 0)
+            printf("%d %llu\n", n, (unsigned long long)counters[n]);
+    }
+    if (answer[0] == YAJILIN_HALTED)
+        puts("halted");
+    free_trail(&t);
     return answer[0] == YAJILIN_HALTED ? HALTED : 0;
 }
 
@@ -476,7 +513,8 @@ static int print_satisfied(const struct clauses *c)
 
 static int usage(void)
 {
-    fputs("usage: yajilin [--solve [--steps N] [--sheet | --why CELL] | --satisfied] FILE\n", stderr);
+    fputs("usage: yajilin [--solve [--steps N] [--sheet | --why CELL] | --numbers CELL N|E|S|W [--steps N] | --satisfied]"
+          " FILE\n", stderr);
     return USAGE;
 }
 
@@ -491,7 +529,15 @@ static int read_number(const char *word, uint64_t *number)
     return errno == 0 && *end == '\0';
 }
 
-/* An option of --solve at a word; returns how many words it has, 0 where there is none. */
+/* A direction's letter; 0 for any other word. */
+static unsigned read_direction(const char *word)
+{
+    static const char letters[] = "NESW";
+    const char *at = strlen(word) == 1 ? strchr(letters, word[0]) : NULL;
+    return at == NULL ? 0 : NORTH + (unsigned)(at - letters);
+}
+
+/* An option of --solve or --numbers at a word; returns how many words it has, 0 where there is none. */
 static int read_option(int words, char **word, struct request *r)
 {
     if (strcmp(word[0], "--sheet") == 0) {
@@ -507,23 +553,29 @@ static int read_option(int words, char **word, struct request *r)
     return 0;
 }
 
-/* The options of --solve come after it, in any order. */
+/* The options come after --solve, or after --numbers with its cell and direction, in any order. */
 static int read_words(int argc, char **argv, struct request *r)
 {
     int i = 1;
     if (i < argc && strcmp(argv[i], "--solve") == 0) {
         r->solving = 1;
         i++;
+    } else if (argc - i > 2 && strcmp(argv[i], "--numbers") == 0) {
+        r->tally = 1;
+        r->direction = read_direction(argv[i + 2]);
+        if (!read_number(argv[i + 1], &r->cell) || r->direction == 0)
+            return 0;
+        i += 3;
     } else if (i < argc && strcmp(argv[i], "--satisfied") == 0) {
         r->satisfied = 1;
         i++;
     }
-    int taken = r->solving;
+    int taken = r->solving || r->tally;
     while (taken > 0 && i < argc) {
         taken = read_option(argc - i, argv + i, r);
         i += taken;
     }
-    if (i + 1 != argc || strncmp(argv[i], "--", 2) == 0 || (r->as_sheet && r->why))
+    if (i + 1 != argc || strncmp(argv[i], "--", 2) == 0 || r->as_sheet + r->why + r->tally > 1)
         return 0;
     r->name = argv[i];
     return 1;
@@ -533,6 +585,8 @@ static int answer_request(const struct request *r, const struct clauses *c)
 {
     if (r->solving)
         return solve(c, r);
+    if (r->tally)
+        return print_numbers(c, r);
     if (r->satisfied)
         return print_satisfied(c);
     return print_text(c);

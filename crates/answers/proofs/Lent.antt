@@ -1,8 +1,8 @@
 -- Laws of writing into a lent buffer, one part after the other. Assumes nothing.
 use Prim.Native.Nat.{ℕ, suc, _+_, _≤_}
 use native.Mathlib.Omega.{arith}
-use lib.ListN.{length, set, length-append}
-use lib.Seq.{sets, length-sets, sets-eq, set-out}
+use lib.ListN.{length, set, drop, length-append}
+use lib.Seq.{sets, length-sets, sets-eq, set-out, drop-append-seam}
 use mathlib.Core.Path.{_≡_, refl, sym, _∙_, ap}
 use mathlib.Core.List.{List, [], _∷_, _++_}
 use Rattle.answers.specs.Lent.{Wrote, filled}
@@ -40,3 +40,7 @@ pub wrote-filled : {A : Type 0} {buf new : List A} {next : ℕ} {xs : List A} �
 wrote-filled {buf = buf} {xs = xs} p h =
     let e : 0 + length xs ≡ length xs = omega arith in
     p .holds ∙ (rw e at (sets-eq xs buf 0 (omega arith)))
+
+-- past what is filled a buffer is as it was
+pub past-filled : {A : Type 0} (before xs : List A) {n : ℕ} → length xs ≡ n → drop n (filled before xs) ≡ drop n before
+past-filled before xs e = ap (λ m. drop m (filled before xs)) (sym e) ∙ drop-append-seam xs _ ∙ ap (λ m. drop m before) e

@@ -1,4 +1,4 @@
--- Read Demands.antt, the three demands, RequestE1.antt to RequestE10.antt, document 02's requests, and Stars.antt, the starred cases: short proofs that
+-- Read Demands.antt, the three demands, RequestE1.antt to RequestE11.antt, document 02's requests, and Stars.antt, the starred cases: short proofs that
 -- cite the theories and solver.
 pub mod Demands
 pub mod RequestE1
@@ -11,5 +11,7 @@ pub mod RequestE7
 pub mod RequestE8
 pub mod RequestE9
 pub mod RequestE10
+pub mod TallyCases
+pub mod RequestE11
 pub mod Stars
 pub mod DecoderTable

@@ -29,7 +29,7 @@ byte-at : (a : List Bool) (i : ℕ) → getD (bytesOf a) i 0 ≡ bit (getD a i f
 byte-at a i = List·getD-map bit a i false
 
 -- the decoder draws what the assignment's values give
-decoded-is : (b : Board) (a : List Bool) → decoded b (bytesOf a) ≡ drawn b (valuation b a)
+pub decoded-is : (b : Board) (a : List Bool) → decoded b (bytesOf a) ≡ drawn b (valuation b a)
 decoded-is b a = ap (drawn b) (fun-ext (λ v. ap (λ n. eqb n 1) (byte-at a (place v (variables b))) ∙ bit-is (valuation b a v)))
 
 module _ (s : List ℕ) (acc : IsAccepted s) (a : List Bool) (e : Assignment (variableCount (boardOf s)) a) where

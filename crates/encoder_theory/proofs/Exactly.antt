@@ -30,14 +30,23 @@ module _ (b : Board) (law : Laws b) where
   pub draws-solution : (a : List Bool) → Assignment (variableCount b) a → Satisfies a (clauseList b) → SolutionBytes b (drawn b (valuation b a))
   draws-solution a e h = solution-bytes b (drawingOf b (valuation b a)) law (sound b law (valuation b a) (proper b a e) (satisfies b a .0 h))
 
+  -- that drawing's bytes show what its values say
+  draws-shown : (a : List Bool) → Assignment (variableCount b) a → Satisfies a (clauseList b)
+      → drawingAt (drawn b (valuation b a)) ≡ drawingOf b (valuation b a)
+  draws-shown a e h = drawing-shown b (drawingOf b (valuation b a)) law (sound b law (valuation b a) (proper b a e) (satisfies b a .0 h))
+
+  -- a cell is black if its Z is true
+  pub draws-black : (a : List Bool) → Assignment (variableCount b) a → Satisfies a (clauseList b) → (x : ℕ)
+      → blackAt (drawn b (valuation b a)) x ≡ valuation b a (Z x)
+  draws-black a e h x = ap (λ (D : Drawing). D .black x) (draws-shown a e h)
+
   -- of that drawing's bytes, T(j,t) of a clue tells whether t of the j cells of its line nearest the edge are black
   pub draws-counts : (a : List Bool) → Assignment (variableCount b) a → Satisfies a (clauseList b) → (c : Clue) → c ∈ b .clues → (j t : ℕ)
       → j ≤ length (c .line) → t ≤ c .number
       → valuation b a (T (c .cell) j t) ≡ eqb (blacksNearest (blackAt (drawn b (valuation b a))) (c .line) j) t
   draws-counts a e h c m j t l k =
       counted b law (valuation b a) (proper b a e) (satisfies b a .0 h) c m j t l k
-      ∙ ap (λ (D : Drawing). eqb (blacksNearest (D .black) (c .line) j) t)
-      (sym (drawing-shown b (drawingOf b (valuation b a)) law (sound b law (valuation b a) (proper b a e) (satisfies b a .0 h))))
+      ∙ ap (λ (D : Drawing). eqb (blacksNearest (D .black) (c .line) j) t) (sym (draws-shown a e h))
 
   module _ (ds : List ℕ) (S : SolutionBytes b ds) where
     abbrev D : Drawing
@@ -100,4 +109,4 @@ module _ (b : Board) (law : Laws b) where
 
         -- the drawing that the bytes are is the one that the assignment gives
         same : drawingAt ds ≡ drawingOf b (valuation b a)
-        same = ap drawingAt (sym q) ∙ drawing-shown b (drawingOf b u) law (sound b law u p k)
+        same = ap drawingAt (sym q) ∙ draws-shown a e h

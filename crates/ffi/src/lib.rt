@@ -10,6 +10,8 @@ ghost use Rattle.encoder.specs.Encoding.{encoderAnswer, encoderLeaves};
 ghost use Rattle.encoder.specs.Decoding.{decoderAnswer, decoderLeaves};
 ghost use Rattle.search.specs.Trail.{slices};
 ghost use Rattle.search.specs.Call.{searchOn, bySearch, byNext};
+ghost use Rattle.solver.specs.Tally.{tallyAnswer, tallyLeaves};
+ghost use Rattle.solver_tally.specs.Answer.{asked, lentOf};
 
 // Is the drawing a solution of the record's grid? Answered: yes, four zeros.
 #[no_mangle]
@@ -153,4 +155,33 @@ pub extern "C" fn yajilin_next(
     let v = variables as usize;
     let found = search_next::next(v, list, trail, marks, numbers, used as usize, budget);
     found.outcome().write(answer)
+}
+
+// For a shaded cell and a direction: counter n becomes how many of the solutions found have n black cells on that line. Answered: 2 none (all
+// solutions are found) or 3 halted; the steps in all.
+#[no_mangle]
+pub extern "C" fn yajilin_tally(
+    record: &[u8],
+    cell: u64,
+    direction: u64,
+    counters: &mut [u64],
+    list: &mut [i32],
+    trail: &mut [i32],
+    marks: &mut [u8],
+    numbers: &mut [u64],
+    budget: u64,
+    answer: &mut [u64; 4],
+) -> u64
+    ensures { λ r. ⌜ r ≡ tallyAnswer (now («record» .entry)) (asked cell direction) budget
+        (lentOf (now (counters .entry)) (now (list .entry)) (now (trail .entry)) (now (marks .entry)) (now (numbers .entry))) .number ⌝ }
+    ensures { λ r. ⌜ lentOf (now (counters .exit)) (now (list .exit)) (now (trail .exit)) (now (marks .exit)) (now (numbers .exit))
+        ≡ tallyLeaves (now («record» .entry)) (asked cell direction) budget
+        (lentOf (now (counters .entry)) (now (list .entry)) (now (trail .entry)) (now (marks .entry)) (now (numbers .entry))) ⌝ }
+    ensures { λ r. ⌜ now (answer .exit) ≡ words (tallyAnswer (now («record» .entry)) (asked cell direction) budget
+        (lentOf (now (counters .entry)) (now (list .entry)) (now (trail .entry)) (now (marks .entry)) (now (numbers .entry)))) ⌝ }
+{
+    let x = cell as usize;
+    let d = direction as usize;
+    let tallied = solver_tally::tally(record, x, d, counters, list, trail, marks, numbers, budget);
+    tallied.outcome().write(answer)
 }

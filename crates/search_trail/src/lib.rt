@@ -98,7 +98,7 @@ pub fn clear_trail(trail: &mut [i32], used: usize)
     }
 }
 
-// Writes 0 from a place of the clause numbers on.
+// Writes 0 from a place of 64-bit numbers on.
 pub fn clear_numbers(numbers: &mut [u64], used: usize)
     requires { ⌜ used ≤ length (now numbers) ⌝ }
     ensures { λ r. ⌜ now (numbers .exit) ≡ take used (now (numbers .entry)) ++ replicate (length (now (numbers .entry)) - used) 0 ⌝ }

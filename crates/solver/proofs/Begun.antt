@@ -282,3 +282,10 @@ module _ (s : List ℕ) (acc : IsAccepted s) where
 
       pub solved-drawing : SolutionBytes (boardOf s) (decoded (boardOf s) (trailBytes v (done .trail)))
       solved-drawing = subst (SolutionBytes (boardOf s)) (sym (hands-drawn s (drawn .1))) (drawn .2)
+
+-- 5. The solutions of a grid, each once
+
+pub some-list : (s : List ℕ) → IsAccepted s → (dss : List (List ℕ)) × Solutions (boardOf s) dss
+some-list s acc =
+    let r = listing.carried-on (begun-taken s (zeros s acc) (zeros-begun s acc)) in
+    (_, lists-solutions s (zeros s acc) (zeros-begun s acc) (r .0) (r .1))

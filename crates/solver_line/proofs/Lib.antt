@@ -1,0 +1,2 @@
+-- Laws for the proofs beside this file and for the crates above.
+pub mod Blacks
