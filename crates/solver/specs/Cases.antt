@@ -89,14 +89,11 @@ tallyCases =
     refused (sixCells (from 2 3) 590 44 60) 6 45 ∷
     -- an open cell
     refused (sixCells (from 1 3) 590 45 60) 23 0 ∷
-    -- the line to the south has the black cell, the others have none; and buffers that are longer than needed
-    answered (sixCells (from 2 1) 590 45 60) 2 53 1 0 ∷
-    answered (sixCells (from 2 2) 590 45 60) 2 53 1 0 ∷
+    -- the line to the south has the black cell, that to the west has none; and buffers that are longer than needed
     answered (sixCells (from 2 3) 600 50 60) 2 53 0 1 ∷
     answered (sixCells (from 2 4) 590 45 60) 2 53 1 0 ∷
     -- the solution is found at step 46: a "found" on the last step of the budget is counted, and "none" on it is "none"
     answered (sixCells (from 2 3) 590 45 45) 3 45 0 0 ∷
     answered (sixCells (from 2 3) 590 45 46) 3 46 0 1 ∷
-    answered (sixCells (from 2 3) 590 45 52) 3 52 0 1 ∷
     answered (sixCells (from 2 3) 590 45 53) 2 53 0 1 ∷
     []
