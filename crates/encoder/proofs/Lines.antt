@@ -4,19 +4,19 @@ use native.Mathlib.Omega.{arith}
 use native.Mathlib.Nat.{suc-mod, mod-eq-of-lt, mod-self, mod-lt, mul-zero, zero-mul, zero-mod, div-eq-sub-div, add-div-right, div-lt-iff-lt-mul}
 use native.Mathlib.Numerals.{add-one}
 use native.Mathlib.Decide.{decLt}
-use lib.ListN.{length}
+use lib.ListN.{length, getD, List·getD-eq-default}
 use borrow.Author.Tests.{ltb-true, leb-true}
 use mathlib.Core.Path.{_≡_, refl, _∙_, ap}
 use mathlib.Core.Bool.{true}
 use mathlib.Core.Logic.{_⊎_, inl, inr}
-use mathlib.Core.Option.{Option, none, some}
-use mathlib.Core.List.{List, [], _∷_}
+use mathlib.Core.Option.{some}
 use Rattle.rules.specs.declared.Direction.{Direction}
 use Rattle.rules.specs.declared.Direction.the-variants.{North as north, East as east, South as south, West as west}
 use Rattle.rules.specs.declared.Grid.{Grid}
 use Rattle.rules.specs.Record.{Puzzle, size}
-use Rattle.rules.specs.Board.{inside, target, neighbour, beyond, outward, line}
+use Rattle.rules.specs.Board.{inside, target, neighbour, line}
 use Rattle.rules.proofs.Boards.{has, wired}
+use Rattle.rules.proofs.Lines.{outward-next}
 
 -- the column of the next number, where it is not the first one
 column-next : (x c : ℕ) → 0 < c → (suc x % c ≡ suc (x % c)) ⊎ (suc x % c ≡ 0)
@@ -70,16 +70,6 @@ module _ (g : Grid) where
               which (inl e) = omega arith
               which (inr e) = absurd (omega arith)
 
-  outward-short : (d : Direction) (fuel x : ℕ) (seen : List ℕ) → length (outward g d fuel x seen) ≤ length seen + left d x
-  unfolding outward
-  outward-short d zero x seen = omega arith
-  outward-short d (suc fuel) x seen = by (neighbour g d x) refl (λ y. outward-short d fuel y (y ∷ seen))
-    where
-      by : (o : Option ℕ) → neighbour g d x ≡ o → ((y : ℕ) → length (outward g d fuel y (y ∷ seen)) ≤ suc (length seen) + left d y)
-          → length (beyond o seen (λ y. outward g d fuel y (y ∷ seen))) ≤ length seen + left d x
-      by none e go = omega arith
-      by (some y) e go = let n : left d y < left d x = nearer d x y e in let l = go y in omega arith
-
   left-short : (n : ℕ) → g .rows ≤ n → g .columns ≤ n → (d : Direction) (x : ℕ) → x < size g → left d x < n
   unfolding left
   left-short n h k d x l = by d
@@ -99,6 +89,18 @@ module _ (g : Grid) where
       by south = omega (arith, c)
       by west = omega (arith, m)
 
--- a line has fewer cells than the sides' bound
+-- after j cells of a line at least j steps are left to the edge
+left-after : (p : Puzzle) (d : Direction) (x j : ℕ) → j ≤ length (line p d x) → j ≤ left (p .grid) d (getD (line p d x) j x)
+left-after p d x zero h = omega arith
+left-after p d x (suc j) h =
+    let n = nearer (p .grid) d (getD (line p d x) (suc j) x) (getD (line p d x) j x) (outward-next p d x (omega arith)) in
+    let l = left-after p d x j (omega arith) in
+    omega arith
+
+-- so a line has fewer cells than the sides' bound
 pub line-short : (p : Puzzle) (n : ℕ) → p .grid .rows ≤ n → p .grid .columns ≤ n → (d : Direction) (x : ℕ) → x < size (p .grid) → length (line p d x) < n
-line-short p n h k d x l = let a = outward-short (p .grid) d (size (p .grid)) x [] in let m = left-short (p .grid) n h k d x l in omega arith
+line-short p n h k d x l =
+    let a = left-after p d x (length (line p d x)) (omega arith) in
+    let e : getD (line p d x) (length (line p d x)) x ≡ x = List·getD-eq-default (line p d x) x (omega arith) in
+    let m = left-short (p .grid) n h k d x l in
+    omega (arith, ap (left (p .grid) d) e)

@@ -20,7 +20,7 @@ use Rattle.rules.specs.declared.Grid.{Grid}
 use Rattle.answers.specs.Lists.{All, _∈_, ApartBy}
 use Rattle.rules.specs.Directions.{opposite}
 use Rattle.rules.specs.Record.{Puzzle, size}
-use Rattle.rules.specs.Board.{Clue, Board, when, inside, target, neighbour, openCell, openAt, beyond, outward, line, clueIn, cluesFrom, board}
+use Rattle.rules.specs.Board.{Clue, Board, when, inside, target, neighbour, openCell, openAt, beyond, outward, lineNext, line, clueIn, cluesFrom, board}
 
 -- where a neighbour in direction d lies in the numbering of the cells
 abbrev pub Ahead : Direction → ℕ → ℕ → Type 0
@@ -196,17 +196,7 @@ module _ (g : Grid) where
             (h .there);
       })
 
-  line-stays : (d : Direction) (fuel x : ℕ) (seen : List ℕ) → x < size g → All (λ y. y < size g) seen → All (λ y. y < size g) (outward g d fuel x seen)
-  unfolding outward
-  line-stays d zero x seen h k = k
-  line-stays d (suc fuel) x seen h k = by (neighbour g d x) refl (λ y l. line-stays d fuel y (y ∷ seen) l (l, k))
-    where
-      by : (o : Option ℕ) → neighbour g d x ≡ o → ((y : ℕ) → y < size g → All (λ y. y < size g) (outward g d fuel y (y ∷ seen)))
-          → All (λ y. y < size g) (beyond o seen (λ y. outward g d fuel y (y ∷ seen)))
-      by none e go = k
-      by (some y) e go = go y (goes-back d x y (has d x y e) .within)
-
-  -- a line ends where there is no neighbour: each step leads nearer to the end of the numbers
+  -- each step of a line leads nearer to the end of the numbers
   pub far : Direction → ℕ → ℕ
   far north x = x
   far east x = size g - x
@@ -230,20 +220,32 @@ module _ (g : Grid) where
   not-far south x h = omega arith
   not-far west x h = omega arith
 
-  outward-ends : (d : Direction) (fuel x : ℕ) (seen : List ℕ) (from : ℕ) → getD seen 0 from ≡ x → far d x ≤ fuel
-      → neighbour g d (getD (outward g d fuel x seen) 0 from) ≡ none
-  unfolding outward
-  outward-ends d zero x seen from e h = rw e (by (neighbour g d x) refl)
-    where
-      by : (o : Option ℕ) → neighbour g d x ≡ o → neighbour g d x ≡ none
-      by none q = q
-      by (some y) q = let n : far d y < far d x = nearer d x y (has d x y q) in absurd (omega arith)
-  outward-ends d (suc fuel) x seen from e h = by (neighbour g d x) refl (λ y. outward-ends d fuel y (y ∷ seen) from refl)
-    where
-      by : (o : Option ℕ) → neighbour g d x ≡ o → ((y : ℕ) → far d y ≤ fuel → neighbour g d (getD (outward g d fuel y (y ∷ seen)) 0 from) ≡ none)
-          → neighbour g d (getD (beyond o seen (λ y. outward g d fuel y (y ∷ seen))) 0 from) ≡ none
-      by none q go = rw e q
-      by (some y) q go = let n : far d y < far d x = nearer d x y (has d x y q) in go y (omega arith)
+  -- a line whose next cells are neighbours in its direction stays inside, and ends where there is no next cell
+  module _ (d : Direction) (next : ℕ → Option ℕ) (goes : (x y : ℕ) → next x ≡ some y → neighbour g d x ≡ some y) where
+    outward-stays : (fuel x : ℕ) (seen : List ℕ) → All (λ y. y < size g) seen → All (λ y. y < size g) (outward next fuel x seen)
+    unfolding outward
+    outward-stays zero x seen k = k
+    outward-stays (suc fuel) x seen k = by (next x) refl (λ y l. outward-stays fuel y (y ∷ seen) (l, k))
+      where
+        by : (o : Option ℕ) → next x ≡ o → ((y : ℕ) → y < size g → All (λ y. y < size g) (outward next fuel y (y ∷ seen)))
+            → All (λ y. y < size g) (beyond o seen (λ y. outward next fuel y (y ∷ seen)))
+        by none e go = k
+        by (some y) e go = go y (goes-back d x y (has d x y (goes x y e)) .within)
+
+    outward-ends : (fuel x : ℕ) (seen : List ℕ) (from : ℕ) → getD seen 0 from ≡ x → far d x ≤ fuel
+        → next (getD (outward next fuel x seen) 0 from) ≡ none
+    unfolding outward
+    outward-ends zero x seen from e h = rw e (by (next x) refl)
+      where
+        by : (o : Option ℕ) → next x ≡ o → next x ≡ none
+        by none q = q
+        by (some y) q = let n : far d y < far d x = nearer d x y (has d x y (goes x y q)) in absurd (omega arith)
+    outward-ends (suc fuel) x seen from e h = by (next x) refl (λ y. outward-ends fuel y (y ∷ seen) from refl)
+      where
+        by : (o : Option ℕ) → next x ≡ o → ((y : ℕ) → far d y ≤ fuel → next (getD (outward next fuel y (y ∷ seen)) 0 from) ≡ none)
+            → next (getD (beyond o seen (λ y. outward next fuel y (y ∷ seen))) 0 from) ≡ none
+        by none q go = rw e q
+        by (some y) q go = let n : far d y < far d x = nearer d x y (has d x y (goes x y q)) in go y (omega arith)
 
   pub wired : Wired (size g) (neighbour g)
   wired = record {
@@ -290,8 +292,12 @@ module _ (p : Puzzle) where
   pub clues-in-order : InOrder (board p .clues)
   clues-in-order = clue-order (p .cells) 0
 
-  pub line-ends : (d : Direction) (x : ℕ) → x < size (p .grid) → neighbour (p .grid) d (getD (line p d x) 0 x) ≡ none
-  line-ends d x h = outward-ends (p .grid) d (size (p .grid)) x [] x refl (not-far (p .grid) d x h)
+  -- a line goes on to a neighbour
+  pub line-goes : (d : Direction) (x y : ℕ) → lineNext p d x ≡ some y → neighbour (p .grid) d x ≡ some y
+  line-goes d x y e = e
+
+  pub line-ends : (d : Direction) (x : ℕ) → x < size (p .grid) → lineNext p d (getD (line p d x) 0 x) ≡ none
+  line-ends d x h = outward-ends (p .grid) d (lineNext p d) (line-goes d) (size (p .grid)) x [] x refl (not-far (p .grid) d x h)
 
   clue-stays : (cs : List Cell) (x : ℕ) → x + length cs ≤ size (p .grid)
       → All (λ (c : Clue). (c .cell < size (p .grid)) × All (λ y. y < size (p .grid)) (c .line)) (cluesFrom p x cs)
@@ -299,8 +305,7 @@ module _ (p : Puzzle) where
   clue-stays (Open ∷ cs) x h = clue-stays cs (suc x) (omega arith)
   clue-stays (Shaded ∷ cs) x h = clue-stays cs (suc x) (omega arith)
   clue-stays (Clued d n ∷ cs) x h =
-      let l : x < size (p .grid) = omega arith in
-      ((l, line-stays (p .grid) d (size (p .grid)) x [] l tt), clue-stays cs (suc x) (omega arith))
+      ((omega arith, outward-stays (p .grid) d (lineNext p d) (line-goes d) (size (p .grid)) x [] tt), clue-stays cs (suc x) (omega arith))
 
   pub laws : Filled p → Laws (board p)
   laws w = record {

@@ -7,38 +7,40 @@ use mathlib.Core.Path.{_≡_, refl, sym, _∙_, ap}
 use mathlib.Core.Option.{Option, none, some, Option·getD}
 use mathlib.Core.List.{List, [], _∷_}
 use Rattle.rules.specs.declared.Direction.{Direction}
-use Rattle.rules.specs.declared.Grid.{Grid}
 use Rattle.rules.specs.Directions.{opposite}
 use Rattle.rules.specs.Record.{Puzzle, size}
-use Rattle.rules.specs.Board.{neighbour, beyond, outward, line}
+use Rattle.rules.specs.Board.{neighbour, beyond, outward, lineNext, line}
 use Rattle.rules.specs.Walk.{go}
-use Rattle.rules.proofs.Boards.{wired}
+use Rattle.rules.proofs.Boards.{wired, line-goes}
 
-module _ (g : Grid) (d : Direction) (x : ℕ) where
-  -- each cell of the list is the neighbour of the one after it, the last one of x
+module _ (next : ℕ → Option ℕ) (x : ℕ) where
+  -- each cell of the list comes next to the one after it, the last one to x
   abbrev Chain : List ℕ → Type 0
   Chain [] = Unit
-  Chain (y ∷ ys) = (neighbour g d (getD ys 0 x) ≡ some y) × Chain ys
+  Chain (y ∷ ys) = (next (getD ys 0 x) ≡ some y) × Chain ys
 
-  chain-outward : (fuel y : ℕ) (seen : List ℕ) → y ≡ getD seen 0 x → Chain seen → Chain (outward g d fuel y seen)
+  chain-outward : (fuel y : ℕ) (seen : List ℕ) → y ≡ getD seen 0 x → Chain seen → Chain (outward next fuel y seen)
   unfolding outward
   chain-outward zero y seen e k = k
-  chain-outward (suc fuel) y seen e k = by (neighbour g d y) refl (λ z q. chain-outward fuel z (z ∷ seen) refl (ap (neighbour g d) (sym e) ∙ q, k))
+  chain-outward (suc fuel) y seen e k = by (next y) refl (λ z q. chain-outward fuel z (z ∷ seen) refl (ap next (sym e) ∙ q, k))
     where
-      by : (o : Option ℕ) → neighbour g d y ≡ o → ((z : ℕ) → neighbour g d y ≡ some z → Chain (outward g d fuel z (z ∷ seen)))
-          → Chain (beyond o seen (λ z. outward g d fuel z (z ∷ seen)))
+      by : (o : Option ℕ) → next y ≡ o → ((z : ℕ) → next y ≡ some z → Chain (outward next fuel z (z ∷ seen)))
+          → Chain (beyond o seen (λ z. outward next fuel z (z ∷ seen)))
       by none q more = k
       by (some z) q more = more z q
 
-  chain-at : (ys : List ℕ) → Chain ys → (j : ℕ) → j < length ys → neighbour g d (getD ys (suc j) x) ≡ some (getD ys j x)
+  chain-at : (ys : List ℕ) → Chain ys → (j : ℕ) → j < length ys → next (getD ys (suc j) x) ≡ some (getD ys j x)
   chain-at [] k j h = absurd (omega arith)
   chain-at (y ∷ ys) k zero h = k .0
   chain-at (y ∷ ys) k (suc j) h = chain-at ys (k .1) j (omega arith)
 
 module _ (p : Puzzle) (d : Direction) (x : ℕ) where
   module _ {j : ℕ} (h : j < length (line p d x)) where
-    outward-next : neighbour (p .grid) d (getD (line p d x) (suc j) x) ≡ some (getD (line p d x) j x)
-    outward-next = chain-at (p .grid) d x (line p d x) (chain-outward (p .grid) d x (size (p .grid)) x [] refl tt) j h
+    -- each cell is the neighbour of the one after it, the last one the clue's
+    pub outward-next : neighbour (p .grid) d (getD (line p d x) (suc j) x) ≡ some (getD (line p d x) j x)
+    outward-next =
+        let next = lineNext p d in
+        line-goes p d _ _ (chain-at next x (line p d x) (chain-outward next x (size (p .grid)) x [] refl tt) j h)
 
     -- the next one lies towards the clue
     pub line-next : neighbour (p .grid) (opposite d) (getD (line p d x) j x) ≡ some (getD (line p d x) (suc j) x)

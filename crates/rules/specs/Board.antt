@@ -61,14 +61,18 @@ abbrev pub beyond : Option ℕ → List ℕ → (ℕ → List ℕ) → List ℕ
 beyond none seen go = seen
 beyond (some y) seen go = go y
 
--- the cells met from x on in a direction, the last met first; at most `fuel` of them
-unfoldable pub outward : Grid → Direction → ℕ → ℕ → List ℕ → List ℕ
-outward g d zero x seen = seen
-outward g d (suc fuel) x seen = beyond (neighbour g d x) seen (λ y. outward g d fuel y (y ∷ seen))
+-- the cells met from x on, the last met first; at most `fuel` of them
+unfoldable pub outward : (ℕ → Option ℕ) → ℕ → ℕ → List ℕ → List ℕ
+outward next zero x seen = seen
+outward next (suc fuel) x seen = beyond (next x) seen (λ y. outward next fuel y (y ∷ seen))
+
+-- the cell after x on a line in a direction, if any
+abbrev pub lineNext : Puzzle → Direction → ℕ → Option ℕ
+lineNext p d x = neighbour (p .grid) d x
 
 -- the line of a clue: every cell from its neighbour in that direction to the board's edge; as many steps as cells are enough (`line-ends`)
 abbrev pub line : Puzzle → Direction → ℕ → List ℕ
-line p d x = outward (p .grid) d (size (p .grid)) x []
+line p d x = outward (lineNext p d) (size (p .grid)) x []
 
 -- the clue in cell x with that direction and number
 abbrev pub clueIn : Puzzle → ℕ → Direction → ℕ → Clue

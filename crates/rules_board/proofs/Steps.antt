@@ -13,10 +13,10 @@ use mathlib.Core.List.{List, [], _∷_}
 use Rattle.answers.proofs.Bools.{both-and}
 use Rattle.rules.specs.declared.Direction.{Direction}
 use Rattle.rules.specs.declared.Grid.{Grid}
-use Rattle.rules.specs.Record.{size, OnBoard}
-use Rattle.rules.specs.Board.{when, inside, target, neighbour, beyond, outward}
+use Rattle.rules.specs.Record.{Puzzle, size, OnBoard}
+use Rattle.rules.specs.Board.{when, inside, target, neighbour, beyond, outward, lineNext, line}
 use Rattle.rules.specs.Walk.{go}
-use Rattle.rules.proofs.Boards.{when-true, wired, far, nearer, has, not-far}
+use Rattle.rules.proofs.Boards.{when-true, wired, far, nearer, has, not-far, line-goes}
 
 module _ {g : Grid} {x : ℕ} (o : OnBoard g x) where
   -- a test that holds leads to the neighbour, one that fails leads nowhere
@@ -47,58 +47,56 @@ gone-on {g} {x} {y} d o e = by (neighbour g d x) refl e
     by (some z) q e = rw e (stays-on o d (sym q))
 
 -- on the way out along a line that leaves x: at y, after so many cells
-pub record Outgoing (g : Grid) (d : Direction) (x y cells : ℕ) : Type 0 where
-  pub on : OnBoard g y
+pub record Outgoing (p : Puzzle) (d : Direction) (x y cells : ℕ) : Type 0 where
+  pub inside : y < size (p .grid)
   pub seen : List ℕ
   pub last : y ≡ getD seen 0 x
   pub many : cells ≡ length seen
   pub fuel : ℕ
-  pub enough : far g d y ≤ fuel
-  pub rest : outward g d fuel y seen ≡ outward g d (size g) x []
-  pub bound : cells + far g d y ≤ size g
+  pub enough : far (p .grid) d y ≤ fuel
+  pub rest : outward (lineNext p d) fuel y seen ≡ line p d x
+  pub bound : cells + far (p .grid) d y ≤ size (p .grid)
 
-pub out-start : {g : Grid} {x : ℕ} (d : Direction) → OnBoard g x → Outgoing g d x x 0
-out-start {g} {x} d o =
-    let h : far g d x ≤ size g = not-far g d x (o .inside) in
-    record { on = o; seen = []; last = refl; many = refl; fuel = size g; enough = h; rest = refl; bound = omega arith }
+pub out-start : (p : Puzzle) {x : ℕ} (d : Direction) → x < size (p .grid) → Outgoing p d x x 0
+out-start p {x} d l =
+    let h = not-far (p .grid) d x l in
+    record { inside = l; seen = []; last = refl; many = refl; fuel = size (p .grid); enough = h; rest = refl; bound = omega arith }
 
-module _ {g : Grid} {d : Direction} {x y cells : ℕ} (o : Outgoing g d x y cells) where
-  all-seen : none ≡ neighbour g d y → o .seen ≡ outward g d (size g) x []
+module _ {p : Puzzle} {d : Direction} {x y cells : ℕ} (o : Outgoing p d x y cells) where
+  all-seen : none ≡ lineNext p d y → o .seen ≡ line p d x
   unfolding outward
   all-seen e = by (o .fuel) (o .rest)
     where
-      by : (fuel : ℕ) → outward g d fuel y (o .seen) ≡ outward g d (size g) x [] → o .seen ≡ outward g d (size g) x []
+      by : (fuel : ℕ) → outward (lineNext p d) fuel y (o .seen) ≡ line p d x → o .seen ≡ line p d x
       by zero r = r
-      by (suc fuel) r = ap (λ (p : Option ℕ). beyond p (o .seen) (λ z. outward g d fuel z (z ∷ o .seen))) e ∙ r
+      by (suc fuel) r = ap (λ (n : Option ℕ). beyond n (o .seen) (λ z. outward (lineNext p d) fuel z (z ∷ o .seen))) e ∙ r
 
-  pub out-end : none ≡ neighbour g d y → y ≡ getD (outward g d (size g) x []) 0 x
+  pub out-end : none ≡ lineNext p d y → y ≡ getD (line p d x) 0 x
   out-end e = o .last ∙ ap (λ (l : List ℕ). getD l 0 x) (all-seen e)
 
-  pub out-count : none ≡ neighbour g d y → cells ≡ length (outward g d (size g) x [])
+  pub out-count : none ≡ lineNext p d y → cells ≡ length (line p d x)
   out-count e = o .many ∙ ap length (all-seen e)
 
-  pub out-less : {z : ℕ} → some z ≡ neighbour g d y → far g d z < far g d y
-  out-less {z} e = nearer g d y z (has g d y z (sym e))
+  module _ {z : ℕ} (e : some z ≡ lineNext p d y) where
+    pub out-less : far (p .grid) d z < far (p .grid) d y
+    out-less = nearer (p .grid) d y z (has (p .grid) d y z (line-goes p d y z (sym e)))
 
-  pub out-on : {z : ℕ} → some z ≡ neighbour g d y → Outgoing g d x z (cells + 1)
-  unfolding outward
-  out-on {z} e = by (o .fuel) (o .enough) (o .rest)
-    where
-      less : far g d z < far g d y
-      less = out-less e
-
-      by : (fuel : ℕ) → far g d y ≤ fuel → outward g d fuel y (o .seen) ≡ outward g d (size g) x [] → Outgoing g d x z (cells + 1)
-      by zero h r = let l = less in absurd (omega arith)
-      by (suc fuel) h r =
-          let l = less in
-          let b = o .bound in
-          record {
-            on = stays-on (o .on) d e;
-            seen = z ∷ o .seen;
-            last = refl;
-            many = add-one cells ∙ ap suc (o .many);
-            fuel = fuel;
-            enough = omega arith;
-            rest = ap (λ (p : Option ℕ). beyond p (o .seen) (λ z. outward g d fuel z (z ∷ o .seen))) e ∙ r;
-            bound = omega arith;
-          }
+    pub out-on : Outgoing p d x z (cells + 1)
+    unfolding outward
+    out-on = by (o .fuel) (o .enough) (o .rest)
+      where
+        by : (fuel : ℕ) → far (p .grid) d y ≤ fuel → outward (lineNext p d) fuel y (o .seen) ≡ line p d x → Outgoing p d x z (cells + 1)
+        by zero h r = let l = out-less in absurd (omega arith)
+        by (suc fuel) h r =
+            let l = out-less in
+            let b = o .bound in
+            record {
+              inside = wired (p .grid) .inside d y z (line-goes p d y z (sym e)) .1;
+              seen = z ∷ o .seen;
+              last = refl;
+              many = add-one cells ∙ ap suc (o .many);
+              fuel = fuel;
+              enough = omega arith;
+              rest = ap (λ (n : Option ℕ). beyond n (o .seen) (λ z. outward (lineNext p d) fuel z (z ∷ o .seen))) e ∙ r;
+              bound = omega arith;
+            }

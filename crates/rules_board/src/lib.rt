@@ -1,9 +1,10 @@
 // Steps on a grid's board: neighbours, and the way to the end of a clue's line.
 ghost use mathlib.Core.Path.{_≡_};
+ghost use Prim.Native.Nat.{_<_};
 ghost use lib.ListN.{length, getD};
 ghost use Rattle.answers.specs.First.{placed};
 ghost use Rattle.rules.specs.Directions.{opposite};
-ghost use Rattle.rules.specs.Record.{OnBoard, puzzle};
+ghost use Rattle.rules.specs.Record.{size, OnBoard, RecordFits, puzzle};
 ghost use Rattle.rules.specs.Board.{neighbour, line};
 ghost use Rattle.rules.specs.Walk.{go};
 use answers::Place;
@@ -78,7 +79,8 @@ pub struct End {
 
 // The end of the line that leaves x in a direction.
 pub fn line_end(g: Grid, record: &[u8], x: usize, d: Direction) -> End
-    requires { ⌜ OnBoard g x ⌝ }
+    requires { ⌜ RecordFits g (now «record») ⌝ }
+    requires { ⌜ x < size g ⌝ }
     ensures { λ r. ⌜ r .cell ≡ getD (line (puzzle g (now («record» .entry))) d x) 0 x ⌝ }
     ensures { λ r. ⌜ r .cells ≡ length (line (puzzle g (now («record» .entry))) d x) ⌝ }
 {

@@ -1,5 +1,5 @@
 -- What the reader tells of a record of each kind, in the documents' words. Once for all kinds. Assumes nothing.
-use Prim.Native.Nat.{ℕ, zero, suc, _+_, _*_, _≤_, _<_}
+use Prim.Native.Nat.{ℕ, suc, _+_, _*_, _≤_, _<_}
 use native.Mathlib.Omega.{arith}
 use lib.Dec.{eqb, leb, ltb}
 use lib.ListN.{length, getD, take, drop}
@@ -26,7 +26,7 @@ use Rattle.rules.specs.declared.Cell.the-variants.{Open, Clue, Shaded}
 use Rattle.rules.specs.declared.CellCode.{CellCode}
 use Rattle.rules.specs.declared.CellCode.the-variants.{Is}
 use Rattle.rules.specs.declared.Grid.{Grid}
-use Rattle.rules.specs.Board.{Board, neighbour, openAt, beyond, outward, clueOf, cluesFrom, board, boardOf}
+use Rattle.rules.specs.Board.{Board, neighbour, openAt, outward, lineNext, clueOf, cluesFrom, board, boardOf}
 use Rattle.rules.specs.Record.{Puzzle, kindNumber, readKind, kindNotAllowed, mostSide, cellBytes, mostNumber, directionUnit, shadedCode, readCell, gridCell}
 use Rattle.rules.specs.Record.{cellOf, notAllowed, word, gridOf, size, cellCode, cellAt, puzzle, isSide, wrongLength, wrongKind, wrongSide, wrongSize}
 use Rattle.rules.specs.Record.{wrongCell, recordRows, gridAnswer, recordAnswer, IsAccepted}
@@ -301,26 +301,17 @@ neighbour-same k g east x = refl
 neighbour-same k g south x = refl
 neighbour-same k g west x = refl
 
-outward-same : (k : Kind) (g : Grid) (d : Direction) (fuel x : ℕ) (seen : List ℕ) → outward (withKind k g) d fuel x seen ≡ outward g d fuel x seen
-unfolding outward
-outward-same k g d zero x seen = refl
-outward-same k g d (suc fuel) x seen =
-    ap (λ o. beyond o seen (λ y. outward (withKind k g) d fuel y (y ∷ seen))) (neighbour-same k g d x)
-    ∙ by (neighbour g d x) (λ y. outward-same k g d fuel y (y ∷ seen))
-  where
-    by : (o : Option ℕ) → ((y : ℕ) → outward (withKind k g) d fuel y (y ∷ seen) ≡ outward g d fuel y (y ∷ seen))
-        → beyond o seen (λ y. outward (withKind k g) d fuel y (y ∷ seen)) ≡ beyond o seen (λ y. outward g d fuel y (y ∷ seen))
-    by none go = refl
-    by (some y) go = go y
-
 module _ (k : Kind) (p : Puzzle) where
   abbrev puzzleWith : Puzzle
   puzzleWith = record { grid = withKind k (p .grid); cells = p .cells }
 
+  next-same : (d : Direction) (x : ℕ) → lineNext puzzleWith d x ≡ lineNext p d x
+  next-same d x = neighbour-same k (p .grid) d x
+
   clue-same : (x : ℕ) (c : Cell) → clueOf puzzleWith x c ≡ clueOf p x c
   clue-same x Open = refl
   clue-same x Shaded = refl
-  clue-same x (Clue d n) = ap (λ l. record { cell = x; number = n; line = l } ∷ []) (outward-same k (p .grid) d (size (p .grid)) x [])
+  clue-same x (Clue d n) = λ i. record { cell = x; number = n; line = outward (λ y. next-same d y i) (size (p .grid)) x [] } ∷ []
 
   clues-same : (x : ℕ) (cs : List Cell) → cluesFrom puzzleWith x cs ≡ cluesFrom p x cs
   clues-same x [] = refl

@@ -72,7 +72,7 @@ last-small c =
     (s .pre .1 .1 .1)
 
 line-end-requires : tie.Need-line-end-requires
-line-end-requires c κs = record { sides = c .before .before .pre .1 .0 .recordFits .sides; inside = c .before .before .pre .1 .1 .0 }
+line-end-requires c κs = let s = c .before .before in (s .pre .1 .0 .recordFits, s .pre .1 .1 .0)
 
 unit-requires : tie.Need-unit-requires
 unit-requires c κs = part-needs (start (c .before .before .before .before))

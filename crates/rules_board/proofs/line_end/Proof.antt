@@ -1,22 +1,23 @@
 -- `rules_board::line_end` meets its contract. Assumes nothing.
 use Rattle.answers.proofs.First.{found-at, found-none}
 use borrow.Author.Needs.{needs}
+use Rattle.rules.specs.Record.{puzzle}
 use Rattle.rules.proofs.Boards.{far}
 use Rattle.rules_board.proofs.Steps.{Outgoing, out-start, out-end, out-count, out-less, out-on}
 use Rattle.rules_board.proofs.line_end.Statement.{statement}
 use Rattle.rules_board.proofs.line_end.Tie as tie
 
 abbrev Inv-loop : tie.InvT-loop
-Inv-loop g «record» x d y₀ cells₀ y cells = Outgoing g d x y cells
+Inv-loop g «record» x d y₀ cells₀ y cells = Outgoing (puzzle g «record») d x y cells
 
 abbrev μ-loop : tie.MeasureT-loop
 μ-loop g «record» x d y₀ cells₀ y cells = far g d y
 
 loop-holds : tie.Need-loop-holds Inv-loop μ-loop
-loop-holds c = out-start (c .before .args .d) (c .before .pre)
+loop-holds c = let s = c .before in out-start (puzzle (s .args .g) (s .args .«record» .now)) (s .args .d) (s .pre .1)
 
 neighbour-requires : tie.Need-neighbour-requires Inv-loop μ-loop
-neighbour-requires c κs = search needs
+neighbour-requires c κs = record { sides = c .before .before .pre .0 .sides; inside = c .loop .inv .inside }
 
 enum-known-p : tie.Need-enum-known-p Inv-loop μ-loop
 enum-known-p c = search needs
