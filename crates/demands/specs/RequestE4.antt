@@ -12,7 +12,7 @@ use Rattle.answers.specs.Outcome.{refusal}
 use Rattle.rules.specs.Record.{recordAnswer, IsAccepted}
 use Rattle.rules.specs.Board.{boardOf}
 use Rattle.rules.specs.Judge.{judgeAnswer}
-use Rattle.rules_theory.specs.RecordKinds.{Layout, OfKind, OfOtherKind, Accepts, Refuses, SameGrid}
+use Rattle.rules_theory.specs.RecordKinds.{RecordKind, OfKind, OfOtherKind, Accepts, Refuses, SameGrid}
 use Rattle.cnf.specs.Literals.{mostVariables, wrongList}
 use Rattle.encoder.specs.Variables.{variableCount}
 use Rattle.encoder.specs.Clauses.{clauseList}
@@ -21,11 +21,11 @@ use Rattle.encoder.specs.Encoding.{encoderAnswer, encoderLeaves}
 use Rattle.encoder.specs.Decoding.{decoderAnswer, decoderLeaves}
 
 -- sides to 24, one byte a cell, lower four bits the number, 0 to 15; and E5's shaded cell
-abbrev pub kindOne : Layout
+abbrev pub kindOne : RecordKind
 kindOne = record { kind = 1; side = 24; bytes = 1; unit = 0x10; number = 15; shaded = 0x50 }
 
 -- sides to 45, two bytes a cell, lower twelve bits the number, 0 to 44; and E5's shaded cell
-abbrev pub kindTwo : Layout
+abbrev pub kindTwo : RecordKind
 kindTwo = record { kind = 2; side = 45; bytes = 2; unit = 0x1000; number = 44; shaded = 0x5000 }
 
 pub record RequestE4 : Type 0 where

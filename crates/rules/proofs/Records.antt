@@ -27,7 +27,8 @@ use Rattle.rules.specs.declared.Cell.the-variants.{Open, Clue, Shaded}
 use Rattle.rules.specs.declared.CellCode.{CellCode}
 use Rattle.rules.specs.declared.CellCode.the-variants.{Is, NotAllowed}
 use Rattle.rules.specs.declared.Kind.{Kind}
-use Rattle.rules.specs.declared.Kind.the-variants.{One, Two}
+use Rattle.rules.specs.declared.Layout.{Layout}
+use Rattle.rules.specs.declared.Layout.the-variants.{Byte, Word}
 use Rattle.rules.specs.declared.KindField.the-variants.{Is as IsKind, NotAllowed as NoKind}
 use Rattle.rules.specs.declared.Grid.{Grid}
 use Rattle.rules.specs.declared.RecordRefusal.{RecordRefusal}
@@ -36,36 +37,36 @@ use Rattle.rules.specs.declared.Parsed.the-variants.{Accepted, Refused}
 use Rattle.rules.specs.Board.{openCell, boardOf}
 use Rattle.rules.proofs.Boards.{Laws, Filled, laws}
 use Rattle.rules.proofs.Outcomes.{record-numbers, gridTold, grid-told}
-use Rattle.rules.specs.Record.{readKind, kindOf, kindNotAllowed, mostSide, cellBytes, mostNumber, directionUnit, directionOf, isDirection, isClue}
-use Rattle.rules.specs.Record.{shadedCode, readCell, cellOf, notAllowed, word, gridOf, size, cellCode, cellAt, puzzle, isSide}
+use Rattle.rules.specs.Record.{layoutOf, readKind, kindOf, kindNotAllowed, mostSide, cellBytes, mostNumber, directionUnit, directionOf, isDirection}
+use Rattle.rules.specs.Record.{isClue, shadedCode, readCell, cellOf, notAllowed, word, gridOf, size, cellCode, cellAt, puzzle, isSide}
 use Rattle.rules.specs.Record.{Sides, RecordSized, RecordFits, wrongLength, wrongKind, wrongSide, wrongSize, wrongCell, recordRows, gridAnswer}
 use Rattle.rules.specs.Record.{recordAnswer, IsAccepted, recordRefusalOutcome, parsedOutcome}
 
--- The codes of cells, once for every direction and kind
+-- The codes of cells, once for every direction and layout
 
 -- a clue's code: its direction d and its number n
-clue-of : (k : Kind) (c d n : ℕ) → 1 ≤ d → d ≤ 4 → n ≤ mostNumber k → (c ≡ 0 → ⊥) → c / directionUnit k ≡ d → c % directionUnit k ≡ n
+clue-of : (k : Layout) (c d n : ℕ) → 1 ≤ d → d ≤ 4 → n ≤ mostNumber k → (c ≡ 0 → ⊥) → c / directionUnit k ≡ d → c % directionUnit k ≡ n
     → Is (Clue (directionOf d) n) ≡ readCell k c
 clue-of k c d n low high m z q r = simp (ne-eqb c 0 z, q, r, le-leb 1 d low, le-leb d 4 high, le-leb n (mostNumber k) m)
 
-pub clue-code : (k : Kind) (c d n : ℕ) → 1 ≤ d → d ≤ 4 → n ≤ mostNumber k → c ≡ d * directionUnit k + n → Is (Clue (directionOf d) n) ≡ readCell k c
-clue-code One c d n low high m e = clue-of One c d n low high m (λ z. omega arith) (omega arith) (omega arith)
-clue-code Two c d n low high m e = clue-of Two c d n low high m (λ z. omega arith) (omega arith) (omega arith)
+pub clue-code : (k : Layout) (c d n : ℕ) → 1 ≤ d → d ≤ 4 → n ≤ mostNumber k → c ≡ d * directionUnit k + n → Is (Clue (directionOf d) n) ≡ readCell k c
+clue-code Byte c d n low high m e = clue-of Byte c d n low high m (λ z. omega arith) (omega arith) (omega arith)
+clue-code Word c d n low high m e = clue-of Word c d n low high m (λ z. omega arith) (omega arith) (omega arith)
 
 -- the codes of a direction from its first to its largest number
-pub clue-within : (k : Kind) (c d : ℕ) → 1 ≤ d → d ≤ 4 → d * directionUnit k ≤ c → c ≤ d * directionUnit k + mostNumber k
+pub clue-within : (k : Layout) (c d : ℕ) → 1 ≤ d → d ≤ 4 → d * directionUnit k ≤ c → c ≤ d * directionUnit k + mostNumber k
     → Is (Clue (directionOf d) (c % directionUnit k)) ≡ readCell k c
-clue-within One c d low high from to = clue-code One c d _ low high (omega arith) (omega arith)
-clue-within Two c d low high from to = clue-code Two c d _ low high (omega arith) (omega arith)
+clue-within Byte c d low high from to = clue-code Byte c d _ low high (omega arith) (omega arith)
+clue-within Word c d low high from to = clue-code Word c d _ low high (omega arith) (omega arith)
 
 -- what a code is read as
-pub data ReadAs (k : Kind) (c : ℕ) : CellCode → Type 0 where
+pub data ReadAs (k : Layout) (c : ℕ) : CellCode → Type 0 where
   as-open : c ≡ 0 → ReadAs k c (Is Open)
   as-clue : (d n : ℕ) → 1 ≤ d → d ≤ 4 → n ≤ mostNumber k → c ≡ d * directionUnit k + n → ReadAs k c (Is (Clue (directionOf d) n))
   as-shaded : c ≡ shadedCode k → ReadAs k c (Is Shaded)
   as-none : ReadAs k c NotAllowed
 
-pub read-as : (k : Kind) (c : ℕ) → ReadAs k c (readCell k c)
+pub read-as : (k : Layout) (c : ℕ) → ReadAs k c (readCell k c)
 read-as k c = by (eqb c 0) refl (isClue k c) refl (eqb c (shadedCode k)) refl
   where
     by : (s : Bool) → eqb c 0 ≡ s → (t : Bool) → isClue k c ≡ t → (u : Bool) → eqb c (shadedCode k) ≡ u
@@ -78,12 +79,12 @@ read-as k c = by (eqb c 0) refl (isClue k c) refl (eqb c (shadedCode k)) refl
     by false z false e true f = as-shaded (eqb-true _ _ f)
     by false z false e false f = as-none
 
-pub shaded-code : (k : Kind) (c : ℕ) → c ≡ shadedCode k → Is Shaded ≡ readCell k c
-shaded-code One c e = rw e
-shaded-code Two c e = rw e
+pub shaded-code : (k : Layout) (c : ℕ) → c ≡ shadedCode k → Is Shaded ≡ readCell k c
+shaded-code Byte c e = rw e
+shaded-code Word c e = rw e
 
 -- what is neither 0 nor the code of a clue or a shaded cell is not allowed:
-no-code : (k : Kind) (c : ℕ) → (c ≡ 0 → ⊥) → ((d n : ℕ) → 1 ≤ d → d ≤ 4 → n ≤ mostNumber k → c ≡ d * directionUnit k + n → ⊥) → (c ≡ shadedCode k → ⊥)
+no-code : (k : Layout) (c : ℕ) → (c ≡ 0 → ⊥) → ((d n : ℕ) → 1 ≤ d → d ≤ 4 → n ≤ mostNumber k → c ≡ d * directionUnit k + n → ⊥) → (c ≡ shadedCode k → ⊥)
     → NotAllowed ≡ readCell k c
 no-code k c z no-clue not-shaded = by (read-as k c)
   where
@@ -93,43 +94,43 @@ no-code k c z no-clue not-shaded = by (read-as k c)
     by (as-shaded e) = absurd (not-shaded e)
     by as-none = refl
 
--- a number with no direction, one that is too large (in kind 1 none is), and all after the last clue but a shaded cell's
-pub no-direction : (k : Kind) (c : ℕ) → (c ≡ 0 → ⊥) → c < directionUnit k → NotAllowed ≡ readCell k c
-no-direction One c z h = no-code One c z (λ d n low high m e. omega arith) (λ e. omega arith)
-no-direction Two c z h = no-code Two c z (λ d n low high m e. omega arith) (λ e. omega arith)
+-- a number with no direction, one that is too large (with one byte none is), and all after the last clue but a shaded cell's
+pub no-direction : (k : Layout) (c : ℕ) → (c ≡ 0 → ⊥) → c < directionUnit k → NotAllowed ≡ readCell k c
+no-direction Byte c z h = no-code Byte c z (λ d n low high m e. omega arith) (λ e. omega arith)
+no-direction Word c z h = no-code Word c z (λ d n low high m e. omega arith) (λ e. omega arith)
 
-pub large-number : (c b : ℕ) → b * 0x1000 + 44 < c → c < (b + 1) * 0x1000 → NotAllowed ≡ readCell Two c
-large-number c b over under = no-code Two c (λ z. omega arith) (λ d n low high m e. omega arith) (λ e. omega arith)
+pub large-number : (c b : ℕ) → b * 0x1000 + 44 < c → c < (b + 1) * 0x1000 → NotAllowed ≡ readCell Word c
+large-number c b over under = no-code Word c (λ z. omega arith) (λ d n low high m e. omega arith) (λ e. omega arith)
 
-pub past-clues : (k : Kind) (c : ℕ) → 4 * directionUnit k + mostNumber k < c → (c ≡ shadedCode k → ⊥) → NotAllowed ≡ readCell k c
-past-clues One c h = no-code One c (λ z. omega arith) (λ d n low high m e. omega arith)
-past-clues Two c h = no-code Two c (λ z. omega arith) (λ d n low high m e. omega arith)
+pub past-clues : (k : Layout) (c : ℕ) → 4 * directionUnit k + mostNumber k < c → (c ≡ shadedCode k → ⊥) → NotAllowed ≡ readCell k c
+past-clues Byte c h = no-code Byte c (λ z. omega arith) (λ d n low high m e. omega arith)
+past-clues Word c h = no-code Word c (λ z. omega arith) (λ d n low high m e. omega arith)
 
 -- the cell numbered x is that of its code
-pub cell-at : (g : Grid) (s : List ℕ) (x : ℕ) → x < size g → cellAt (g .kind) s x ≡ getD (puzzle g s .cells) x Open
-cell-at g s x h = sym (made-at (cellAt (g .kind) s) Open (size g) x h)
+pub cell-at : (g : Grid) (s : List ℕ) (x : ℕ) → x < size g → cellAt (layoutOf (g .kind)) s x ≡ getD (puzzle g s .cells) x Open
+cell-at g s x h = sym (made-at (cellAt (layoutOf (g .kind)) s) Open (size g) x h)
 
 -- the sum of a code's first and last byte
-abbrev endsSum : Kind → List ℕ → ℕ → ℕ
+abbrev endsSum : Layout → List ℕ → ℕ → ℕ
 endsSum k s x = getD s (6 + cellBytes k * x) 0 + getD s (6 + cellBytes k * x + cellBytes k - 1) 0
 
-sum-zero : (k : Kind) (s : List ℕ) (x : ℕ) → (cellCode k s x ≡ 0 → endsSum k s x ≡ 0) × (endsSum k s x ≡ 0 → cellCode k s x ≡ 0)
-sum-zero One s x =
+sum-zero : (k : Layout) (s : List ℕ) (x : ℕ) → (cellCode k s x ≡ 0 → endsSum k s x ≡ 0) × (endsSum k s x ≡ 0 → cellCode k s x ≡ 0)
+sum-zero Byte s x =
     let first : 6 + 1 * x ≡ 6 + x = omega arith in
     let last : 6 + 1 * x + 1 - 1 ≡ 6 + x = omega arith in
     rw (last, first) (λ e. omega arith, λ e. omega arith)
-sum-zero Two s x = let last : 6 + 2 * x + 2 - 1 ≡ 6 + 2 * x + 1 = omega arith in rw last (λ e. omega arith, λ e. omega arith)
+sum-zero Word s x = let last : 6 + 2 * x + 2 - 1 ≡ 6 + 2 * x + 1 = omega arith in rw last (λ e. omega arith, λ e. omega arith)
 
-clue-not-zero : (k : Kind) {c : ℕ} (d n : ℕ) → 1 ≤ d → c ≡ d * directionUnit k + n → c ≡ 0 → ⊥
-clue-not-zero One d n low e z = omega arith
-clue-not-zero Two d n low e z = omega arith
+clue-not-zero : (k : Layout) {c : ℕ} (d n : ℕ) → 1 ≤ d → c ≡ d * directionUnit k + n → c ≡ 0 → ⊥
+clue-not-zero Byte d n low e z = omega arith
+clue-not-zero Word d n low e z = omega arith
 
-shaded-not-zero : (k : Kind) {c : ℕ} → c ≡ shadedCode k → c ≡ 0 → ⊥
-shaded-not-zero One e z = omega arith
-shaded-not-zero Two e z = omega arith
+shaded-not-zero : (k : Layout) {c : ℕ} → c ≡ shadedCode k → c ≡ 0 → ⊥
+shaded-not-zero Byte e z = omega arith
+shaded-not-zero Word e z = omega arith
 
 -- of the codes that are allowed only an open cell's has the sum 0
-pub open-sum : (k : Kind) (s : List ℕ) (x : ℕ) → notAllowed (readCell k (cellCode k s x)) ≡ false → eqb (endsSum k s x) 0 ≡ openCell (cellAt k s x)
+pub open-sum : (k : Layout) (s : List ℕ) (x : ℕ) → notAllowed (readCell k (cellCode k s x)) ≡ false → eqb (endsSum k s x) 0 ≡ openCell (cellAt k s x)
 open-sum k s x = by (read-as k (cellCode k s x))
   where
     by : {r : CellCode} → ReadAs k (cellCode k s x) r → notAllowed r ≡ false → eqb (endsSum k s x) 0 ≡ openCell (cellOf r)
@@ -147,7 +148,7 @@ else-clue P o s Shaded h = s
 
 -- a grid has as many cells as its sides say
 pub puzzle-filled : (g : Grid) (s : List ℕ) → Filled (puzzle g s)
-puzzle-filled g s = made-long (cellAt (g .kind) s) (size g)
+puzzle-filled g s = made-long (cellAt (layoutOf (g .kind)) s) (size g)
 
 -- the number of a clue, 0 for another cell; none is above 44
 abbrev pub numberOf : Cell → ℕ
@@ -155,11 +156,11 @@ numberOf Open = 0
 numberOf (Clue d n) = n
 numberOf Shaded = 0
 
-number-bound : (k : Kind) → mostNumber k ≤ 44
-number-bound One = omega arith
-number-bound Two = omega arith
+number-bound : (k : Layout) → mostNumber k ≤ 44
+number-bound Byte = omega arith
+number-bound Word = omega arith
 
-code-number : (k : Kind) (c : ℕ) → numberOf (cellOf (readCell k c)) ≤ 44
+code-number : (k : Layout) (c : ℕ) → numberOf (cellOf (readCell k c)) ≤ 44
 code-number k c = by (read-as k c)
   where
     by : {r : CellCode} → ReadAs k c r → numberOf (cellOf r) ≤ 44
@@ -169,38 +170,39 @@ code-number k c = by (read-as k c)
     by as-none = omega arith
 
 pub numbers-small : (g : Grid) (s : List ℕ) → All (λ c. numberOf c ≤ 44) (puzzle g s .cells)
-numbers-small g s = all-map (λ c. numberOf c ≤ 44) (cellAt (g .kind) s) (upTo (size g)) (λ x m. code-number (g .kind) (cellCode (g .kind) s x))
+numbers-small g s =
+    let l = layoutOf (g .kind) in all-map (λ c. numberOf c ≤ 44) (cellAt l s) (upTo (size g)) (λ x m. code-number l (cellCode l s x))
 
 pub number-small : (g : Grid) (s : List ℕ) (x : ℕ) → x < size g → numberOf (getD (puzzle g s .cells) x Open) ≤ 44
-number-small g s x h = subst (λ c. numberOf c ≤ 44) (cell-at g s x h) (code-number (g .kind) (cellCode (g .kind) s x))
+number-small g s x h = subst (λ c. numberOf c ≤ 44) (cell-at g s x h) (code-number (layoutOf (g .kind)) (cellCode (layoutOf (g .kind)) s x))
 
--- a side is 1 to 45, whatever the kind
-side-bound : (k : Kind) → mostSide k ≤ 45
-side-bound One = omega arith
-side-bound Two = omega arith
+-- a side is 1 to 45, whatever the layout
+side-bound : (k : Layout) → mostSide k ≤ 45
+side-bound Byte = omega arith
+side-bound Word = omega arith
 
-side-between : (k : Kind) (n : ℕ) → isSide k n ≡ true → (1 ≤ n) × (n ≤ 45)
+side-between : (k : Layout) (n : ℕ) → isSide k n ≡ true → (1 ≤ n) × (n ≤ 45)
 side-between k n h =
     let (low, high) = and-both (leb 1 n) (leb n (mostSide k)) h in
     let l : n ≤ mostSide k = leb-true _ _ high in
     (leb-true _ _ low, omega (arith, side-bound k))
 
 -- a cell has one byte or two
-pub bytes-few : (k : Kind) (n : ℕ) → cellBytes k * n ≤ 2 * n
-bytes-few One n = omega arith
-bytes-few Two n = omega arith
+pub bytes-few : (k : Layout) (n : ℕ) → cellBytes k * n ≤ 2 * n
+bytes-few Byte n = omega arith
+bytes-few Word n = omega arith
 
-pub bytes-inside : (k : Kind) {b n x : ℕ} → b ≡ cellBytes k → x < n → (1 ≤ b) × (b * x + b ≤ cellBytes k * n)
-bytes-inside One e h = rw e (omega arith, omega arith)
-bytes-inside Two e h = rw e (omega arith, omega arith)
+pub bytes-inside : (k : Layout) {b n x : ℕ} → b ≡ cellBytes k → x < n → (1 ≤ b) × (b * x + b ≤ cellBytes k * n)
+bytes-inside Byte e h = rw e (omega arith, omega arith)
+bytes-inside Word e h = rw e (omega arith, omega arith)
 
 pub fits-sized : {g : Grid} {s : List ℕ} → RecordFits g s → RecordSized g s
 fits-sized h = record { sides = h .sides; long = h .long }
 
-pub sides-small : (g : Grid) → isSide (g .kind) (g .rows) ≡ true → isSide (g .kind) (g .columns) ≡ true → Sides g
+pub sides-small : (g : Grid) → isSide (layoutOf (g .kind)) (g .rows) ≡ true → isSide (layoutOf (g .kind)) (g .columns) ≡ true → Sides g
 sides-small g h k =
-    let r = side-between (g .kind) (g .rows) h in
-    let c = side-between (g .kind) (g .columns) k in
+    let r = side-between (layoutOf (g .kind)) (g .rows) h in
+    let c = side-between (layoutOf (g .kind)) (g .columns) k in
     let m : g .rows * g .columns ≤ 45 * 45 = mul-le-mul (r .1) (c .1) in
     record { wide = omega (arith, c .0); narrow = omega (arith, c .1); few = omega arith }
 
@@ -209,20 +211,20 @@ module _ (s : List ℕ) (acc : IsAccepted s) where
   accepted-clear = answered-clear (recordRows s) _ refl acc
 
   -- its sides are small,
-  accepted-sides : (isSide (gridOf s .kind) (gridOf s .rows) ≡ true) × (isSide (gridOf s .kind) (gridOf s .columns) ≡ true)
+  accepted-sides : (isSide (layoutOf (gridOf s .kind)) (gridOf s .rows) ≡ true) × (isSide (layoutOf (gridOf s .kind)) (gridOf s .columns) ≡ true)
   accepted-sides =
       let (c1, (c2, (c3, c))) = accepted-clear in
-      let w = or-neither (not (isSide (gridOf s .kind) (gridOf s .rows))) _ (no-cause _ c3) in
+      let w = or-neither (not (isSide (layoutOf (gridOf s .kind)) (gridOf s .rows))) _ (no-cause _ c3) in
       (not-false _ (w .0), not-false _ (w .1))
 
   pub accepted-some : 0 < gridOf s .rows
-  accepted-some = side-between (gridOf s .kind) _ (accepted-sides .0) .0
+  accepted-some = side-between (layoutOf (gridOf s .kind)) _ (accepted-sides .0) .0
 
   pub accepted-rows : gridOf s .rows ≤ 45
-  accepted-rows = side-between (gridOf s .kind) _ (accepted-sides .0) .1
+  accepted-rows = side-between (layoutOf (gridOf s .kind)) _ (accepted-sides .0) .1
 
   pub accepted-columns : gridOf s .columns ≤ 45
-  accepted-columns = side-between (gridOf s .kind) _ (accepted-sides .1) .1
+  accepted-columns = side-between (layoutOf (gridOf s .kind)) _ (accepted-sides .1) .1
 
   -- it is as long as they say, and its codes are allowed
   pub accepted-fits : RecordFits (gridOf s) s
@@ -268,19 +270,19 @@ module _ (s : List ℕ) where
     grid-is = λ i. record { kind = kindOf (e i); rows = getD s 4 0; columns = getD s 5 0 }
 
 module _ {g h : Grid} (e : g ≡ h) where
-  pub wrong-rows : isSide (g .kind) (g .rows) ≡ false → some 0 ≡ cause (wrongSide h)
+  pub wrong-rows : isSide (layoutOf (g .kind)) (g .rows) ≡ false → some 0 ≡ cause (wrongSide h)
   wrong-rows f = ap cause (sym (or-left _ _ (ap not f))) ∙ ap (λ g. cause (wrongSide g)) e
 
-  pub wrong-columns : isSide (g .kind) (g .columns) ≡ false → some 0 ≡ cause (wrongSide h)
-  wrong-columns f = ap cause (sym (or-right (not (isSide (g .kind) (g .rows))) _ (ap not f))) ∙ ap (λ g. cause (wrongSide g)) e
+  pub wrong-columns : isSide (layoutOf (g .kind)) (g .columns) ≡ false → some 0 ≡ cause (wrongSide h)
+  wrong-columns f = ap cause (sym (or-right (not (isSide (layoutOf (g .kind)) (g .rows))) _ (ap not f))) ∙ ap (λ g. cause (wrongSide g)) e
 
-  pub right-sides : isSide (g .kind) (g .rows) ≡ true → isSide (g .kind) (g .columns) ≡ true → none ≡ cause (wrongSide h)
+  pub right-sides : isSide (layoutOf (g .kind)) (g .rows) ≡ true → isSide (layoutOf (g .kind)) (g .columns) ≡ true → none ≡ cause (wrongSide h)
   right-sides f k = rw (f, k) at (ap (λ g. cause (wrongSide g)) e)
 
-  pub other-size : (s : List ℕ) → (length s ≡ 6 + cellBytes (g .kind) * size g → ⊥) → some 0 ≡ cause (wrongSize h s)
+  pub other-size : (s : List ℕ) → (length s ≡ 6 + cellBytes (layoutOf (g .kind)) * size g → ⊥) → some 0 ≡ cause (wrongSize h s)
   other-size s f = ap (λ t. cause (not t)) (sym (ne-eqb _ _ f)) ∙ ap (λ g. cause (wrongSize g s)) e
 
-  pub right-size : (s : List ℕ) → length s ≡ 6 + cellBytes (g .kind) * size g → none ≡ cause (wrongSize h s)
+  pub right-size : (s : List ℕ) → length s ≡ 6 + cellBytes (layoutOf (g .kind)) * size g → none ≡ cause (wrongSize h s)
   right-size s f = ap (λ t. cause (not t)) (sym (eq-eqb _ _ f)) ∙ ap (λ g. cause (wrongSize g s)) e
 
   pub cells-sought : (s : List ℕ) → firstWhere (wrongCell g s) (size g) ≡ firstWhere (wrongCell h s) (size h)

@@ -15,6 +15,8 @@ use Rattle.rules.specs.declared.Cell.{Cell}
 use Rattle.rules.specs.declared.Cell.the-variants.{Open, Clue, Shaded}
 use Rattle.rules.specs.declared.CellCode.{CellCode}
 use Rattle.rules.specs.declared.CellCode.the-variants.{Is, NotAllowed}
+use Rattle.rules.specs.declared.Layout.{Layout}
+use Rattle.rules.specs.declared.Layout.the-variants.{Byte, Word}
 use Rattle.rules.specs.declared.Kind.{Kind}
 use Rattle.rules.specs.declared.Kind.the-variants.{One, Two}
 use Rattle.rules.specs.declared.KindField.{KindField}
@@ -47,25 +49,30 @@ abbrev pub kindNotAllowed : KindField → Bool
 kindNotAllowed (IsKind k) = false
 kindNotAllowed NoKind = true
 
--- what a kind sets: the largest side,
-abbrev pub mostSide : Kind → ℕ
-mostSide One = 24
-mostSide Two = 45
+-- the layout and limits of a kind
+abbrev pub layoutOf : Kind → Layout
+layoutOf One = Byte
+layoutOf Two = Word
+
+-- what a layout sets: the largest side,
+abbrev pub mostSide : Layout → ℕ
+mostSide Byte = 24
+mostSide Word = 45
 
 -- the bytes of a cell,
-abbrev pub cellBytes : Kind → ℕ
-cellBytes One = 1
-cellBytes Two = 2
+abbrev pub cellBytes : Layout → ℕ
+cellBytes Byte = 1
+cellBytes Word = 2
 
 -- the largest number of a clue,
-abbrev pub mostNumber : Kind → ℕ
-mostNumber One = 15
-mostNumber Two = 44
+abbrev pub mostNumber : Layout → ℕ
+mostNumber Byte = 15
+mostNumber Word = 44
 
 -- and what a direction is multiplied by in a code: the number has the lower four bits, or the lower twelve
-abbrev pub directionUnit : Kind → ℕ
-directionUnit One = 0x10
-directionUnit Two = 0x1000
+abbrev pub directionUnit : Layout → ℕ
+directionUnit Byte = 0x10
+directionUnit Word = 0x1000
 
 -- 1 north, 2 east, 3 south, 4 west
 abbrev pub directionOf : ℕ → Direction
@@ -75,20 +82,20 @@ abbrev pub isDirection : ℕ → Bool
 isDirection n = leb 1 n && leb n 4
 
 -- a clue's upper four bits are the direction, its lower ones the number
-abbrev pub isClue : Kind → ℕ → Bool
-isClue k c = isDirection (c / directionUnit k) && leb (c % directionUnit k) (mostNumber k)
+abbrev pub isClue : Layout → ℕ → Bool
+isClue l c = isDirection (c / directionUnit l) && leb (c % directionUnit l) (mostNumber l)
 
 -- the code of a shaded cell
-abbrev pub shadedCode : Kind → ℕ
-shadedCode One = 0x50
-shadedCode Two = 0x5000
+abbrev pub shadedCode : Layout → ℕ
+shadedCode Byte = 0x50
+shadedCode Word = 0x5000
 
 -- 0 is open; else it is a clue's code, or that of a shaded cell; no other is allowed
-abbrev pub readCell : Kind → ℕ → CellCode
-readCell k c =
+abbrev pub readCell : Layout → ℕ → CellCode
+readCell l c =
     cond (eqb c 0) (Is Open)
-    (cond (isClue k c) (Is (Clue (directionOf (c / directionUnit k)) (c % directionUnit k)))
-    (cond (eqb c (shadedCode k)) (Is Shaded) NotAllowed))
+    (cond (isClue l c) (Is (Clue (directionOf (c / directionUnit l)) (c % directionUnit l)))
+    (cond (eqb c (shadedCode l)) (Is Shaded) NotAllowed))
 
 -- (a code that is not allowed stands in no accepted record)
 abbrev pub cellOf : CellCode → Cell
@@ -112,27 +119,27 @@ abbrev pub size : Grid → ℕ
 size g = g .rows * g .columns
 
 -- the code of the cell numbered x: its byte, or its two bytes
-abbrev pub cellCode : Kind → List ℕ → ℕ → ℕ
-cellCode One s x = getD s (6 + x) 0
-cellCode Two s x = word s (6 + 2 * x)
+abbrev pub cellCode : Layout → List ℕ → ℕ → ℕ
+cellCode Byte s x = getD s (6 + x) 0
+cellCode Word s x = word s (6 + 2 * x)
 
-abbrev pub cellAt : Kind → List ℕ → ℕ → Cell
-cellAt k s x = cellOf (readCell k (cellCode k s x))
+abbrev pub cellAt : Layout → List ℕ → ℕ → Cell
+cellAt l s x = cellOf (readCell l (cellCode l s x))
 
 -- 5: cell code not allowed
 abbrev pub wrongCell : Grid → List ℕ → ℕ → Bool
-wrongCell g s x = notAllowed (readCell (g .kind) (cellCode (g .kind) s x))
+wrongCell g s x = notAllowed (readCell (layoutOf (g .kind)) (cellCode (layoutOf (g .kind)) s x))
 
 abbrev pub puzzle : Grid → List ℕ → Puzzle
-puzzle g s = record { grid = g; cells = map (cellAt (g .kind) s) (upTo (size g)) }
+puzzle g s = record { grid = g; cells = map (cellAt (layoutOf (g .kind)) s) (upTo (size g)) }
 
 -- the cell numbered x of a record's grid
 abbrev pub gridCell : List ℕ → ℕ → Cell
 gridCell s x = getD (puzzle (gridOf s) s .cells) x Open
 
 -- a side is 1 to the largest
-abbrev pub isSide : Kind → ℕ → Bool
-isSide k n = leb 1 n && leb n (mostSide k)
+abbrev pub isSide : Layout → ℕ → Bool
+isSide l n = leb 1 n && leb n (mostSide l)
 
 -- the most cells that a grid has: 45 times 45
 abbrev pub mostCells : ℕ
@@ -152,12 +159,12 @@ pub record OnBoard (g : Grid) (x : ℕ) : Type 0 where
 -- with a record of its length,
 pub record RecordSized (g : Grid) (s : List ℕ) : Type 0 where
   pub sides : Sides g
-  pub long : length s ≡ 6 + cellBytes (g .kind) * size g
+  pub long : length s ≡ 6 + cellBytes (layoutOf (g .kind)) * size g
 
 -- and whose codes are allowed as well, which is what all code above the reader asks for,
 pub record RecordFits (g : Grid) (s : List ℕ) : Type 0 where
   pub sides : Sides g
-  pub long : length s ≡ 6 + cellBytes (g .kind) * size g
+  pub long : length s ≡ 6 + cellBytes (layoutOf (g .kind)) * size g
   pub allowed : (x : ℕ) → x < size g → wrongCell g s x ≡ false
 
 -- and with a drawing of its size
@@ -176,11 +183,11 @@ wrongKind s = kindNotAllowed (readKind (word s 2))
 module _ (g : Grid) where
   -- 3: a side not 1 to 24, or in kind 2 not 1 to 45
   abbrev pub wrongSide : Bool
-  wrongSide = not (isSide (g .kind) (g .rows)) || not (isSide (g .kind) (g .columns))
+  wrongSide = not (isSide (layoutOf (g .kind)) (g .rows)) || not (isSide (layoutOf (g .kind)) (g .columns))
 
   -- 4: length not 6 + N, or in kind 2 not 6 + 2N
   abbrev pub wrongSize : List ℕ → Bool
-  wrongSize s = not (eqb (length s) (6 + cellBytes (g .kind) * size g))
+  wrongSize s = not (eqb (length s) (6 + cellBytes (layoutOf (g .kind)) * size g))
 
 abbrev pub recordRows : List ℕ → List Row
 recordRows s =

@@ -20,6 +20,12 @@ pub enum CellCode {
     NotAllowed,
 }
 
+// How the cells stand in a record, with the limits of sides and numbers: a byte a cell, or a word of two bytes.
+pub enum Layout {
+    Byte,
+    Word,
+}
+
 // A record's kind: 1, or 2 with larger sides and numbers.
 pub enum Kind {
     One,

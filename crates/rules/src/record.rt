@@ -4,9 +4,9 @@ ghost use Prim.Native.Nat.{_+_, _<_};
 ghost use lib.ListN.{length, getD};
 ghost use Rattle.answers.specs.First.{firstWhere, placed};
 ghost use Rattle.rules.specs.declared.Cell.the-variants.{Open};
-ghost use Rattle.rules.specs.declared.Kind.the-variants.{One, Two};
+ghost use Rattle.rules.specs.declared.Layout.the-variants.{Byte, Word};
 ghost use Rattle.rules.specs.declared.Parsed.the-variants.{Refused};
-ghost use Rattle.rules.specs.Record.{cellBytes, readKind, readCell, notAllowed, word, size, cellCode, puzzle, isSide, wrongCell};
+ghost use Rattle.rules.specs.Record.{layoutOf, cellBytes, readKind, readCell, notAllowed, word, size, cellCode, puzzle, isSide, wrongCell};
 ghost use Rattle.rules.specs.Record.{Sides, RecordSized, RecordFits, recordAnswer, parsedOutcome, IsRefused};
 ghost use Rattle.rules.specs.Board.{openCell};
 use super::Cell;
@@ -15,13 +15,14 @@ use super::Direction;
 use super::Grid;
 use super::Kind;
 use super::KindField;
+use super::Layout;
 use super::Parsed;
 use super::RecordRefusal;
 use answers::Place;
 
-// The cell of a code of kind 1: 0 is open; the upper four bits of a clue tell the direction, the lower four the number; 0x50 is shaded.
-fn read_one(c: u16) -> CellCode
-    ensures { λ r. ⌜ r ≡ readCell One c ⌝ }
+// The cell of a code of one byte: 0 is open; the upper four bits of a clue tell the direction, the lower four the number; 0x50 is shaded.
+fn read_byte(c: u16) -> CellCode
+    ensures { λ r. ⌜ r ≡ readCell Byte c ⌝ }
 {
     match c {
         0 => CellCode::Is(Cell::Open),
@@ -34,9 +35,9 @@ fn read_one(c: u16) -> CellCode
     }
 }
 
-// The cell of a code of kind 2: the lower twelve bits of a clue tell the number, 0 to 44; 0x5000 is shaded.
-fn read_two(c: u16) -> CellCode
-    ensures { λ r. ⌜ r ≡ readCell Two c ⌝ }
+// The cell of a code of two bytes: the lower twelve bits of a clue tell the number, 0 to 44; 0x5000 is shaded.
+fn read_word(c: u16) -> CellCode
+    ensures { λ r. ⌜ r ≡ readCell Word c ⌝ }
 {
     match c {
         0 => CellCode::Is(Cell::Open),
@@ -79,12 +80,13 @@ impl Grid {
     fn code(self, record: &[u8], x: usize) -> u16
         requires { ⌜ RecordSized self (now «record») ⌝ }
         requires { ⌜ x < size self ⌝ }
-        ensures { λ r. ⌜ r ≡ cellCode (self .kind) (now («record» .entry)) x ⌝ }
+        ensures { λ r. ⌜ r ≡ cellCode (layoutOf (self .kind)) (now («record» .entry)) x ⌝ }
     {
         let kind = self.kind;
-        match kind {
-            Kind::One => record[6 + x] as u16,
-            Kind::Two => word_at(record, 6 + 2 * x),
+        let layout = kind.layout();
+        match layout {
+            Layout::Byte => record[6 + x] as u16,
+            Layout::Word => word_at(record, 6 + 2 * x),
         }
     }
 
@@ -95,22 +97,24 @@ impl Grid {
         ensures { λ r. ⌜ r ≡ getD (puzzle self (now («record» .entry)) .cells) x Open ⌝ }
     {
         let kind = self.kind;
-        let c = kind.read_cell(self.code(record, x));
+        let layout = kind.layout();
+        let c = layout.read_cell(self.code(record, x));
         let CellCode::Is(cell) = c else {
             return Cell::Open;
         };
         cell
     }
 
-    // Is the cell numbered x open? It is exactly if its first byte and its last, which in kind 1 are one, are 0. The kind tells only
-    // where they are: this is asked most, and reading the code costs more.
+    // Is the cell numbered x open? It is exactly if its first byte and its last, which may be one, are 0. The layout tells only where
+    // they are: this is asked most, and reading the code costs more.
     pub fn is_open(self, record: &[u8], x: usize) -> bool
         requires { ⌜ RecordFits self (now «record») ⌝ }
         requires { ⌜ x < size self ⌝ }
         ensures { λ r. ⌜ r ≡ openCell (getD (puzzle self (now («record» .entry)) .cells) x Open) ⌝ }
     {
         let kind = self.kind;
-        let bytes = kind.cell_bytes();
+        let layout = kind.layout();
+        let bytes = layout.cell_bytes();
         let first = 6 + bytes * x;
         let last = first + bytes - 1;
         let sum = record[first] as usize + record[last] as usize;
@@ -125,9 +129,10 @@ fn wrong_cell(g: Grid, record: &[u8]) -> Place
 {
     let n = g.size();
     let kind = g.kind;
+    let layout = kind.layout();
     let mut x = 0;
     while x < n {
-        let bad = kind.not_allowed(g.code(record, x));
+        let bad = layout.not_allowed(g.code(record, x));
         if bad {
             return Place::At(x);
         }
@@ -148,6 +153,17 @@ fn read_kind(n: u16) -> KindField
 }
 
 impl Kind {
+    fn layout(self) -> Layout
+        ensures { λ r. ⌜ r ≡ layoutOf self ⌝ }
+    {
+        match self {
+            Kind::One => Layout::Byte,
+            Kind::Two => Layout::Word,
+        }
+    }
+}
+
+impl Layout {
     fn is_side(self, n: usize) -> bool
         ensures { λ r. ⌜ r ≡ isSide self n ⌝ }
     {
@@ -155,8 +171,8 @@ impl Kind {
             return false;
         }
         match self {
-            Kind::One => n <= 24,
-            Kind::Two => n <= 45,
+            Layout::Byte => n <= 24,
+            Layout::Word => n <= 45,
         }
     }
 
@@ -165,8 +181,8 @@ impl Kind {
         ensures { λ r. ⌜ r ≡ readCell self code ⌝ }
     {
         match self {
-            Kind::One => read_one(code),
-            Kind::Two => read_two(code),
+            Layout::Byte => read_byte(code),
+            Layout::Word => read_word(code),
         }
     }
 
@@ -185,8 +201,8 @@ impl Kind {
         ensures { λ r. ⌜ r ≡ cellBytes self ⌝ }
     {
         match self {
-            Kind::One => 1,
-            Kind::Two => 2,
+            Layout::Byte => 1,
+            Layout::Word => 2,
         }
     }
 }
@@ -206,17 +222,18 @@ pub fn read(record: &[u8]) -> Parsed
     let KindField::Is(kind) = field else {
         return Parsed::Refused(RecordRefusal::Kind);
     };
+    let layout = kind.layout();
     let rows = record[4] as usize;
     let columns = record[5] as usize;
-    let tall = kind.is_side(rows);
+    let tall = layout.is_side(rows);
     if !tall {
         return Parsed::Refused(RecordRefusal::Side);
     }
-    let wide = kind.is_side(columns);
+    let wide = layout.is_side(columns);
     if !wide {
         return Parsed::Refused(RecordRefusal::Side);
     }
-    if record.len() != 6 + kind.cell_bytes() * (rows * columns) {
+    if record.len() != 6 + layout.cell_bytes() * (rows * columns) {
         return Parsed::Refused(RecordRefusal::Size);
     }
     let g = Grid {

@@ -18,6 +18,8 @@ use Rattle.answers.proofs.Rows.{refusals-append, clear-answered, no-cause}
 use Rattle.answers.proofs.First.{first-none, none-first, first-with}
 use Rattle.rules.specs.declared.Direction.{Direction}
 use Rattle.rules.specs.declared.Direction.the-variants.{North as north, East as east, South as south, West as west}
+use Rattle.rules.specs.declared.Layout.{Layout}
+use Rattle.rules.specs.declared.Layout.the-variants.{Byte, Word}
 use Rattle.rules.specs.declared.Kind.{Kind}
 use Rattle.rules.specs.declared.Kind.the-variants.{One, Two}
 use Rattle.rules.specs.declared.KindField.the-variants.{Is as IsKind, NotAllowed as NoKind}
@@ -27,12 +29,12 @@ use Rattle.rules.specs.declared.CellCode.{CellCode}
 use Rattle.rules.specs.declared.CellCode.the-variants.{Is}
 use Rattle.rules.specs.declared.Grid.{Grid}
 use Rattle.rules.specs.Board.{Board, neighbour, openAt, outward, lineNext, clueOf, cluesFrom, board, boardOf}
-use Rattle.rules.specs.Record.{Puzzle, kindNumber, readKind, kindNotAllowed, mostSide, cellBytes, mostNumber, directionUnit, shadedCode, readCell, gridCell}
+use Rattle.rules.specs.Record.{Puzzle, layoutOf, kindNumber, readKind, kindNotAllowed, mostSide, cellBytes, mostNumber, directionUnit, shadedCode, readCell}
 use Rattle.rules.specs.Record.{cellOf, notAllowed, word, gridOf, size, cellCode, cellAt, puzzle, isSide, wrongLength, wrongKind, wrongSide, wrongSize}
-use Rattle.rules.specs.Record.{wrongCell, recordRows, gridAnswer, recordAnswer, IsAccepted}
+use Rattle.rules.specs.Record.{gridCell, wrongCell, recordRows, gridAnswer, recordAnswer, IsAccepted}
 use Rattle.rules.proofs.Records.{ReadAs, as-open, as-clue, as-shaded, as-none, read-as, clue-code, shaded-code, cell-at, puzzle-filled, accepted-clear}
 use Rattle.rules.proofs.Records.{right-length, right-kind, grid-is}
-use Rattle.rules_theory.specs.RecordKinds.{Layout, littleEndian, bytesAt, Whole, cellCount, CodeIs, is-open, is-clue, is-shaded, OfKind, Sided}
+use Rattle.rules_theory.specs.RecordKinds.{RecordKind, littleEndian, bytesAt, Whole, cellCount, CodeIs, is-open, is-clue, is-shaded, OfKind, Sided}
 use Rattle.rules_theory.specs.RecordKinds.{RightLength, codeAt, NoCell, Accepts, Refuses, OfOtherKind, SameGrid}
 
 -- 1. Bytes
@@ -56,30 +58,33 @@ word-at s i =
 
 -- 2. The codes of cells
 
-abbrev pub layout : Kind → Layout
-layout k =
+abbrev pub recordKind : Kind → RecordKind
+recordKind k =
     record {
       kind = kindNumber k;
-      side = mostSide k;
-      bytes = cellBytes k;
-      unit = directionUnit k;
-      number = mostNumber k;
-      shaded = shadedCode k;
+      side = mostSide (layoutOf k);
+      bytes = cellBytes (layoutOf k);
+      unit = directionUnit (layoutOf k);
+      number = mostNumber (layoutOf k);
+      shaded = shadedCode (layoutOf k);
     }
 
-code-at : (k : Kind) (s : List ℕ) (x : ℕ) → codeAt (layout k) s x ≡ cellCode k s x
-code-at One s x = byte-at s (6 + 1 * x) ∙ ap (λ j. getD s j 0) (omega arith)
-code-at Two s x = word-at s (6 + 2 * x)
-
-pub code-read : (k : Kind) {c : ℕ} {e : Cell} → CodeIs (layout k) c e → readCell k c ≡ Is e
-code-read k (is-open z) = rw z
-code-read k (is-clue d n low high m e) = sym (clue-code k _ d n low high m e)
-code-read k (is-shaded e) = sym (shaded-code k _ e)
-
-read-code : (k : Kind) (c : ℕ) → notAllowed (readCell k c) ≡ false → CodeIs (layout k) c (cellOf (readCell k c))
-read-code k c = by (read-as k c)
+code-at : (k : Kind) (s : List ℕ) (x : ℕ) → codeAt (recordKind k) s x ≡ cellCode (layoutOf k) s x
+code-at k s x = by (layoutOf k)
   where
-    by : {r : CellCode} → ReadAs k c r → notAllowed r ≡ false → CodeIs (layout k) c (cellOf r)
+    by : (l : Layout) → bytesAt s (6 + cellBytes l * x) (cellBytes l) ≡ cellCode l s x
+    by Byte = byte-at s (6 + 1 * x) ∙ ap (λ j. getD s j 0) (omega arith)
+    by Word = word-at s (6 + 2 * x)
+
+pub code-read : (k : Kind) {c : ℕ} {e : Cell} → CodeIs (recordKind k) c e → readCell (layoutOf k) c ≡ Is e
+code-read k (is-open z) = rw z
+code-read k (is-clue d n low high m e) = sym (clue-code (layoutOf k) _ d n low high m e)
+code-read k (is-shaded e) = sym (shaded-code (layoutOf k) _ e)
+
+read-code : (k : Kind) (c : ℕ) → notAllowed (readCell (layoutOf k) c) ≡ false → CodeIs (recordKind k) c (cellOf (readCell (layoutOf k) c))
+read-code k c = by (read-as (layoutOf k) c)
+  where
+    by : {r : CellCode} → ReadAs (layoutOf k) c r → notAllowed r ≡ false → CodeIs (recordKind k) c (cellOf r)
     by (as-open z) h = is-open z
     by (as-clue d n low high m e) h = is-clue d n low high m e
     by (as-shaded e) h = is-shaded e
@@ -167,21 +172,21 @@ module _ (s : List ℕ) where
       )
 
   -- an accepted record is of kind 1 or 2
-  pub either-kind : IsAccepted s → OfKind (layout One) s ⊎ OfKind (layout Two) s
+  pub either-kind : IsAccepted s → OfKind (recordKind One) s ⊎ OfKind (recordKind Two) s
   either-kind a =
       let (c1, (c2, c)) = accepted-clear s a in
       let w = whole .0 (no-cause _ c1) in
       by (eqb (bytesAt s 2 2) 1) refl (eqb (bytesAt s 2 2) 2) refl w (no-cause _ c2)
     where
       by : (p : Bool) → eqb (bytesAt s 2 2) 1 ≡ p → (q : Bool) → eqb (bytesAt s 2 2) 2 ≡ q → Whole s → wrongKind s ≡ false
-          → OfKind (layout One) s ⊎ OfKind (layout Two) s
+          → OfKind (recordKind One) s ⊎ OfKind (recordKind Two) s
       by true e q f w k = inl (record { whole = w; kind = eqb-true _ _ e })
       by false e true f w k = inr (record { whole = w; kind = eqb-true _ _ f })
       by false e false f w k = clash (neither-kind .1 (eqb-false _ _ e, eqb-false _ _ f)) k
 
 -- 5. A record of a kind
 
-module _ (k : Kind) (s : List ℕ) (h : OfKind (layout k) s) where
+module _ (k : Kind) (s : List ℕ) (h : OfKind (recordKind k) s) where
   kind-field : IsKind k ≡ readKind (word s 2)
   kind-field = by k ∙ ap readKind (sym (h .kind) ∙ word-at s 2)
     where
@@ -208,35 +213,35 @@ module _ (k : Kind) (s : List ℕ) (h : OfKind (layout k) s) where
       (λ i. unless 1 (sym c1 i) (unless 2 (sym c2 i) (rest s)))
       ∙ ap (λ g. told (wrongSide g) (wrongSize g s) (firstWhere (wrongCell g s) (size g)) (gridAnswer g)) (sym grid-same)
 
-  side-right : (n : ℕ) → isSide k n ≡ true ↔ (1 ≤ n) × (n ≤ mostSide k)
+  side-right : (n : ℕ) → isSide (layoutOf k) n ≡ true ↔ (1 ≤ n) × (n ≤ mostSide (layoutOf k))
   side-right n = (
-    λ e. let (low, high) = and-both (leb 1 n) (leb n (mostSide k)) e in (leb-true _ _ low, leb-true _ _ high),
+    λ e. let (low, high) = and-both (leb 1 n) (leb n (mostSide (layoutOf k))) e in (leb-true _ _ low, leb-true _ _ high),
     λ b. both-and _ _ (le-leb _ _ (b .0)) (le-leb _ _ (b .1)),
   )
 
-  sided : wrongSide grid ≡ false ↔ Sided (layout k) s
+  sided : wrongSide grid ≡ false ↔ Sided (recordKind k) s
   sided = (
-    λ e. let (r, c) = or-neither (not (isSide k (getD s 4 0))) _ e in
+    λ e. let (r, c) = or-neither (not (isSide (layoutOf k) (getD s 4 0))) _ e in
         record { rows = side-right _ .0 (not-false _ r); columns = side-right _ .0 (not-false _ c) },
     λ b. rw (side-right (getD s 4 0) .1 (b .rows), side-right (getD s 5 0) .1 (b .columns)),
   )
 
-  long : wrongSize grid s ≡ false ↔ RightLength (layout k) s
+  long : wrongSize grid s ≡ false ↔ RightLength (recordKind k) s
   long = (λ e. eqb-true _ _ (not-false _ e), λ e. ap not (eq-eqb _ _ e))
 
   -- a cell's code
-  is-cell : (x : ℕ) → wrongCell grid s x ≡ false → CodeIs (layout k) (codeAt (layout k) s x) (cellAt k s x)
-  is-cell x e = subst (λ c. CodeIs (layout k) c (cellAt k s x)) (sym (code-at k s x)) (read-code k (cellCode k s x) e)
+  is-cell : (x : ℕ) → wrongCell grid s x ≡ false → CodeIs (recordKind k) (codeAt (recordKind k) s x) (cellAt (layoutOf k) s x)
+  is-cell x e = subst (λ c. CodeIs (recordKind k) c (cellAt (layoutOf k) s x)) (sym (code-at k s x)) (read-code k (cellCode (layoutOf k) s x) e)
 
-  not-wrong : (x : ℕ) {e : Cell} → CodeIs (layout k) (codeAt (layout k) s x) e → wrongCell grid s x ≡ false
-  not-wrong x c = ap notAllowed (ap (readCell k) (sym (code-at k s x)) ∙ code-read k c)
+  not-wrong : (x : ℕ) {e : Cell} → CodeIs (recordKind k) (codeAt (recordKind k) s x) e → wrongCell grid s x ≡ false
+  not-wrong x c = ap notAllowed (ap (readCell (layoutOf k)) (sym (code-at k s x)) ∙ code-read k c)
 
-  no-cell : (x : ℕ) → x < cellCount s → wrongCell grid s x ≡ true ↔ NoCell (layout k) s x
+  no-cell : (x : ℕ) → x < cellCount s → wrongCell grid s x ≡ true ↔ NoCell (recordKind k) s x
   no-cell x l = (λ e c i. clash e (not-wrong x i), λ n. on _ (λ e. n _ (is-cell x e)))
 
-  all-cells : wrong ≡ none ↔ ((x : ℕ) → x < cellCount s → (c : Cell) × CodeIs (layout k) (codeAt (layout k) s x) c)
+  all-cells : wrong ≡ none ↔ ((x : ℕ) → x < cellCount s → (c : Cell) × CodeIs (recordKind k) (codeAt (recordKind k) s x) c)
   all-cells = (
-    λ e x l. (cellAt k s x, is-cell x (first-none _ _ e x l)),
+    λ e x l. (cellAt (layoutOf k) s x, is-cell x (first-none _ _ e x l)),
     λ f. none-first _ _ (λ x l. not-wrong x (f x l .1)),
   )
 
@@ -247,7 +252,7 @@ module _ (k : Kind) (s : List ℕ) (h : OfKind (layout k) s) where
       (λ a. w .0 (sym e ∙ a), λ p. e ∙ w .1 p)
 
   accepted : IsAccepted s
-      ↔ Sided (layout k) s × RightLength (layout k) s × ((x : ℕ) → x < cellCount s → (c : Cell) × CodeIs (layout k) (codeAt (layout k) s x) c)
+      ↔ Sided (recordKind k) s × RightLength (recordKind k) s × ((x : ℕ) → x < cellCount s → (c : Cell) × CodeIs (recordKind k) (codeAt (recordKind k) s x) c)
   accepted = (
     λ a. let p = parts .0 a in (sided .0 (p .0), long .0 (p .1), all-cells .0 (p .2)),
     λ b. parts .1 (sided .1 (b .0), long .1 (b .1), all-cells .1 (b .2)),
@@ -259,35 +264,36 @@ module _ (k : Kind) (s : List ℕ) (h : OfKind (layout k) s) where
   all : IsAccepted s → length (puzzle (gridOf s) s .cells) ≡ cellCount s
   all a = puzzle-filled (gridOf s) s
 
-  cells : IsAccepted s → (x : ℕ) → x < cellCount s → CodeIs (layout k) (codeAt (layout k) s x) (gridCell s x)
+  cells : IsAccepted s → (x : ℕ) → x < cellCount s → CodeIs (recordKind k) (codeAt (recordKind k) s x) (gridCell s x)
   cells a x l =
-      subst (λ (g : Grid). CodeIs (layout k) (codeAt (layout k) s x) (getD (puzzle g s .cells) x Open)) grid-same
-      (subst (CodeIs (layout k) (codeAt (layout k) s x)) (cell-at grid s x l) (is-cell x (first-none _ _ (parts .0 a .2) x l)))
+      subst (λ (g : Grid). CodeIs (recordKind k) (codeAt (recordKind k) s x) (getD (puzzle g s .cells) x Open)) grid-same
+      (subst (CodeIs (recordKind k) (codeAt (recordKind k) s x)) (cell-at grid s x l) (is-cell x (first-none _ _ (parts .0 a .2) x l)))
 
-  refused-side : recordAnswer s ≡ refusal 3 0 ↔ (Sided (layout k) s → ⊥)
+  refused-side : recordAnswer s ≡ refusal 3 0 ↔ (Sided (recordKind k) s → ⊥)
   refused-side =
       let w = three (gridAnswer grid) refl (wrongSide grid) (wrongSize grid s) wrong in
       (λ e b. clash (w .0 (sym answer-is ∙ e)) (sided .1 b), λ n. answer-is ∙ w .1 (on _ (λ e. n (sided .0 e))))
 
-  refused-size : recordAnswer s ≡ refusal 4 0 ↔ Sided (layout k) s × (RightLength (layout k) s → ⊥)
+  refused-size : recordAnswer s ≡ refusal 4 0 ↔ Sided (recordKind k) s × (RightLength (recordKind k) s → ⊥)
   refused-size =
       let w = four (gridAnswer grid) refl (wrongSide grid) (wrongSize grid s) wrong in (
         λ e. let p = w .0 (sym answer-is ∙ e) in (sided .0 (p .0), λ l. clash (p .1) (long .1 l)),
         λ p. answer-is ∙ w .1 (sided .1 (p .0), on _ (λ e. p .1 (long .0 e))),
       )
 
-  refused-cell : (x : ℕ) → recordAnswer s ≡ refusal 5 x ↔ Sided (layout k) s × RightLength (layout k) s × LeastWith (NoCell (layout k) s) (cellCount s) x
+  refused-cell : (x : ℕ) → recordAnswer s ≡ refusal 5 x
+      ↔ Sided (recordKind k) s × RightLength (recordKind k) s × LeastWith (NoCell (recordKind k) s) (cellCount s) x
   refused-cell x =
       let w = five (gridAnswer grid) refl (wrongSide grid) (wrongSize grid s) wrong x in
-      let f = first-with (wrongCell grid s) (NoCell (layout k) s) (cellCount s) no-cell x in (
+      let f = first-with (wrongCell grid s) (NoCell (recordKind k) s) (cellCount s) no-cell x in (
         λ e. let p = w .0 (sym answer-is ∙ e) in (sided .0 (p .0), long .0 (p .1), f .0 (p .2)),
         λ p. answer-is ∙ w .1 (sided .1 (p .0), long .1 (p .1), f .1 (p .2)),
       )
 
-pub accepts : (k : Kind) → Accepts (layout k)
+pub accepts : (k : Kind) → Accepts (recordKind k)
 accepts k = record { accepted = accepted k; tells = tells k; all = all k; cells = cells k }
 
-pub refuses : (k : Kind) → Refuses (layout k)
+pub refuses : (k : Kind) → Refuses (recordKind k)
 refuses k = record { side = refused-side k; size = refused-size k; cell = refused-cell k }
 
 -- 6. One inner form: the board knows no kind

@@ -5,7 +5,7 @@ use lib.Dec.{eqb}
 use lib.ListN.{length, getD}
 use borrow.Author.Tests.{eqb-true, eqb-false}
 use mathlib.Core.Path.{_≡_, refl, sym, _∙_, ap, subst}
-use mathlib.Core.Bool.{Bool, true, false, not}
+use mathlib.Core.Bool.{Bool, true, false}
 use mathlib.Core.Logic.{_↔_, _⊎_, inl, inr}
 use mathlib.Core.Option.{Option·some-injective}
 use mathlib.Core.List.{List, [], _∷_}
@@ -13,12 +13,13 @@ use Rattle.answers.specs.Lists.{howMany, All, _∈_}
 use Rattle.answers.proofs.Bools.{clash, off, and-both}
 use Rattle.answers.proofs.Elements.{all-in, all-at}
 use Rattle.rules.specs.declared.Direction.{Direction}
+use Rattle.rules.specs.declared.Layout.{Layout}
+use Rattle.rules.specs.declared.Layout.the-variants.{Byte, Word}
 use Rattle.rules.specs.declared.Kind.{Kind}
-use Rattle.rules.specs.declared.Kind.the-variants.{One, Two}
 use Rattle.rules.specs.declared.Cell.{Cell}
 use Rattle.rules.specs.declared.Cell.the-variants.{Open, Clue as Clued, Shaded}
 use Rattle.rules.specs.Directions.{opposite}
-use Rattle.rules.specs.Record.{Puzzle, mostNumber, directionUnit, shadedCode, gridOf, size, puzzle, gridCell, IsAccepted}
+use Rattle.rules.specs.Record.{Puzzle, layoutOf, mostNumber, directionUnit, shadedCode, gridOf, size, puzzle, gridCell, IsAccepted}
 use Rattle.rules.specs.Record as records
 use Rattle.rules.specs.Board.{Clue, Board, openCell, openAt, line, clueIn, clueOf, board, boardOf}
 use Rattle.rules.specs.Drawing.{Reach, here, along, white, Allowed, SolutionBytes, linkAt, blackAt}
@@ -28,7 +29,7 @@ use Rattle.rules.proofs.Records.{puzzle-filled, shaded-code}
 use Rattle.rules_theory.specs.Places.{Met}
 use Rattle.rules_theory.specs.RecordKinds.{CodeIs, is-open, is-clue, is-shaded, OfKind, cellCount, codeAt}
 use Rattle.rules_theory.specs.Shaded.{ShadedAt, ClueShaded}
-use Rattle.rules_theory.proofs.RecordKinds.{layout, code-read, accepts}
+use Rattle.rules_theory.proofs.RecordKinds.{recordKind, code-read, accepts}
 use Rattle.rules_theory.proofs.Bytes.{allowed-byte}
 use Rattle.rules_theory.proofs.Clues.{ClueAt, of-clues, in-clues}
 
@@ -197,34 +198,34 @@ module _ (s t : List ℕ) (x : ℕ) (d : Direction) (n : ℕ) (h : ClueShaded s 
 
 -- 4. Its code
 
-code-shaded : (k : Kind) {c : ℕ} {e : Cell} → CodeIs (layout k) c e → e ≡ Shaded → c ≡ shadedCode k
+code-shaded : (k : Kind) {c : ℕ} {e : Cell} → CodeIs (recordKind k) c e → e ≡ Shaded → c ≡ shadedCode (layoutOf k)
 code-shaded k (is-open z) q = clash (ap isShaded q) refl
 code-shaded k (is-clue d n low high m z) q = clash (ap isShaded q) refl
 code-shaded k (is-shaded z) q = z
 
-pub shaded-exactly : (k : Kind) (s : List ℕ) → OfKind (layout k) s → IsAccepted s → (x : ℕ)
-    → ShadedAt s x ↔ (x < cellCount s) × (codeAt (layout k) s x ≡ shadedCode k)
+pub shaded-exactly : (k : Kind) (s : List ℕ) → OfKind (recordKind k) s → IsAccepted s → (x : ℕ)
+    → ShadedAt s x ↔ (x < cellCount s) × (codeAt (recordKind k) s x ≡ shadedCode (layoutOf k))
 shaded-exactly k s h a x = (
   λ t. (t .inside, code-shaded k (is (t .inside)) (t .shaded)),
-  λ p. record { inside = p .0; shaded = ap records.cellOf (sym (code-read k (is (p .0))) ∙ sym (shaded-code k _ (p .1))) },
+  λ p. record { inside = p .0; shaded = ap records.cellOf (sym (code-read k (is (p .0))) ∙ sym (shaded-code (layoutOf k) _ (p .1))) },
 )
   where
-    is : x < cellCount s → CodeIs (layout k) (codeAt (layout k) s x) (gridCell s x)
+    is : x < cellCount s → CodeIs (recordKind k) (codeAt (recordKind k) s x) (gridCell s x)
     is l = accepts k .cells s h a x l
 
 -- past the clues' codes there is no other
-below-shaded : (k : Kind) (d n : ℕ) → d ≤ 4 → n ≤ mostNumber k → d * directionUnit k + n < shadedCode k
-below-shaded One d n h m = omega arith
-below-shaded Two d n h m = omega arith
+below-shaded : (l : Layout) (d n : ℕ) → d ≤ 4 → n ≤ mostNumber l → d * directionUnit l + n < shadedCode l
+below-shaded Byte d n h m = omega arith
+below-shaded Word d n h m = omega arith
 
-shaded-large : (k : Kind) → 0 < shadedCode k
-shaded-large One = omega arith
-shaded-large Two = omega arith
+shaded-large : (l : Layout) → 0 < shadedCode l
+shaded-large Byte = omega arith
+shaded-large Word = omega arith
 
-pub no-other : (k : Kind) (c : ℕ) → shadedCode k ≤ c → ((e : Cell) × CodeIs (layout k) c e) ↔ (c ≡ shadedCode k)
+pub no-other : (k : Kind) (c : ℕ) → shadedCode (layoutOf k) ≤ c → ((e : Cell) × CodeIs (recordKind k) c e) ↔ (c ≡ shadedCode (layoutOf k))
 no-other k c h = (λ p. by (p .1), λ e. (Shaded, is-shaded e))
   where
-    by : {e : Cell} → CodeIs (layout k) c e → c ≡ shadedCode k
-    by (is-open z) = absurd (omega (arith, shaded-large k))
-    by (is-clue d n low high m z) = absurd (omega (arith, below-shaded k d n high m))
+    by : {e : Cell} → CodeIs (recordKind k) c e → c ≡ shadedCode (layoutOf k)
+    by (is-open z) = absurd (omega (arith, shaded-large (layoutOf k)))
+    by (is-clue d n low high m z) = absurd (omega (arith, below-shaded (layoutOf k) d n high m))
     by (is-shaded z) = z

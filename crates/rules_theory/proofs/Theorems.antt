@@ -94,13 +94,13 @@ outcome-one-to-one = (one-to-one verdicts, one-to-one readings)
 
 -- What the reader tells of a record, in the documents' words (document 02, E4). Of a record of each kind: when it is accepted, and refusals 3 to 5; that no
 -- other is accepted; and refusal 2.
-pub kind-accepts : (k : Kind) → Accepts (kinds.layout k)
+pub kind-accepts : (k : Kind) → Accepts (kinds.recordKind k)
 kind-accepts = kinds.accepts
 
-pub kind-refuses : (k : Kind) → Refuses (kinds.layout k)
+pub kind-refuses : (k : Kind) → Refuses (kinds.recordKind k)
 kind-refuses = kinds.refuses
 
-pub either-kind : (s : List ℕ) → IsAccepted s → OfKind (kinds.layout One) s ⊎ OfKind (kinds.layout Two) s
+pub either-kind : (s : List ℕ) → IsAccepted s → OfKind (kinds.recordKind One) s ⊎ OfKind (kinds.recordKind Two) s
 either-kind = kinds.either-kind
 
 pub refused-kind : (s : List ℕ) → recordAnswer s ≡ refusal 2 0 ↔ OfOtherKind s

@@ -11,7 +11,7 @@ use Rattle.rules.specs.declared.Cell.the-variants.{Open, Clue, Shaded}
 use Rattle.rules.specs.Record.{directionOf, gridOf, puzzle, gridCell, recordAnswer, IsAccepted}
 
 -- what sets a kind apart
-pub record Layout : Type 0 where
+pub record RecordKind : Type 0 where
   -- its number
   pub kind : ℕ
   -- its largest side
@@ -43,31 +43,31 @@ pub record Whole (s : List ℕ) : Type 0 where
 abbrev pub cellCount : List ℕ → ℕ
 cellCount s = getD s 4 0 * getD s 5 0
 
-module _ (l : Layout) where
+module _ (k : RecordKind) where
   -- 0 is open; a clue has its direction, 1 to 4, in the upper bits and its number in the lower; one code is shaded
   pub data CodeIs : ℕ → Cell → Type 0 where
     is-open : {c : ℕ} → c ≡ 0 → CodeIs c Open
-    is-clue : {c : ℕ} (d n : ℕ) → 1 ≤ d → d ≤ 4 → n ≤ l .number → c ≡ d * l .unit + n → CodeIs c (Clue (directionOf d) n)
-    is-shaded : {c : ℕ} → c ≡ l .shaded → CodeIs c Shaded
+    is-clue : {c : ℕ} (d n : ℕ) → 1 ≤ d → d ≤ 4 → n ≤ k .number → c ≡ d * k .unit + n → CodeIs c (Clue (directionOf d) n)
+    is-shaded : {c : ℕ} → c ≡ k .shaded → CodeIs c Shaded
 
   module _ (s : List ℕ) where
     -- whole, with the kind in bytes 2 and 3
     pub record OfKind : Type 0 where
       pub whole : Whole s
-      pub kind : bytesAt s 2 2 ≡ l .kind
+      pub kind : bytesAt s 2 2 ≡ k .kind
 
     -- both sides are 1 to the largest
     pub record Sided : Type 0 where
-      pub rows : (1 ≤ getD s 4 0) × (getD s 4 0 ≤ l .side)
-      pub columns : (1 ≤ getD s 5 0) × (getD s 5 0 ≤ l .side)
+      pub rows : (1 ≤ getD s 4 0) × (getD s 4 0 ≤ k .side)
+      pub columns : (1 ≤ getD s 5 0) × (getD s 5 0 ≤ k .side)
 
     -- six bytes, and those of N cells
     abbrev pub RightLength : Type 0
-    RightLength = length s ≡ 6 + l .bytes * cellCount s
+    RightLength = length s ≡ 6 + k .bytes * cellCount s
 
     -- the code of cell x
     abbrev pub codeAt : ℕ → ℕ
-    codeAt x = bytesAt s (6 + l .bytes * x) (l .bytes)
+    codeAt x = bytesAt s (6 + k .bytes * x) (k .bytes)
 
     -- it is that of no cell
     abbrev pub NoCell : ℕ → Type 0
@@ -77,7 +77,7 @@ module _ (l : Layout) where
   -- then the reader tells rows, columns and kind, and its N cells are those of the codes
   pub record Accepts : Type 0 where
     pub accepted : (s : List ℕ) → OfKind s → IsAccepted s ↔ Sided s × RightLength s × ((x : ℕ) → x < cellCount s → (c : Cell) × CodeIs (codeAt s x) c)
-    pub tells : (s : List ℕ) → OfKind s → IsAccepted s → recordAnswer s ≡ answer (getD s 4 0) (getD s 5 0) (l .kind)
+    pub tells : (s : List ℕ) → OfKind s → IsAccepted s → recordAnswer s ≡ answer (getD s 4 0) (getD s 5 0) (k .kind)
     pub all : (s : List ℕ) → OfKind s → IsAccepted s → length (puzzle (gridOf s) s .cells) ≡ cellCount s
     pub cells : (s : List ℕ) → OfKind s → IsAccepted s → (x : ℕ) → x < cellCount s → CodeIs (codeAt s x) (gridCell s x)
 

@@ -4,29 +4,36 @@ use native.Mathlib.Omega.{arith}
 use borrow.Author.Needs.{needs}
 use lib.Dec.{eqb}
 use lib.ListN.{length, getD}
-use mathlib.Core.Path.{_∙_, ap}
-use Rattle.rules.specs.Record.{size}
+use mathlib.Core.Path.{_≡_, _∙_, ap}
+use Rattle.rules.specs.Record.{layoutOf, cellBytes, size}
 use Rattle.rules.specs.Board.{openCell}
 use Rattle.rules.proofs.Records.{bytes-few, bytes-inside, open-sum, cell-at}
 use Rattle.rules.proofs.Grid.is_open.Statement.{statement}
 use Rattle.rules.proofs.Grid.is_open.Tie as tie
 
--- the cell's bytes are in the record
-inside : (w : tie.After-cell-bytes) → let z = w .before .before in
+-- the bytes of a cell are those of the kind's layout
+bytes-of : (w : tie.After-cell-bytes) → w .cell-bytes .result ≡ cellBytes (layoutOf (w .before .before .before .args .self .kind))
+bytes-of w = w .cell-bytes .ensures ∙ ap cellBytes (w .before .layout .ensures)
+
+-- they are in the record
+inside : (w : tie.After-cell-bytes) → let z = w .before .before .before in
     (1 ≤ w .cell-bytes .result) × (6 + w .cell-bytes .result * z .args .x + w .cell-bytes .result ≤ length (z .args .«record» .now))
     × (length (z .args .«record» .now) ≤ 4056)
 inside w =
-    let z = w .before .before in
-    let (some-byte, within) = bytes-inside (z .args .self .kind) (w .cell-bytes .ensures) (z .pre .1) in
+    let z = w .before .before .before in
+    let (some-byte, within) = bytes-inside (layoutOf (z .args .self .kind)) (bytes-of w) (z .pre .1) in
     let long = z .pre .0 .long in
-    (some-byte, omega (arith, within), omega (arith, bytes-few (z .args .self .kind) (size (z .args .self)), z .pre .0 .sides .few))
+    (some-byte, omega (arith, within), omega (arith, bytes-few (layoutOf (z .args .self .kind)) (size (z .args .self)), z .pre .0 .sides .few))
 
 -- the places of its first and its last byte
 abbrev first : tie.After-cell-bytes → ℕ
-first w = 6 + w .cell-bytes .result * w .before .before .args .x
+first w = 6 + w .cell-bytes .result * w .before .before .before .args .x
 
 abbrev last : tie.After-cell-bytes → ℕ
 last w = first w + w .cell-bytes .result - 1
+
+layout-requires : tie.Need-layout-requires
+layout-requires c κs = search needs
 
 cell-bytes-requires : tie.Need-cell-bytes-requires
 cell-bytes-requires c κs = search needs
@@ -61,16 +68,17 @@ add-sum c = let w = c .before .before in omega (arith, c .shared-slice-known3 .g
 returns : tie.Need-returns
 returns c =
     let w = c .before .before in
-    let z = w .before .before in
+    let z = w .before .before .before in
     let s = z .args .«record» .now in
     let x = z .args .x in
-    ap (λ b. eqb (getD s (6 + b * x) 0 + getD s (6 + b * x + b - 1) 0) 0) (w .cell-bytes .ensures)
-    ∙ open-sum (z .args .self .kind) s x (z .pre .0 .allowed x (z .pre .1)) ∙ ap openCell (cell-at (z .args .self) s x (z .pre .1))
+    ap (λ b. eqb (getD s (6 + b * x) 0 + getD s (6 + b * x + b - 1) 0) 0) (bytes-of w)
+    ∙ open-sum (layoutOf (z .args .self .kind)) s x (z .pre .0 .allowed x (z .pre .1)) ∙ ap openCell (cell-at (z .args .self) s x (z .pre .1))
 
 pub is-open-spec : {M : Type 1} → statement M
 is-open-spec =
     tie.close
     (tie.spec
+    layout-requires
     cell-bytes-requires
     mul-first
     add-first

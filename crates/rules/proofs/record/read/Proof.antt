@@ -11,7 +11,7 @@ use Rattle.answers.proofs.First.{found-at, found-none}
 use Rattle.answers.proofs.Rows.{Left, left-all, left-next, left-turn, left-done}
 use Rattle.rules.specs.declared.KindField.the-variants.{Is as IsKind}
 use Rattle.rules.specs.declared.Grid.{Grid}
-use Rattle.rules.specs.Record.{readKind, cellBytes, word, gridOf, size, isSide, Sides, recordRows, gridAnswer}
+use Rattle.rules.specs.Record.{readKind, layoutOf, cellBytes, word, gridOf, size, isSide, Sides, recordRows, gridAnswer}
 use Rattle.rules.proofs.Records.{sides-small, bytes-few, short-record, other-length, right-length, wrong-kind, right-kind, grid-is}
 use Rattle.rules.proofs.Records.{wrong-rows, wrong-columns, right-sides, other-size, right-size, cells-sought}
 use Rattle.rules.proofs.record.read.Statement.{statement}
@@ -52,21 +52,37 @@ is-grid c = grid-is (s3 c) (kind-is c)
 past2 : (c : tie.After-field) → Past (s3 c) 2
 past2 c = left-next (past1 (c .before .before)) (right-kind (s3 c) (kind-is c))
 
--- where the kind was told, from the places after it
+-- where the layout was told, and the kind, from the places after it
+abbrev l1 : tie.After-is-side → tie.After-layout
+l1 c = c .before .before .before
+
+abbrev l2 : tie.After-is-side2 → tie.After-layout
+l2 c = l1 (c .before .before)
+
+abbrev l3 : tie.After-cell-bytes → tie.After-layout
+l3 c = l2 (c .before .before)
+
 abbrev f1 : tie.After-is-side → tie.After-field
-f1 c = c .before .before .before .before
+f1 c = l1 c .before .before
 
 abbrev f2 : tie.After-is-side2 → tie.After-field
-f2 c = f1 (c .before .before)
+f2 c = l2 c .before .before
 
 abbrev f3 : tie.After-cell-bytes → tie.After-field
-f3 c = f2 (c .before .before)
+f3 c = l3 c .before .before
 
-side-rows : (c : tie.Else3) → isSide (grid (f1 (c .before)) .kind) (grid (f1 (c .before)) .rows) ≡ true
-side-rows c = sym (c .before .is-side .ensures) ∙ not-false _ (c .if3 .left)
+-- what was asked of the sides
+is-side : (c : tie.After-is-side) → isSide (layoutOf (grid (f1 c) .kind)) (grid (f1 c) .rows) ≡ c .is-side .result
+is-side c = sym (c .is-side .ensures ∙ ap (λ l. isSide l (grid (f1 c) .rows)) (l1 c .layout .ensures))
 
-side-columns : (c : tie.Else4) → isSide (grid (f2 (c .before)) .kind) (grid (f2 (c .before)) .columns) ≡ true
-side-columns c = sym (c .before .is-side2 .ensures) ∙ not-false _ (c .if4 .left)
+is-side-2 : (c : tie.After-is-side2) → isSide (layoutOf (grid (f2 c) .kind)) (grid (f2 c) .columns) ≡ c .is-side2 .result
+is-side-2 c = sym (c .is-side2 .ensures ∙ ap (λ l. isSide l (grid (f2 c) .columns)) (l2 c .layout .ensures))
+
+side-rows : (c : tie.Else3) → isSide (layoutOf (grid (f1 (c .before)) .kind)) (grid (f1 (c .before)) .rows) ≡ true
+side-rows c = is-side (c .before) ∙ not-false _ (c .if3 .left)
+
+side-columns : (c : tie.Else4) → isSide (layoutOf (grid (f2 (c .before)) .kind)) (grid (f2 (c .before)) .columns) ≡ true
+side-columns c = is-side-2 (c .before) ∙ not-false _ (c .if4 .left)
 
 past3 : (c : tie.After-cell-bytes) → Past (s3 (f3 c)) 3
 past3 c = let e = c .before in left-next (past2 (f3 c)) (right-sides (is-grid (f3 c)) (side-rows (e .before .before)) (side-columns e))
@@ -75,13 +91,13 @@ small : (c : tie.After-cell-bytes) → Sides (grid (f3 c))
 small c = let e = c .before in sides-small (grid (f3 c)) (side-rows (e .before .before)) (side-columns e)
 
 -- the bytes of the cells, as they are counted
-bytes : (c : tie.After-cell-bytes) → c .cell-bytes .result * size (grid (f3 c)) ≡ cellBytes (grid (f3 c) .kind) * size (grid (f3 c))
-bytes c = ap (λ n. n * size (grid (f3 c))) (c .cell-bytes .ensures)
+bytes : (c : tie.After-cell-bytes) → c .cell-bytes .result * size (grid (f3 c)) ≡ cellBytes (layoutOf (grid (f3 c) .kind)) * size (grid (f3 c))
+bytes c = ap (λ n. n * size (grid (f3 c))) (c .cell-bytes .ensures ∙ ap cellBytes (l3 c .layout .ensures))
 
 counted-few : (c : tie.After-cell-bytes) → c .cell-bytes .result * size (grid (f3 c)) ≤ 4050
-counted-few c = omega (arith, bytes c, bytes-few (grid (f3 c) .kind) (size (grid (f3 c))), small c .few)
+counted-few c = omega (arith, bytes c, bytes-few (layoutOf (grid (f3 c) .kind)) (size (grid (f3 c))), small c .few)
 
-long : (c : tie.Else5) → let g = grid (f3 (c .before)) in length (s3 (f3 (c .before))) ≡ 6 + cellBytes (g .kind) * size g
+long : (c : tie.Else5) → let g = grid (f3 (c .before)) in length (s3 (f3 (c .before))) ≡ 6 + cellBytes (layoutOf (g .kind)) * size g
 long c = c .if5 .left ∙ ap (λ n. 6 + n) (bytes (c .before))
 
 past4 : (c : tie.Else5) → Past (s3 (f3 (c .before))) 4
@@ -117,6 +133,9 @@ returns-3 c =
     left-turn (past1 r)
     (wrong-kind (s2 r) (sym (c .enum-told .given .1) ∙ r .read-kind .ensures ∙ ap readKind (r .before .word-at2 .ensures)))
 
+layout-requires : tie.Need-layout-requires
+layout-requires c κs = search needs
+
 shared-slice-read-rows : tie.Need-shared-slice-read-rows
 shared-slice-read-rows c = search needs
 
@@ -135,7 +154,7 @@ is-side-requires c κs = search needs
 returns-4 : tie.Need-returns-4
 returns-4 c =
     let w = c .before in
-    left-turn (past2 (f1 w)) (wrong-rows (is-grid (f1 w)) (sym (w .is-side .ensures) ∙ not-true _ (c .if3 .taken)))
+    left-turn (past2 (f1 w)) (wrong-rows (is-grid (f1 w)) (is-side w ∙ not-true _ (c .if3 .taken)))
 
 is-side-requires-2 : tie.Need-is-side-requires-2
 is-side-requires-2 c κs = search needs
@@ -143,7 +162,7 @@ is-side-requires-2 c κs = search needs
 returns-5 : tie.Need-returns-5
 returns-5 c =
     let w = c .before in
-    left-turn (past2 (f2 w)) (wrong-columns (is-grid (f2 w)) (sym (w .is-side2 .ensures) ∙ not-true _ (c .if4 .taken)))
+    left-turn (past2 (f2 w)) (wrong-columns (is-grid (f2 w)) (is-side-2 w ∙ not-true _ (c .if4 .taken)))
 
 cell-bytes-requires : tie.Need-cell-bytes-requires
 cell-bytes-requires c κs = search needs
@@ -197,6 +216,7 @@ read-spec =
     enum-known-field
     enum-told
     returns-3
+    layout-requires
     shared-slice-read-rows
     cast-rows
     shared-slice-read-columns

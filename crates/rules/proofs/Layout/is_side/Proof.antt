@@ -1,8 +1,8 @@
--- `rules::Kind::is_side` meets its contract. Assumes nothing.
+-- `rules::Layout::is_side` meets its contract. Assumes nothing.
 use borrow.Author.Needs.{needs}
 use borrow.Author.Tests.{lt-leb, le-leb}
-use Rattle.rules.proofs.Kind.is_side.Statement.{statement}
-use Rattle.rules.proofs.Kind.is_side.Tie as tie
+use Rattle.rules.proofs.Layout.is_side.Statement.{statement}
+use Rattle.rules.proofs.Layout.is_side.Tie as tie
 
 returns : tie.Need-returns
 returns c = rw (lt-leb 1 _ (c .if1 .taken))

@@ -1,9 +1,9 @@
--- `rules::Kind::not_allowed` meets its contract. Assumes nothing.
+-- `rules::Layout::not_allowed` meets its contract. Assumes nothing.
 use borrow.Author.Needs.{needs}
 use mathlib.Core.Path.{sym, _∙_, ap}
 use Rattle.rules.specs.Record.{notAllowed}
-use Rattle.rules.proofs.Kind.not_allowed.Statement.{statement}
-use Rattle.rules.proofs.Kind.not_allowed.Tie as tie
+use Rattle.rules.proofs.Layout.not_allowed.Statement.{statement}
+use Rattle.rules.proofs.Layout.not_allowed.Tie as tie
 
 read-cell-requires : tie.Need-read-cell-requires
 read-cell-requires c κs = search needs
