@@ -12,7 +12,7 @@ use Rattle.rules.specs.Board.{Clue, Board}
 use Rattle.answers.specs.Lists.{upTo, each, joined, keep}
 
 -- Z x: x is black. S x: x is the start. E x d: from x the loop goes that way. Q x k: the start is k links ahead of x.
--- T c j t: of the j cells nearest the edge of the line of the clue in cell c, t are black.
+-- T c j t: of the j cells nearest the far end of the line of the clue in cell c, t are black.
 pub data Variable : Type 0 where
   Z : ℕ → Variable
   S : ℕ → Variable

@@ -36,7 +36,7 @@ row-few row z n w = by z (part-needs (begun [] (in-parts (countStepParts row z n
         let r = all-right (NotBeyond mostVariables) (countStepBelow row next (suc z) n) last (w .literals) in
         omega (arith, no-small (row + n) (r .0))
 
--- after j cells from the edge: y comes next; what is written, and what is left
+-- after j cells from the far end: y comes next; what is written, and what is left
 pub record Lining (p : Puzzle) (d : Direction) (x : ℕ) (black : ℕ → ℕ) (first n : ℕ) (buf : List ℤ) (at : ℕ) (new : List ℤ) (y row i j : ℕ) : Type 0 where
   pub here : y ≡ getD (line p d x) j x
   pub done : List ℤ

@@ -111,7 +111,7 @@ fn count_step_cell(list: &mut [i32], at: usize, row: usize, z: usize, n: usize) 
     at_most_one(list, i, next, n + 1)
 }
 
-// The line that leaves x in direction d and ends there, from the cell nearest the edge on; first is the number of T(0,0).
+// The line that leaves x in direction d and ends there, from its far end on; first is the number of T(0,0).
 fn count_step_each(
     list: &mut [i32],
     at: usize,

@@ -99,7 +99,7 @@ module _ (w : Variable → Bool) (isOpen : ℕ → Bool) (a n : ℕ) where
       by (suc t) l =
           unit-minus w (T a 0 (suc t)) (map-at (Sat w) (noneBlack a) h (in-from 1 n (suc t) (omega arith) (omega arith))) ∙ sym (ne-eqb 0 (suc t) (omega arith))
 
-  -- what T means: of the j cells of the line nearest the edge, t are black
+  -- what T means: of the j cells of the line nearest its far end, t are black
   abbrev pub Counts : List ℕ → Type 0
   Counts cs = (j t : ℕ) → j ≤ length cs → t ≤ n → w (T a j t) ≡ eqb (blacksNearest black cs j) t
 

@@ -40,7 +40,7 @@ module _ (b : Board) (law : Laws b) where
       → blackAt (drawn b (valuation b a)) x ≡ valuation b a (Z x)
   draws-black a e h x = ap (λ (D : Drawing). D .black x) (draws-shown a e h)
 
-  -- of that drawing's bytes, T(j,t) of a clue tells whether t of the j cells of its line nearest the edge are black
+  -- of that drawing's bytes, T(j,t) of a clue tells whether t of the j cells of its line nearest its far end are black
   pub draws-counts : (a : List Bool) → Assignment (variableCount b) a → Satisfies a (clauseList b) → (c : Clue) → c ∈ b .clues → (j t : ℕ)
       → j ≤ length (c .line) → t ≤ c .number
       → valuation b a (T (c .cell) j t) ≡ eqb (blacksNearest (blackAt (drawn b (valuation b a))) (c .line) j) t

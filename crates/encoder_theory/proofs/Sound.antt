@@ -36,7 +36,7 @@ module _ (b : Board) (law : Laws b) (w : Variable → Bool) (proper : Proper b w
   blacks-open : (c : Clue) → black w (b .isOpen) (c .cell) (c .number) ≡ (λ x. w (Z x))
   blacks-open c = open-black (b .isOpen) (λ x. w (Z x)) (λ x. proper (Z x))
 
-  -- T(j,t) of a clue holds if t of the j cells of its line nearest the edge are black, and not otherwise
+  -- T(j,t) of a clue holds if t of the j cells of its line nearest its far end are black, and not otherwise
   pub counted : (c : Clue) → c ∈ b .clues → (j t : ℕ) → j ≤ length (c .line) → t ≤ c .number
       → w (T (c .cell) j t) ≡ eqb (blacksNearest (λ x. w (Z x)) (c .line) j) t
   counted c m j t h k =

@@ -81,8 +81,7 @@ pub clause-count : (b : Board) → clauseCount (clauseList b) ≡ length (clause
 clause-count = bounds.clause-count
 
 -- 4. T and the judge's count of a line, side by side (document 02, E3). Of an assignment that satisfies the clauses and the drawing that it decodes to, and a
--- clue
--- in cell x with its direction and number: T(j,t) holds exactly if the judge, counting its line from the edge, has t black cells after j cells.
+-- clue in cell x with its direction and number: T(j,t) holds exactly if the judge, counting its line from the far end, has t black cells after j cells.
 pub side-by-side : (s : List ℕ) → IsAccepted s → (a : List Bool) → Satisfying s a → (ds : List ℕ) → DecodesTo s a ds
     → (x : ℕ) (d : Direction) (n : ℕ) → x < size (gridOf s) → gridCell s x ≡ Clued d n → (j t : ℕ)
     → j ≤ length (line (puzzle (gridOf s) s) d x) → t ≤ n

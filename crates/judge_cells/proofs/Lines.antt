@@ -1,4 +1,4 @@
--- Counting along a clue's line, from the edge towards the clue. Assumes nothing.
+-- Counting along a clue's line, from its far end towards the clue. Assumes nothing.
 use Prim.Native.Nat.{ℕ, _+_, _≤_, _<_}
 use native.Mathlib.Omega.{arith}
 use native.Mathlib.Numerals.{add-one}
@@ -15,7 +15,7 @@ use Rattle.rules.specs.Board.{neighbour, line}
 use Rattle.rules.specs.Walk.{go}
 use Rattle.rules.proofs.Lines.{line-inside, line-go}
 
--- after j cells: y comes next, and the count is how many of the j nearest the edge pass the test
+-- after j cells: y comes next, and the count is how many of the j nearest the far end pass the test
 pub record CountedTo (p : Puzzle) (d : Direction) (x : ℕ) (test : ℕ → Bool) (y count j : ℕ) : Type 0 where
   pub here : y ≡ getD (line p d x) j x
   pub counted : count ≡ howMany test (take j (line p d x))

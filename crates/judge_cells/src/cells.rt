@@ -83,7 +83,7 @@ fn touches_at(g: Grid, record: &[u8], drawing: &[u8], x: usize) -> bool
     black_there(g, drawing, x, Direction::South)
 }
 
-// The black cells among the j cells of a line that are nearest the edge, counted cell by cell from the line's end towards the clue.
+// The black cells among the j cells of a line that are nearest its far end, counted cell by cell from there towards the clue.
 // The record and x are there to say which line it is.
 fn blacks_nearest(
     g: Grid,

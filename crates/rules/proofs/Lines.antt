@@ -1,4 +1,4 @@
--- The line of a clue in cell x, cell by cell from the edge towards the clue: after j cells comes `getD line j x`, x itself after the whole line.
+-- The line of a clue in cell x, cell by cell from its far end towards the clue: after j cells comes `getD line j x`, x itself after the whole line.
 -- Assumes nothing.
 use Prim.Native.Nat.{ℕ, zero, suc, _<_}
 use native.Mathlib.Omega.{arith}

@@ -22,7 +22,7 @@ pub record Drawing : Type 0 where
 abbrev pub white : Board → (ℕ → Bool) → ℕ → Bool
 white b black x = b .isOpen x && not (black x)
 
--- how many of the j cells of a line that are nearest the edge are black: the judge's count after j cells
+-- how many of the j cells of a line that are nearest its far end are black: the judge's count after j cells
 abbrev pub blacksNearest : (ℕ → Bool) → List ℕ → ℕ → ℕ
 blacksNearest black line j = howMany black (take j line)
 

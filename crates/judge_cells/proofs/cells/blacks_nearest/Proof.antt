@@ -1,5 +1,5 @@
 -- `judge_cells::cells::blacks_nearest` meets its contract. The loop's invariant: after k cells the count is that of the black cells among the k nearest the
--- edge, and y is the cell that comes next. Assumes nothing.
+-- line's far end, and y is the cell that comes next. Assumes nothing.
 use borrow.Author.Needs.{needs}
 use native.Mathlib.Omega.{arith}
 use Prim.Native.Nat.{_≤_, _-_}
