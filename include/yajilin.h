@@ -26,16 +26,22 @@
  *
  * The contents of a buffer may be anything: the call is answered or refused.
  *
- * A grid record: bytes 0-1 its length, 2-3 its kind, 1 or 2, byte 4 rows, byte 5 columns, then the codes of the
+ * A grid record: bytes 0-1 its length, 2-3 its kind, 1, 2 or 3, byte 4 rows, byte 5 columns, then the codes of the
  * N = rows * columns cells, row by row. Numbers of two bytes are little-endian. Cells are numbered from 0. A cell is open,
- * a clue or shaded. An open cell is black or on the loop, the others are neither; a shaded cell says nothing.
+ * a clue or shaded. An open cell is black or on the loop, the others are neither; a shaded cell says nothing. A clue says how
+ * many cells on its line are black: from its neighbour in its direction to the edge, or in kind 3 to the cell before the next
+ * clue.
  *
  * - Kind 1: sides 1 to 24, a code has one byte: 0x00 open, 0x50 shaded, or a clue, 0x10 to 0x4F, whose upper four bits are
  *   its direction (1 north, 2 east, 3 south, 4 west) and whose lower four bits are its number. The length is 6 + N.
  * - Kind 2: sides 1 to 45, a code has two bytes: 0x0000 open, 0x5000 shaded, or a clue, whose upper four bits are its
  *   direction (1 to 4) and whose lower twelve bits are its number, 0 to 44. The length is 6 + 2 * N.
+ * - Kind 3: sides, codes and length of kind 1. A line stops before the first clue cell in its way, so it is empty where the
+ *   clue's neighbour is one; shaded cells don't stop it. In kinds 1 and 2 it goes to the edge past clues and shaded cells.
  *
- * A function that takes a record takes either kind. Accepted records of the same grid get the same answers and refusals.
+ * A function that takes a record takes every kind. Accepted records of kinds 1 and 2 with the same sides and cells get the
+ * same answers and refusals. One of kind 3 gets them too unless a clue stops a line; judge, clauses and tally then go by the
+ * shorter line.
  *
  * A drawing has N bytes: 0x20 a clue or a shaded cell, 0x10 black, else white with the sum of its links (1 north, 2 east,
  * 4 south, 8 west).
@@ -61,7 +67,7 @@ extern "C" {
 /* The refusals, and the value beside each. Cells, indexes and bytes are counted from 0, variables from 1. */
 enum yajilin_refusal {
     YAJILIN_RECORD_LENGTH = 1,   /* record under 6 bytes, or its length field isn't its length: 0 */
-    YAJILIN_KIND = 2,            /* kind not 1 or 2: 0 */
+    YAJILIN_KIND = 2,            /* kind not 1, 2 or 3: 0 */
     YAJILIN_SIDES = 3,           /* a side not 1 to 24, in kind 2 not 1 to 45: 0 */
     YAJILIN_CELL_COUNT = 4,      /* length not 6 + N, in kind 2 not 6 + 2 * N: 0 */
     YAJILIN_CELL_BYTE = 5,       /* a cell's code that isn't allowed: the first such cell */
@@ -206,17 +212,18 @@ uint64_t yajilin_next(uint64_t variables,
 
 /*
  * What would each number on an arrow allow? Given a shaded cell and a direction, 1 north, 2 east, 3 south or 4 west,
- * counters[n] becomes the number of solutions of the record's grid that were found with n black cells on the line from the
- * cell's neighbour in that direction to the edge. The cell stays shaded.
+ * counters[n] becomes the number of solutions of the record's grid that were found with n black cells on the line that a
+ * clue of that direction in the cell would have. The cell stays shaded.
  *
  * The solutions are listed as yajilin_next says: the grid's clauses are written into list, a search on them is begun empty
  * and carried on until YAJILIN_NONE. All calls together make at most budget steps.
  *
  * Answered: answer[0] is YAJILIN_NONE or YAJILIN_HALTED, answer[1] the steps in all. After YAJILIN_NONE every solution is
- * counted. So the counters add up to the number of solutions, and with an arrow of that direction and the number n in the
- * cell the grid has counters[n] solutions. After YAJILIN_HALTED those found by the first budget steps are counted, also one
- * that the last of them found. All counters are written. list has the clauses; trail, marks and numbers have in their first
- * V elements the trail at the end. Elements past what is needed are untouched.
+ * counted. So the counters add up to the number of solutions, and in kinds 1 and 2 the grid has counters[n] solutions with
+ * an arrow of that direction and the number n in the cell. In kind 3 that may differ, since an arrow in the cell stops the
+ * lines that go past it. After YAJILIN_HALTED those found by the first budget steps are counted, also one that the last of
+ * them found. All counters are written. list has the clauses; trail, marks and numbers have in their first V elements the
+ * trail at the end. Elements past what is needed are untouched.
  * Refused: 1 to 5; 23 (counters_length must be YAJILIN_COUNTERS); 6 for list, trail, marks and numbers, in this order, with
  * the elements needed, which are V for the last three. yajilin_encode tells the elements that the list needs, and V.
  */

@@ -32,8 +32,8 @@ impl Sides {
         }
     }
 
-    /// The line of a clue, from its neighbour to the edge.
-    pub fn line(self, x: usize, d: usize) -> impl Iterator<Item = usize> {
+    /// The cells from a cell's neighbour to the edge.
+    pub fn to_edge(self, x: usize, d: usize) -> impl Iterator<Item = usize> {
         std::iter::successors(self.neighbour(x, d), move |&y| self.neighbour(y, d))
     }
 }
@@ -57,11 +57,16 @@ pub struct Kind {
     pub most_number: u16,
     /// The code of a shaded cell.
     pub shaded: u16,
+    /// Does a line stop before the first clue cell? Else it goes to the edge.
+    pub stops_before_clues: bool,
 }
 
-pub const KINDS: [Kind; 2] = [
-    Kind { number: 1, most_side: 24, cell_bytes: 1, number_bits: 4, most_number: 15, shaded: 0x50 },
-    Kind { number: 2, most_side: 45, cell_bytes: 2, number_bits: 12, most_number: 44, shaded: 0x5000 },
+const ONE: Kind = Kind { number: 1, most_side: 24, cell_bytes: 1, number_bits: 4, most_number: 15, shaded: 0x50, stops_before_clues: false };
+
+pub const KINDS: [Kind; 3] = [
+    ONE,
+    Kind { number: 2, most_side: 45, cell_bytes: 2, number_bits: 12, most_number: 44, shaded: 0x5000, ..ONE },
+    Kind { number: 3, stops_before_clues: true, ..ONE },
 ];
 
 impl Kind {
@@ -76,6 +81,29 @@ impl Kind {
             Cell::Clue(d, number) => (d + 1) << self.number_bits | number,
             Cell::Shaded => self.shaded as usize,
         }
+    }
+
+    fn cell(self, code: &[u8]) -> Cell {
+        match code.iter().rev().fold(0, |code, &byte| code << 8 | byte as usize) {
+            0 => Cell::Open,
+            code if code == self.shaded as usize => Cell::Shaded,
+            code => Cell::Clue((code >> self.number_bits) - 1, code & ((1 << self.number_bits) - 1)),
+        }
+    }
+
+    /// The line of a clue.
+    fn line(self, sides: Sides, cells: &[Cell], x: usize, d: usize) -> impl Iterator<Item = usize> + '_ {
+        sides.to_edge(x, d).take_while(move |&y| !(self.stops_before_clues && matches!(cells[y], Cell::Clue(..))))
+    }
+
+    /// The record of a grid whose clues get the numbers that a drawing has on their lines.
+    fn counted_record(self, sides: Sides, mut cells: Vec<Cell>, drawing: &[u8]) -> Vec<u8> {
+        for x in 0..cells.len() {
+            let Cell::Clue(d, _) = cells[x] else { continue };
+            let black = self.line(sides, &cells, x, d).filter(|&y| drawing[y] == BLACK).count();
+            cells[x] = Cell::Clue(d, black);
+        }
+        self.record_of(sides, &cells)
     }
 
     /// The record of a grid.
@@ -191,16 +219,23 @@ pub fn dealt(side: usize, seed: u64) -> (Vec<u8>, Vec<u8>) {
 /// The same in a record of some kind.
 pub fn dealt_in(kind: Kind, side: usize, seed: u64) -> (Vec<u8>, Vec<u8>) {
     let (cells, drawing) = dealt_cells(side, seed);
-    (kind.record_of(Sides { rows: side, columns: side }, &cells), drawing)
+    (kind.counted_record(Sides { rows: side, columns: side }, cells, &drawing), drawing)
 }
 
-/// The same, but every other clue, from the first on, is shaded in its place. No solution is lost by that.
+/// The same, but every other clue, from the first on, is shaded in its place. The drawing is a solution still.
 pub fn dealt_shaded_in(kind: Kind, side: usize, seed: u64) -> (Vec<u8>, Vec<u8>) {
     let (mut cells, drawing) = dealt_cells(side, seed);
     for cell in cells.iter_mut().filter(|c| matches!(c, Cell::Clue(..))).step_by(2) {
         *cell = Cell::Shaded;
     }
-    (kind.record_of(Sides { rows: side, columns: side }, &cells), drawing)
+    (kind.counted_record(Sides { rows: side, columns: side }, cells, &drawing), drawing)
+}
+
+/// The cells of a record of one kind in a record of another. What solves the one may not solve the other.
+pub fn recoded(from: Kind, to: Kind, record: &[u8]) -> Vec<u8> {
+    let sides = Sides { rows: record[4] as usize, columns: record[5] as usize };
+    let cells: Vec<Cell> = record[6..].chunks(from.cell_bytes).map(|code| from.cell(code)).collect();
+    to.record_of(sides, &cells)
 }
 
 /// A drawing of an open grid: a loop that grew as far as it goes, and black cells. It is a solution where no two of these touch.
@@ -223,7 +258,7 @@ pub fn counted_in(kind: Kind, d: usize, number: usize) -> Option<(Vec<u8>, Vec<u
     let sides = Sides { rows: side, columns: side };
     let last = sides.size() - 1;
     let clue = [last, last + 1 - side, side - 1, last][d];
-    let black = sides.line(clue, d).step_by(2).take(number).map(|x| (x, BLACK));
+    let black = sides.to_edge(clue, d).step_by(2).take(number).map(|x| (x, BLACK));
     let white = [(0, 0x06), (1, 0x0c), (side, 0x03), (side + 1, 0x09)];
     let mut cells = vec![Cell::Shaded; sides.size()];
     let mut drawing = vec![NOT_OPEN; sides.size()];
@@ -233,6 +268,15 @@ pub fn counted_in(kind: Kind, d: usize, number: usize) -> Option<(Vec<u8>, Vec<u
         drawing[x] = byte;
     }
     Some((kind.record_of(sides, &cells), drawing))
+}
+
+/// A 3×4 grid with a shaded cell 0 and a clue in cell 2. In its only solution cells 1 and 3 are black, on either side of the clue.
+pub fn parted_in(kind: Kind) -> Vec<u8> {
+    let sides = Sides { rows: 3, columns: 4 };
+    let mut cells = vec![Cell::Open; sides.size()];
+    cells[0] = Cell::Shaded;
+    cells[2] = Cell::Clue(0, 0);
+    kind.record_of(sides, &cells)
 }
 
 /// A grid of random cells, most of them open, with small numbers. It may have no solution.
@@ -249,6 +293,7 @@ pub fn random_in(kind: Kind, sides: Sides, seed: u64) -> Vec<u8> {
     kind.record_of(sides, &cells)
 }
 
+/// The cells of a dealt grid, with clues that have no number yet, and the drawing.
 fn dealt_cells(side: usize, seed: u64) -> (Vec<Cell>, Vec<u8>) {
     let sides = Sides { rows: side, columns: side };
     let mut dice = Dice(seed);
@@ -262,9 +307,7 @@ fn dealt_cells(side: usize, seed: u64) -> (Vec<Cell>, Vec<u8>) {
     let mut cells = vec![Cell::Open; sides.size()];
     for x in 0..sides.size() {
         if drawing[x] == NOT_OPEN {
-            let d = dice.below(4);
-            let black = sides.line(x, d).filter(|&y| drawing[y] == BLACK).count();
-            cells[x] = Cell::Clue(d, black);
+            cells[x] = Cell::Clue(dice.below(4), 0);
         }
     }
     (cells, drawing)

@@ -18,7 +18,7 @@ pub fn compare() {
         compare_listing(&grid::open(side), 1);
     }
     compare_listing(&grid::open(4), 1000);
-    for (kind, seed) in [(KINDS[0], 3), (KINDS[1], 5)] {
+    for (kind, seed) in KINDS.into_iter().zip([3, 5, 56]) {
         compare_listing(&grid::dealt_shaded_in(kind, 4, seed).0, 7);
     }
 }

@@ -19,10 +19,7 @@ type Numbers = BTreeSet<u64>;
 
 pub fn compare() {
     let mut numbers = Numbers::new();
-    for (side, seed) in (2..=6).flat_map(|side| [(side, 1), (side, 2), (side, 3)]) {
-        compare_solved(KINDS.map(|kind| grid::dealt_in(kind, side, seed)), &mut numbers);
-        compare_solved(KINDS.map(|kind| grid::dealt_shaded_in(kind, side, seed)), &mut numbers);
-    }
+    compare_dealt(&mut numbers);
     compare_clues();
     compare_random(400, &mut numbers);
     compare_records(&mut numbers);
@@ -59,18 +56,39 @@ fn same_sheet(what: &str, record: &[u8], drawing: &[u8], room: usize) -> u64 {
     number
 }
 
-/// A solved grid in either kind of record, which have the same sheet; and with wrong drawings.
-fn compare_solved(solved: [(Vec<u8>, Vec<u8>); 2], numbers: &mut Numbers) {
-    let [one, two] = solved.each_ref().map(|(record, drawing)| {
-        let mut sheet = vec![0; bytes(record)];
-        library::sheet(record, drawing, &mut sheet);
-        sheet
-    });
-    same(WHAT, &one, &two);
-    for (record, drawing) in solved {
-        compare_rooms(WHAT, &record, &drawing);
-        compare_changed(&record, drawing, numbers);
+/// Grids dealt in each kind, with the same cells in the other kinds. Some must have a solution in kinds 1 and 2 that they don't have in kind
+/// 3, some the other way round.
+fn compare_dealt(numbers: &mut Numbers) {
+    let mut solved = BTreeSet::new();
+    for (side, seed) in (2..=6).flat_map(|side| [(side, 1), (side, 2), (side, 3)]) {
+        for kind in KINDS {
+            for (record, drawing) in [grid::dealt_in(kind, side, seed), grid::dealt_shaded_in(kind, side, seed)] {
+                let records = KINDS.map(|other| grid::recoded(kind, other, &record));
+                solved.insert(compare_kinds(&records, &drawing, numbers));
+            }
+        }
     }
+    if solved != [[true; 3], [true, true, false], [false, false, true]].into() {
+        fail(WHAT, "kind 3 is not told from kinds 1 and 2");
+    }
+}
+
+/// The same cells in a record of each kind, and a drawing: those that it solves have the same sheet. Returns which these are.
+fn compare_kinds(records: &[Vec<u8>; KINDS.len()], drawing: &[u8], numbers: &mut Numbers) -> [bool; KINDS.len()] {
+    let solved = records.each_ref().map(|record| plain::judge(record, drawing).0 == 0);
+    let solving = records.iter().zip(solved).filter(|(_, solved)| *solved);
+    let sheets: BTreeSet<Vec<u8>> = solving.map(|(record, _)| compare_solved(record, drawing, numbers)).collect();
+    same(WHAT, &sheets.len(), &1);
+    solved
+}
+
+/// A solved grid; and with wrong drawings. Returns its sheet.
+fn compare_solved(record: &[u8], drawing: &[u8], numbers: &mut Numbers) -> Vec<u8> {
+    compare_rooms(WHAT, record, drawing);
+    compare_changed(record, drawing.to_vec(), numbers);
+    let mut sheet = vec![0; bytes(record)];
+    library::sheet(record, drawing, &mut sheet);
+    sheet
 }
 
 /// A drawing with one byte changed, at every place; and longer and shorter than the grid.
@@ -119,7 +137,7 @@ fn compare_random(count: u64, numbers: &mut Numbers) {
             }
         }
         if let Some(drawing) = solution(&records[0]) {
-            compare_solved(records.map(|record| (record, drawing.clone())), numbers);
+            compare_kinds(&records, &drawing, numbers);
             solved += 1;
         }
     }
@@ -128,7 +146,7 @@ fn compare_random(count: u64, numbers: &mut Numbers) {
     }
 }
 
-/// Of a record of kind 1, in which a code has one byte.
+/// Of a record in which a code has one byte.
 fn random_drawing(record: &[u8], dice: &mut Dice) -> Vec<u8> {
     record[6..].iter().map(|&code| if code == 0 { BYTES[dice.below(BYTES.len())] } else { NOT_OPEN }).collect()
 }
@@ -142,9 +160,9 @@ fn solution(record: &[u8]) -> Option<Vec<u8>> {
     (answer[0] == 1).then(|| decoded(WHAT, record, &slices))
 }
 
-/// A solved grid's record of either kind with one byte changed, at every place.
+/// A solved grid's record of each kind with one byte changed, at every place.
 fn compare_records(numbers: &mut Numbers) {
-    for (mut record, drawing) in KINDS.map(|kind| grid::dealt_shaded_in(kind, 4, 3)) {
+    for (mut record, drawing) in KINDS.map(|kind| grid::dealt_shaded_in(kind, 4, 698)) {
         let needed = bytes(&record);
         for at in 0..record.len() {
             let was = record[at];

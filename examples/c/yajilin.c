@@ -7,9 +7,9 @@
  *     --why CELL                    prints in place of them why the cell, counted from 0, is black or white: a choice of the
  *                                   search, or a clause, with its literals in words, a literal a line
  * yajilin --numbers CELL N|E|S|W [--steps N] FILE
- *                                   what a number on an arrow in that shaded cell would allow: for each number with which the
- *                                   grid has a solution a line with it and how many solutions; and `halted` if the budget
- *                                   was used up, so that there may be more
+ *                                   what a number on an arrow in that shaded cell would allow: for each number of black cells
+ *                                   that the line from there has in some solution, a line with it and in how many; and
+ *                                   `halted` if the budget was used up, so that there may be more
  * yajilin --satisfied FILE          reads value lists on standard input, each its literals and 0 (a variable that isn't named
  *                                   is false), and prints a line for each: `yes` if it satisfies the clauses, else `no`
  *
@@ -65,7 +65,7 @@ static const char *cause(uint64_t number)
 {
     switch (number) {
     case YAJILIN_RECORD_LENGTH: return "not a record: under 6 bytes, or its length field isn't the file's length";
-    case YAJILIN_KIND: return "not a grid record: its kind isn't 1 or 2";
+    case YAJILIN_KIND: return "not a grid record: its kind isn't 1, 2 or 3";
     case YAJILIN_SIDES: return "a side isn't 1 to 24 (in kind 2: 1 to 45)";
     case YAJILIN_CELL_COUNT: return "the record's length doesn't fit its kind and sides";
     case YAJILIN_CELL_BYTE: return "a cell's code that isn't allowed";
@@ -198,15 +198,27 @@ static void print_drawing(const int32_t *trail, uint64_t variables, int as_sheet
         print_bytes(drawing, cells);
 }
 
-static unsigned code(size_t x)
+/* Has a cell's code two bytes? In kinds 1 and 3 it has one. */
+static int is_wide(void)
 {
-    return record[2] == 1 ? record[6 + x] : record[6 + 2 * x] | (unsigned)record[7 + 2 * x] << 8;
+    return record[2] == 2;
 }
 
-/* A clue's number is the lower four bits of its code, in kind 2 the lower twelve. */
+/* Does a clue's line stop before the next clue? In kinds 1 and 2 it goes to the edge. */
+static int stops_before_clues(void)
+{
+    return record[2] == 3;
+}
+
+static unsigned code(size_t x)
+{
+    return is_wide() ? record[6 + 2 * x] | (unsigned)record[7 + 2 * x] << 8 : record[6 + x];
+}
+
+/* A clue's number is the lower four bits of its code, or the lower twelve of two bytes. */
 static unsigned number_bits(void)
 {
-    return record[2] == 1 ? 4 : 12;
+    return is_wide() ? 12 : 4;
 }
 
 static size_t clue_number(size_t x)
@@ -229,19 +241,41 @@ static int is_open(size_t x)
     return sort_of(x) == OPEN;
 }
 
-/* The cells from a cell's neighbour in a direction to the edge. */
-static size_t line_length(size_t x, unsigned d)
+static int is_clue(size_t x)
+{
+    return !is_open(x) && sort_of(x) != SHADED;
+}
+
+/* How many cells there are from a cell's neighbour in a direction to the edge. */
+static size_t cells_to_edge(size_t x, unsigned d)
 {
     size_t rows = record[4], columns = record[5], row = x / columns, column = x % columns;
-    size_t lengths[] = {row, columns - 1 - column, rows - 1 - row, column};
-    return lengths[d - NORTH];
+    size_t counts[] = {row, columns - 1 - column, rows - 1 - row, column};
+    return counts[d - NORTH];
+}
+
+/* The cell that is so far from a cell in a direction, where the board goes that far. */
+static size_t cell_away(size_t x, unsigned d, size_t distance)
+{
+    size_t down = distance * record[5], cells[] = {x - down, x + distance, x + down, x - distance};
+    return cells[d - NORTH];
+}
+
+/* How many cells a line from there has: to the edge, unless a clue stops it. Shaded cells are on it. */
+static size_t line_length(size_t x, unsigned d)
+{
+    size_t length = 0, most = cells_to_edge(x, d);
+    if (!stops_before_clues())
+        return most;
+    while (length < most && !is_clue(cell_away(x, d, length + 1)))
+        length++;
+    return length;
 }
 
 /* May the loop go from a cell in a direction? */
 static int has_link(size_t x, unsigned d)
 {
-    size_t columns = record[5], neighbours[] = {x - columns, x + 1, x + columns, x - 1};
-    return is_open(x) && line_length(x, d) > 0 && is_open(neighbours[d - NORTH]);
+    return is_open(x) && cells_to_edge(x, d) > 0 && is_open(cell_away(x, d, 1));
 }
 
 /* The open cells before a cell. */
@@ -267,13 +301,12 @@ static size_t ranked(size_t rank)
 /* The T variables of a cell: none unless it is a clue. */
 static size_t counts_of(size_t x)
 {
-    unsigned d = sort_of(x);
-    return d == OPEN || d == SHADED ? 0 : (line_length(x, d) + 1) * (clue_number(x) + 1);
+    return is_clue(x) ? (line_length(x, sort_of(x)) + 1) * (clue_number(x) + 1) : 0;
 }
 
 /*
  * What a variable says. Z: cell x is black. S: it is the start. E: the loop goes from it in direction d. Q: the start is n
- * links ahead of it. T: of the j cells nearest the edge on the line of the clue in x, n are black.
+ * links ahead of it. T: of the j cells at the far end of the line of the clue in x, n are black.
  */
 struct meaning {
     char letter;
@@ -332,7 +365,7 @@ static void print_words(struct meaning m, int is_true)
     case 'E': printf("the loop %s %s from cell %zu", is_true ? "goes" : "does not go", directions[m.d], m.x); break;
     case 'Q': printf("the start %s %zu link%s ahead of cell %zu", is, m.n, m.n == 1 ? "" : "s", m.x); break;
     case 'T':
-        printf("of the %zu cell%s nearest the edge on the line of the clue in cell %zu, ", m.j, m.j == 1 ? "" : "s", m.x);
+        printf("of the %zu cell%s at the far end of the line of the clue in cell %zu, ", m.j, m.j == 1 ? "" : "s", m.x);
         printf("the number of black ones %s %zu", is, m.n);
         break;
     }

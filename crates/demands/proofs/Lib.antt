@@ -1,4 +1,4 @@
--- Read Demands.antt, the three demands, RequestE1.antt to RequestE11.antt, document 02's requests, and Stars.antt, the starred cases: short proofs that
+-- Read Demands.antt, the three demands, RequestE1.antt to RequestE12.antt, document 02's requests, and Stars.antt, the starred cases: short proofs that
 -- cite the theories and solver.
 pub mod Demands
 pub mod RequestE1
@@ -13,5 +13,6 @@ pub mod RequestE9
 pub mod RequestE10
 pub mod TallyCases
 pub mod RequestE11
+pub mod RequestE12
 pub mod Stars
 pub mod DecoderTable

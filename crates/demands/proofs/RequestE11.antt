@@ -5,7 +5,7 @@ use lib.ListN.{length, drop}
 use lib.Seq.{length-take-le}
 use borrow.Author.Tests.{eqb-true, eq-eqb}
 use mathlib.Core.Path.{_≡_, refl, sym, _∙_, ap, subst}
-use mathlib.Core.Bool.{Bool, true}
+use mathlib.Core.Bool.{Bool, true, false}
 use mathlib.Core.Logic.{_↔_}
 use mathlib.Core.List.{List, _++_}
 use Rattle.answers.specs.Lists.{howMany, keep}
@@ -13,8 +13,9 @@ use Rattle.answers.proofs.Lent.{past-filled}
 use Rattle.answers.proofs.Elements.{all-in, all-at, in-keep, of-keep, apart-keep}
 use Rattle.answers.proofs.Lists.{many-length, many-kept}
 use Rattle.rules.specs.declared.Cell.the-variants.{Shaded}
+use Rattle.rules.specs.declared.Grid.{Grid}
 use Rattle.rules.specs.Record.{gridOf, gridCell, size, puzzle, directionOf, IsAccepted}
-use Rattle.rules.specs.Board.{Board, boardOf, line}
+use Rattle.rules.specs.Board.{Board, stopsBeforeClues, boardOf, line}
 use Rattle.rules.specs.Drawing.{SolutionBytes, blackAt}
 use Rattle.rules.specs.Solutions.{Solutions}
 use Rattle.rules_theory.specs.Shaded.{ClueShaded}
@@ -33,6 +34,8 @@ use Rattle.solver.proofs.Encoded.{list-filled}
 use Rattle.solver.proofs.Listing.{carries-long}
 use Rattle.solver.proofs.Tally as tally
 use Rattle.demands.proofs.TallyCases.{tally-cases-hold}
+use Rattle.demands.specs.RequestE4.{EitherKind}
+use Rattle.demands.proofs.RequestE4.{to-edge}
 use Rattle.demands.specs.RequestE11.{Answered, Tells, counter, ListedBy, begunIn, Past, RequestE11}
 
 -- those that pass a test are the solutions of another grid
@@ -46,9 +49,9 @@ passing {b} {c} p {dss} same S =
     }
 
 module _ (s : List ℕ) (q : Asked) (budget : ℕ) (lent : TallyLent) (a : Answered s q budget lent) where
-  tried-out : Tells s q budget lent None → (r : List ℕ) (n : ℕ) → n < 45 → ClueShaded r s (q .cell) (directionOf (q .direction)) n
+  tried-out : Tells s q budget lent None → EitherKind s → (r : List ℕ) (n : ℕ) → n < 45 → ClueShaded r s (q .cell) (directionOf (q .direction)) n
       → (dss : List (List ℕ)) → Solutions (boardOf r) dss → counter s q budget lent n ≡ length dss
-  tried-out none r n small h dss R =
+  tried-out none kind r n small h dss R =
       let all = some-list s (tally.accepted s q budget lent a) in
       tally.counts-solutions s q budget lent a none (all .0) (all .1) n small ∙ sym (many-kept test (all .0))
       ∙ sym (many-length (keep test (all .0))) ∙ tally.same-solutions (passing test same (all .1)) R (λ ds. true) ∙ many-length dss
@@ -56,12 +59,17 @@ module _ (s : List ℕ) (q : Asked) (budget : ℕ) (lent : TallyLent) (a : Answe
       test : List ℕ → Bool
       test ds = eqb (howMany (blackAt ds) (askedLine s q)) n
 
+      edge : stopsBeforeClues (gridOf r .kind) ≡ false
+      edge = ap (λ (g : Grid). stopsBeforeClues (g .kind)) (h .grid) ∙ to-edge s kind
+
       along : line (puzzle (gridOf r) r) (directionOf (q .direction)) (q .cell) ≡ askedLine s q
-      along = ap (λ g. line (record { grid = g; cells = puzzle (gridOf s) s .cells }) (directionOf (q .direction)) (q .cell)) (h .grid)
+      along =
+          sym (shaded.same-line r s (q .cell) (directionOf (q .direction)) n h edge (directionOf (q .direction)) (q .cell))
+          ∙ ap (λ g. line (record { grid = g; cells = puzzle (gridOf s) s .cells }) (directionOf (q .direction)) (q .cell)) (h .grid)
 
       same : (ds : List ℕ) → SolutionBytes (boardOf r) ds ↔ SolutionBytes (boardOf s) ds × (test ds ≡ true)
       same ds =
-          let k = shaded.same-solutions r s (q .cell) (directionOf (q .direction)) n h ds in (
+          let k = shaded.same-solutions r s (q .cell) (directionOf (q .direction)) n h edge ds in (
             λ S. let (t, m) = k .0 S in (t, eq-eqb _ n (sym (ap (howMany (blackAt ds)) along) ∙ m)),
             λ T. k .1 (T .0, ap (howMany (blackAt ds)) along ∙ eqb-true _ n (T .1)),
           )

@@ -32,7 +32,7 @@ use Rattle.demands.proofs.Demands.{demand-1, demand-2, demand-3}
 use Rattle.demands.proofs.RequestE1.{request-e1}
 use Rattle.demands.proofs.RequestE2.{request-e2}
 use Rattle.demands.proofs.RequestE3.{request-e3}
-use Rattle.demands.proofs.RequestE4.{request-e4}
+use Rattle.demands.proofs.RequestE4.{to-edge, request-e4}
 use Rattle.demands.proofs.Stars.{at-each, computes, claims, none-holds, one-holds, ends-none, stars-hold}
 
 -- the grids, computed
@@ -103,9 +103,9 @@ request-e5 =
       judged-byte = shaded.judged-byte;
       no-variable = no-variable;
       none-to = none-to;
-      same-clues = shaded.same-clues;
+      same-clues = λ s t x d n h k. shaded.same-clues s t x d n h (to-edge s k);
       same-clauses = λ s t x d n h c. ap (λ isOpen. clueClauses isOpen c) (shaded.same-open s t x d n h);
-      same-solutions = shaded.same-solutions;
+      same-solutions = λ s t x d n h k. shaded.same-solutions s t x d n h (to-edge s k);
       sorts-one = reader.kind-accepts One .cells;
       sorts-two = reader.kind-accepts Two .cells;
       samples = samples;

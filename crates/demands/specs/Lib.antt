@@ -1,4 +1,4 @@
--- The three demands of the request. Read Demands.antt: each demand is one statement. Then RequestE1 to RequestE11: document 02's requests.
+-- The three demands of the request. Read Demands.antt: each demand is one statement. Then RequestE1 to RequestE12: document 02's requests.
 -- Stars has the starred cases of document 01. DecoderTable: the decoder's rows in the order of document 01's table.
 pub mod DecoderTable
 pub mod Demands
@@ -13,4 +13,5 @@ pub mod RequestE8
 pub mod RequestE9
 pub mod RequestE10
 pub mod RequestE11
+pub mod RequestE12
 pub mod Stars

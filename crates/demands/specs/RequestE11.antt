@@ -29,6 +29,7 @@ use Rattle.solver.specs.Listing.{Carries}
 use Rattle.solver.specs.Work.{Work}
 use Rattle.solver.specs.Tally.{withBlacks, sum, Asked, askedLine, TallyLent, wrongTally, tallyRows, tallyAnswer, tallyLeaves}
 use Rattle.solver.specs.Cases.{tallyCases, tallyCalled}
+use Rattle.demands.specs.RequestE4.{EitherKind}
 
 module _ (s : List ℕ) (q : Asked) (budget : ℕ) (lent : TallyLent) where
   -- the call is not refused
@@ -74,8 +75,9 @@ pub record Past (before after : Work) (elements v : ℕ) : Type 0 where
 
 pub record RequestE11 : Type 0 where
   -- "A setter who has placed an arrow wants to see its numbers tried out."
-  -- (Of a grid with an arrow in that cell, and the grid with the cell shaded in its place: counter n is how many solutions the first has with the number n.)
-  pub tried-out : (s : List ℕ) (q : Asked) (budget : ℕ) (lent : TallyLent) → Answered s q budget lent → Tells s q budget lent None
+  -- (Of a grid with an arrow in that cell, and the grid with the cell shaded in its place: counter n is how many solutions the first has with the number n.
+  -- In kind 3, which is E12's, the arrow would stop other lines and the shaded cell does not: there the counters are of the second grid alone, as below.)
+  pub tried-out : (s : List ℕ) (q : Asked) (budget : ℕ) (lent : TallyLent) → Answered s q budget lent → Tells s q budget lent None → EitherKind s
       → (r : List ℕ) (n : ℕ) → n < 45 → ClueShaded r s (q .cell) (directionOf (q .direction)) n
       → (dss : List (List ℕ)) → Solutions (boardOf r) dss → counter s q budget lent n ≡ length dss
   -- "Given a grid, a shaded cell in it and a direction, fill 45 lent 64-bit counters: counter n is how many solutions have n black cells on that line."

@@ -11,17 +11,23 @@ use mathlib.Core.List.{List}
 use Rattle.answers.specs.Lists.{tally, howMany}
 use Rattle.rules.specs.declared.Direction.{Direction}
 use Rattle.rules.specs.declared.Cell.the-variants.{Clue as Clued}
+use Rattle.rules.specs.declared.Kind.the-variants.{Three}
 use Rattle.rules.specs.Directions.{opposite}
 use Rattle.rules.specs.Record.{Puzzle, puzzle, gridCell, gridOf, size, IsAccepted}
 use Rattle.rules.specs.Board.{neighbour, line, boardOf}
 use Rattle.rules.specs.Drawing.{blacksNearest, blackAt}
+use Rattle.rules_theory.specs.Lines.{HasClue}
 use Rattle.encoder.specs.Variables.{T}
 use Rattle.encoder.specs.Decoding.{Satisfying, DecodesTo}
 use Rattle.encoder_theory.specs.Valuations.{valuation}
 
 pub record RequestE3 : Type 0 where
   -- "Document 004 counts a line from the board's edge"
-  pub from-edge : (p : Puzzle) (d : Direction) (x : ℕ) → x < size (p .grid) → neighbour (p .grid) d (getD (line p d x) 0 x) ≡ none
+  -- (So in kinds 1 and 2. In kind 3, which is E12's, it is counted from its far end: beyond that is the edge, or the clue that stops the line.)
+  pub from-edge : (p : Puzzle) (d : Direction) (x : ℕ) → x < size (p .grid) → (p .grid .kind ≡ Three → ⊥)
+      → neighbour (p .grid) d (getD (line p d x) 0 x) ≡ none
+  pub from-far-end : (p : Puzzle) (d : Direction) (x y : ℕ) → x < size (p .grid) → neighbour (p .grid) d (getD (line p d x) 0 x) ≡ some y
+      → (p .grid .kind ≡ Three) × HasClue p y
   -- "towards the clue. However it goes now, the judge's counting is to go the same way, cell by cell in the order of that text,"
   pub cell-by-cell : (p : Puzzle) (d : Direction) (x j : ℕ) → j < length (line p d x)
       → neighbour (p .grid) (opposite d) (getD (line p d x) j x) ≡ some (getD (line p d x) (suc j) x)

@@ -25,7 +25,7 @@ use Rattle.demands.specs.Demands.{Demand1, Demand2, Demand3}
 use Rattle.demands.specs.RequestE1.{RequestE1}
 use Rattle.demands.specs.RequestE2.{RequestE2}
 use Rattle.demands.specs.RequestE3.{RequestE3}
-use Rattle.demands.specs.RequestE4.{RequestE4, kindOne, kindTwo}
+use Rattle.demands.specs.RequestE4.{RequestE4, kindOne, kindTwo, EitherKind}
 use Rattle.demands.specs.Stars.{GridStar, GridHolds, Holds, gridCase, stars}
 
 -- the cell that a variable is of
@@ -87,12 +87,13 @@ pub record RequestE5 : Type 0 where
   -- "and in a clue's line acts as a clue cell."
   -- (Of two grids that differ in a cell x that is a clue in the first and shaded in the second: the clues of the second are those of the first but the one in
   -- x, with their lines, and each has the same clauses, by the letters of the variables; and the solutions of the first are those of the second in which the
-  -- clue in x is met.)
-  pub same-clues : (s t : List ℕ) (x : ℕ) (d : Direction) (n : ℕ) → ClueShaded s t x d n
+  -- clue in x is met. In kind 3, which is E12's, a clue stops lines and a shaded cell does not, so other clues may have other lines there; a clue with a
+  -- given line has the same clauses there too.)
+  pub same-clues : (s t : List ℕ) (x : ℕ) (d : Direction) (n : ℕ) → ClueShaded s t x d n → EitherKind s
       → (c : Clue) → c ∈ boardOf t .clues ↔ (c ∈ boardOf s .clues) × (c .cell ≡ x → ⊥)
   pub same-clauses : (s t : List ℕ) (x : ℕ) (d : Direction) (n : ℕ) → ClueShaded s t x d n
       → (c : Clue) → clueClauses (boardOf s .isOpen) c ≡ clueClauses (boardOf t .isOpen) c
-  pub same-solutions : (s t : List ℕ) (x : ℕ) (d : Direction) (n : ℕ) → ClueShaded s t x d n → (ds : List ℕ)
+  pub same-solutions : (s t : List ℕ) (x : ℕ) (d : Direction) (n : ℕ) → ClueShaded s t x d n → EitherKind s → (ds : List ℕ)
       → SolutionBytes (boardOf s) ds ↔ SolutionBytes (boardOf t) ds × (howMany (blackAt ds) (line (puzzle (gridOf s) s) d x) ≡ n)
   -- "The reader now tells three sorts of cell,"
   -- (Each cell of a grid is of one of them, by its code; `CodeIs` names them.)

@@ -1,5 +1,5 @@
--- Cases of the encoder: document 01's starred grids, one with a clue on a clue's line and three with shaded cells, and what is expected of each. The lists are
--- written out, not computed.
+-- Cases of the encoder: document 01's starred grids, one with a clue on a clue's line, three with shaded cells and two of kind 3, and what is expected of
+-- each. The lists are written out, not computed.
 use Prim.Native.Nat.{ℕ}
 use lib.IntN.{ℤ, pos, negsuc}
 use lib.ListN.{length, replicate}
@@ -46,6 +46,12 @@ squareList = negsuc 0 ∷ negsuc 1 ∷ pos 0 ∷ negsuc 0 ∷
     negsuc 29 ∷ pos 21 ∷ pos 0 ∷ negsuc 14 ∷ negsuc 30 ∷ pos 22 ∷ pos 0 ∷ negsuc 14 ∷ negsuc 31 ∷ pos 23 ∷ pos 0 ∷ negsuc 15 ∷ negsuc 29 ∷ pos 25 ∷
     pos 0 ∷ negsuc 15 ∷ negsuc 30 ∷ pos 26 ∷ pos 0 ∷ negsuc 15 ∷ negsuc 31 ∷ pos 27 ∷ pos 0 ∷ []
 
+-- the list of 1×3 with a clue to the east with number 0, shaded, open
+abbrev pastShaded : List ℤ
+pastShaded = pos 4 ∷ pos 0 ∷ negsuc 3 ∷ pos 1 ∷ pos 5 ∷ pos 0 ∷ negsuc 3 ∷ negsuc 0 ∷ pos 0 ∷ negsuc 4 ∷ pos 6 ∷ pos 0 ∷ pos 6 ∷ pos 0 ∷ pos 1 ∷
+    pos 0 ∷ pos 1 ∷ pos 0 ∷ pos 2 ∷ pos 0 ∷ negsuc 1 ∷ negsuc 0 ∷ pos 0 ∷ negsuc 1 ∷ pos 0 ∷ pos 1 ∷ pos 3 ∷ pos 0 ∷ negsuc 0 ∷ negsuc 2 ∷
+    pos 0 ∷ negsuc 1 ∷ pos 3 ∷ pos 0 ∷ pos 2 ∷ negsuc 2 ∷ pos 0 ∷ []
+
 abbrev pub cases : List Case
 cases =
     -- 1×1 open
@@ -91,15 +97,19 @@ cases =
     -- 1×1 shaded (document 02, E5): no variable; F = 0 gives an empty clause
     record { bytes = 7 ∷ 0 ∷ 1 ∷ 0 ∷ 1 ∷ 1 ∷ 0x50 ∷ []; outcome = answer 1 0 1; list = pos 0 ∷ [] } ∷
     -- 1×3: a clue to the east with number 0, shaded, open
+    record { bytes = 9 ∷ 0 ∷ 1 ∷ 0 ∷ 1 ∷ 3 ∷ 0x20 ∷ 0x50 ∷ 0 ∷ []; outcome = answer 37 6 14; list = pastShaded } ∷
+    -- 2×3 with shaded cells in its last column: the list is that of the open 2×2 grid
+    record { bytes = 12 ∷ 0 ∷ 1 ∷ 0 ∷ 2 ∷ 3 ∷ 0 ∷ 0 ∷ 0x50 ∷ 0 ∷ 0 ∷ 0x50 ∷ []; outcome = answer 401 32 119; list = squareList } ∷
+    -- of kind 3 (document 02, E12): the cells of the sixth case, where the first clue's line is empty
     record {
-      bytes = 9 ∷ 0 ∷ 1 ∷ 0 ∷ 1 ∷ 3 ∷ 0x20 ∷ 0x50 ∷ 0 ∷ [];
-      outcome = answer 37 6 14;
-      list = pos 4 ∷ pos 0 ∷ negsuc 3 ∷ pos 1 ∷ pos 5 ∷ pos 0 ∷ negsuc 3 ∷ negsuc 0 ∷ pos 0 ∷ negsuc 4 ∷ pos 6 ∷ pos 0 ∷ pos 6 ∷ pos 0 ∷ pos 1 ∷
+      bytes = 9 ∷ 0 ∷ 3 ∷ 0 ∷ 1 ∷ 3 ∷ 33 ∷ 16 ∷ 0 ∷ [];
+      outcome = answer 33 6 14;
+      list = pos 4 ∷ pos 0 ∷ negsuc 4 ∷ pos 0 ∷ pos 5 ∷ pos 0 ∷ pos 6 ∷ pos 0 ∷ pos 6 ∷ pos 0 ∷ pos 1 ∷
           pos 0 ∷ pos 1 ∷ pos 0 ∷ pos 2 ∷ pos 0 ∷ negsuc 1 ∷ negsuc 0 ∷ pos 0 ∷ negsuc 1 ∷ pos 0 ∷ pos 1 ∷ pos 3 ∷ pos 0 ∷ negsuc 0 ∷ negsuc 2 ∷
           pos 0 ∷ negsuc 1 ∷ pos 3 ∷ pos 0 ∷ pos 2 ∷ negsuc 2 ∷ pos 0 ∷ [];
     } ∷
-    -- 2×3 with shaded cells in its last column: the list is that of the open 2×2 grid
-    record { bytes = 12 ∷ 0 ∷ 1 ∷ 0 ∷ 2 ∷ 3 ∷ 0 ∷ 0 ∷ 0x50 ∷ 0 ∷ 0 ∷ 0x50 ∷ []; outcome = answer 401 32 119; list = squareList } ∷
+    -- and those of the eighth, with the same list: a shaded cell stops no line
+    record { bytes = 9 ∷ 0 ∷ 3 ∷ 0 ∷ 1 ∷ 3 ∷ 0x20 ∷ 0x50 ∷ 0 ∷ []; outcome = answer 37 6 14; list = pastShaded } ∷
     []
 
 -- as many elements as are needed, none of them 0 or a literal of a case

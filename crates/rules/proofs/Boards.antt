@@ -7,7 +7,7 @@ use lib.ListN.{length, getD}
 use lib.Dec.{ltb}
 use borrow.Author.Tests.{ltb-true, ltb-false, leb-true, lt-ltb, le-leb}
 use mathlib.Core.Path.{_≡_, refl, sym, _∙_, ap}
-use mathlib.Core.Bool.{Bool, true, false, _&&_}
+use mathlib.Core.Bool.{Bool, true, false, not, _&&_}
 use mathlib.Core.Option.{Option, none, some}
 use mathlib.Core.Logic.{_⊎_, inl, inr}
 use mathlib.Core.List.{List, [], _∷_, List·Memᴰ·cases-cons, List·Memᴰ·not-nil}
@@ -20,7 +20,8 @@ use Rattle.rules.specs.declared.Grid.{Grid}
 use Rattle.answers.specs.Lists.{All, _∈_, ApartBy}
 use Rattle.rules.specs.Directions.{opposite}
 use Rattle.rules.specs.Record.{Puzzle, size}
-use Rattle.rules.specs.Board.{Clue, Board, when, inside, target, neighbour, openCell, openAt, beyond, outward, lineNext, line, clueIn, cluesFrom, board}
+use Rattle.rules.specs.Board.{Clue, Board, when, inside, target, neighbour, openCell, openAt, stopsBefore, unlessStopped, beyond, outward, lineNext}
+use Rattle.rules.specs.Board.{line, clueIn, cluesFrom, board}
 
 -- where a neighbour in direction d lies in the numbering of the cells
 abbrev pub Ahead : Direction → ℕ → ℕ → Type 0
@@ -294,7 +295,15 @@ module _ (p : Puzzle) where
 
   -- a line goes on to a neighbour
   pub line-goes : (d : Direction) (x y : ℕ) → lineNext p d x ≡ some y → neighbour (p .grid) d x ≡ some y
-  line-goes d x y e = e
+  line-goes d x y = by (neighbour (p .grid) d x)
+    where
+      by : (o : Option ℕ) → unlessStopped (stopsBefore p) o ≡ some y → o ≡ some y
+      by none e = e
+      by (some z) e = ap some (when-some (not (stopsBefore p z)) z y e .1)
+
+  -- where it goes on, by whether it stops before the neighbour
+  pub next-by : (d : Direction) (x : ℕ) {y : ℕ} {t : Bool} → neighbour (p .grid) d x ≡ some y → stopsBefore p y ≡ t → lineNext p d x ≡ when (not t) y
+  next-by d x {y} e h = ap (unlessStopped (stopsBefore p)) e ∙ ap (λ t. when (not t) y) h
 
   pub line-ends : (d : Direction) (x : ℕ) → x < size (p .grid) → lineNext p d (getD (line p d x) 0 x) ≡ none
   line-ends d x h = outward-ends (p .grid) d (lineNext p d) (line-goes d) (size (p .grid)) x [] x refl (not-far (p .grid) d x h)

@@ -7,7 +7,7 @@ use mathlib.Core.Bool.{cond}
 use Rattle.answers.specs.declared.Outcome.{Outcome}
 use Rattle.answers.proofs.OneToOne.{OneToOne, Between, number-eqb, number-under, number-over}
 use Rattle.rules.specs.declared.Kind.{Kind}
-use Rattle.rules.specs.declared.Kind.the-variants.{One, Two}
+use Rattle.rules.specs.declared.Kind.the-variants.{One, Two, Three}
 use Rattle.rules.specs.declared.Grid.{Grid}
 use Rattle.rules.specs.declared.RecordRefusal.{RecordRefusal}
 use Rattle.rules.specs.declared.RecordRefusal.the-variants.{Length, Kind as OtherKind, Side, Size, NotACell}
@@ -61,6 +61,7 @@ grid-told g = λ i. record { kind = by (g .kind) i; rows = g .rows; columns = g 
     by : (k : Kind) → kindOf (readKind (kindNumber k)) ≡ k
     by One = refl
     by Two = refl
+    by Three = refl
 
 pub readings : OneToOne parsedOutcome
 readings = record { from = from; back = back }

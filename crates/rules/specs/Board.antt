@@ -1,17 +1,20 @@
 -- The board of a grid: all that the rules (and what stands on them) know of it.
 use Prim.Native.Nat.{ℕ, zero, suc, _+_, _-_, _%_}
 use lib.Dec.{leb, ltb}
-use mathlib.Core.Bool.{Bool, true, false, _&&_}
+use lib.ListN.{getD}
+use mathlib.Core.Bool.{Bool, true, false, not, _&&_}
 use mathlib.Core.Option.{Option, none, some}
 use mathlib.Core.List.{List, [], _∷_, _++_}
 use Rattle.rules.specs.declared.Direction.{Direction}
 use Rattle.rules.specs.declared.Direction.the-variants.{North as north, East as east, South as south, West as west}
 use Rattle.rules.specs.declared.Cell.{Cell}
 use Rattle.rules.specs.declared.Cell.the-variants.{Open, Clue as Clued, Shaded}
+use Rattle.rules.specs.declared.Kind.{Kind}
+use Rattle.rules.specs.declared.Kind.the-variants.{One, Two, Three}
 use Rattle.rules.specs.declared.Grid.{Grid}
 use Rattle.rules.specs.Record.{Puzzle, puzzle, gridOf, size}
 
--- a clue on the board: its cell, its number, and its line, the cell nearest the edge first
+-- a clue on the board: its cell, its number, and its line, the far end first
 pub record Clue : Type 0 where
   pub cell : ℕ
   pub number : ℕ
@@ -66,11 +69,33 @@ unfoldable pub outward : (ℕ → Option ℕ) → ℕ → ℕ → List ℕ → L
 outward next zero x seen = seen
 outward next (suc fuel) x seen = beyond (next x) seen (λ y. outward next fuel y (y ∷ seen))
 
--- the cell after x on a line in a direction, if any
-abbrev pub lineNext : Puzzle → Direction → ℕ → Option ℕ
-lineNext p d x = neighbour (p .grid) d x
+-- a clue, not an open or a shaded cell
+abbrev pub clueCell : Cell → Bool
+clueCell Open = false
+clueCell (Clued d n) = true
+clueCell Shaded = false
 
--- the line of a clue: every cell from its neighbour in that direction to the board's edge; as many steps as cells are enough (`line-ends`)
+-- the lines of kind 3 stop before the first clue cell
+abbrev pub stopsBeforeClues : Kind → Bool
+stopsBeforeClues One = false
+stopsBeforeClues Two = false
+stopsBeforeClues Three = true
+
+-- does a line of p stop before the cell y
+abbrev pub stopsBefore : Puzzle → ℕ → Bool
+stopsBefore p y = stopsBeforeClues (p .grid .kind) && clueCell (getD (p .cells) y Open)
+
+-- none where the line stops before it
+abbrev pub unlessStopped : (ℕ → Bool) → Option ℕ → Option ℕ
+unlessStopped stops none = none
+unlessStopped stops (some y) = when (not (stops y)) y
+
+-- the cell after x on a line in a direction, if any: the neighbour, unless the line stops before it
+abbrev pub lineNext : Puzzle → Direction → ℕ → Option ℕ
+lineNext p d x = unlessStopped (stopsBefore p) (neighbour (p .grid) d x)
+
+-- the line of a clue: every cell from its neighbour in that direction to where the line ends, at the board's edge or, in kind 3, before a clue cell;
+-- as many steps as cells are enough (`line-ends`)
 abbrev pub line : Puzzle → Direction → ℕ → List ℕ
 line p d x = outward (lineNext p d) (size (p .grid)) x []
 

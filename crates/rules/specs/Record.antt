@@ -1,4 +1,4 @@
--- "The grid record" of document 01, with kind 2 and shaded cells of document 02's E4 and E5, and rows 1 to 5 of "Turned down".
+-- "The grid record" of document 01, with kind 2, shaded cells and kind 3 of document 02's E4, E5 and E12, and rows 1 to 5 of "Turned down".
 use Prim.Native.Nat.{ℕ, _+_, _*_, _/_, _%_, _≤_, _<_}
 use mathlib.Core.Path.{_≡_}
 use lib.Dec.{eqb, leb, ltb}
@@ -18,7 +18,7 @@ use Rattle.rules.specs.declared.CellCode.the-variants.{Is, NotAllowed}
 use Rattle.rules.specs.declared.Layout.{Layout}
 use Rattle.rules.specs.declared.Layout.the-variants.{Byte, Word}
 use Rattle.rules.specs.declared.Kind.{Kind}
-use Rattle.rules.specs.declared.Kind.the-variants.{One, Two}
+use Rattle.rules.specs.declared.Kind.the-variants.{One, Two, Three}
 use Rattle.rules.specs.declared.KindField.{KindField}
 use Rattle.rules.specs.declared.KindField.the-variants.{Is as IsKind, NotAllowed as NoKind}
 use Rattle.rules.specs.declared.Grid.{Grid}
@@ -36,9 +36,10 @@ pub record Puzzle : Type 0 where
 abbrev pub kindNumber : Kind → ℕ
 kindNumber One = 1
 kindNumber Two = 2
+kindNumber Three = 3
 
 abbrev pub readKind : ℕ → KindField
-readKind n = cond (eqb n 1) (IsKind One) (cond (eqb n 2) (IsKind Two) NoKind)
+readKind n = cond (eqb n 1) (IsKind One) (cond (eqb n 2) (IsKind Two) (cond (eqb n 3) (IsKind Three) NoKind))
 
 -- (a kind that is not allowed stands in no accepted record)
 abbrev pub kindOf : KindField → Kind
@@ -49,10 +50,11 @@ abbrev pub kindNotAllowed : KindField → Bool
 kindNotAllowed (IsKind k) = false
 kindNotAllowed NoKind = true
 
--- the layout and limits of a kind
+-- the layout and limits of a kind: kind 3 has kind 1's
 abbrev pub layoutOf : Kind → Layout
 layoutOf One = Byte
 layoutOf Two = Word
+layoutOf Three = Byte
 
 -- what a layout sets: the largest side,
 abbrev pub mostSide : Layout → ℕ
@@ -176,7 +178,7 @@ pub record DrawingFits (g : Grid) (s ds : List ℕ) : Type 0 where
 abbrev pub wrongLength : List ℕ → Bool
 wrongLength s = ltb (length s) 6 || not (eqb (word s 0) (length s))
 
--- 2: kind not 1 or 2
+-- 2: kind not 1, 2 or 3
 abbrev pub wrongKind : List ℕ → Bool
 wrongKind s = kindNotAllowed (readKind (word s 2))
 

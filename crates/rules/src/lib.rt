@@ -1,5 +1,5 @@
-// What a grid is, and when a drawing is a solution: document 01's "The grid record" and "The drawing and its judge", with document 02's E4
-// and E5.
+// What a grid is, and when a drawing is a solution: document 01's "The grid record" and "The drawing and its judge", with document 02's E4,
+// E5 and E12.
 pub enum Direction {
     North,
     East,
@@ -26,10 +26,11 @@ pub enum Layout {
     Word,
 }
 
-// A record's kind: 1, or 2 with larger sides and numbers.
+// A record's kind: 1; 2, with larger sides and numbers; 3, as 1 with lines that stop before clue cells.
 pub enum Kind {
     One,
     Two,
+    Three,
 }
 
 // What the kind field of a record is.

@@ -1,4 +1,4 @@
-// The reader of a grid record: document 01's "The grid record", and document 02's E4 and E5. No code above it looks at a kind.
+// The reader of a grid record: document 01's "The grid record", and document 02's E4, E5 and E12. No code above it looks at a kind.
 ghost use mathlib.Core.Path.{_≡_};
 ghost use Prim.Native.Nat.{_+_, _<_};
 ghost use lib.ListN.{length, getD};
@@ -8,7 +8,7 @@ ghost use Rattle.rules.specs.declared.Layout.the-variants.{Byte, Word};
 ghost use Rattle.rules.specs.declared.Parsed.the-variants.{Refused};
 ghost use Rattle.rules.specs.Record.{layoutOf, cellBytes, readKind, readCell, notAllowed, word, size, cellCode, puzzle, isSide, wrongCell};
 ghost use Rattle.rules.specs.Record.{Sides, RecordSized, RecordFits, recordAnswer, parsedOutcome, IsRefused};
-ghost use Rattle.rules.specs.Board.{openCell};
+ghost use Rattle.rules.specs.Board.{openCell, stopsBeforeClues};
 use super::Cell;
 use super::CellCode;
 use super::Direction;
@@ -105,6 +105,18 @@ impl Grid {
         cell
     }
 
+    // Do its lines stop before clue cells? They do in kind 3.
+    pub fn stops_before_clues(self) -> bool
+        ensures { λ r. ⌜ r ≡ stopsBeforeClues (self .kind) ⌝ }
+    {
+        let kind = self.kind;
+        match kind {
+            Kind::One => false,
+            Kind::Two => false,
+            Kind::Three => true,
+        }
+    }
+
     // Is the cell numbered x open? It is exactly if its first byte and its last, which may be one, are 0. The layout tells only where
     // they are: this is asked most, and reading the code costs more.
     pub fn is_open(self, record: &[u8], x: usize) -> bool
@@ -148,7 +160,8 @@ fn read_kind(n: u16) -> KindField
     match n {
         1 => KindField::Is(Kind::One),
         2 => KindField::Is(Kind::Two),
-        0 | 3..=0xffff => KindField::NotAllowed,
+        3 => KindField::Is(Kind::Three),
+        0 | 4..=0xffff => KindField::NotAllowed,
     }
 }
 
@@ -159,6 +172,7 @@ impl Kind {
         match self {
             Kind::One => Layout::Byte,
             Kind::Two => Layout::Word,
+            Kind::Three => Layout::Byte,
         }
     }
 }

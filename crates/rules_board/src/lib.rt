@@ -5,9 +5,10 @@ ghost use lib.ListN.{length, getD};
 ghost use Rattle.answers.specs.First.{placed};
 ghost use Rattle.rules.specs.Directions.{opposite};
 ghost use Rattle.rules.specs.Record.{size, OnBoard, RecordFits, puzzle};
-ghost use Rattle.rules.specs.Board.{neighbour, line};
+ghost use Rattle.rules.specs.Board.{neighbour, stopsBefore, line};
 ghost use Rattle.rules.specs.Walk.{go};
 use answers::Place;
+use rules::Cell;
 use rules::Direction;
 use rules::Grid;
 
@@ -69,9 +70,26 @@ pub fn go(g: Grid, x: usize, d: Direction) -> usize
     y
 }
 
+// Does a line stop before the cell?
+fn stops_before(g: Grid, record: &[u8], x: usize) -> bool
+    requires { ⌜ RecordFits g (now «record») ⌝ }
+    requires { ⌜ x < size g ⌝ }
+    ensures { λ r. ⌜ r ≡ stopsBefore (puzzle g (now («record» .entry))) x ⌝ }
+{
+    let stops = g.stops_before_clues();
+    if !stops {
+        return false;
+    }
+    let c = g.cell(record, x);
+    let Cell::Clue(_, _) = c else {
+        return false;
+    };
+    true
+}
+
 // Where a line ends.
 pub struct End {
-    // The cell nearest the edge; the clue's own where the line is empty.
+    // Its far end; the clue's own cell where the line is empty.
     pub cell: usize,
     // The number of cells on the line.
     pub cells: usize,
@@ -87,10 +105,15 @@ pub fn line_end(g: Grid, record: &[u8], x: usize, d: Direction) -> End
     let mut y = x;
     let mut cells = 0;
     loop {
+        let here = End { cell: y, cells };
         let p = neighbour(g, y, d);
         let Place::At(z) = p else {
-            return End { cell: y, cells };
+            return here;
         };
+        let stops = stops_before(g, record, z);
+        if stops {
+            return here;
+        }
         y = z;
         cells += 1;
     }

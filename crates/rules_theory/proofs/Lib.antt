@@ -1,5 +1,5 @@
 -- Theorems about grids, drawings and the judge. Read Theorems.antt: it states the results; and
--- Shaded.antt for those about shaded cells. The others are in the order of the proofs.
+-- Lines.antt and Shaded.antt for those about lines and shaded cells. The others are in the order of the proofs.
 pub mod Theorems
 pub mod Finite
 pub mod Directions
@@ -15,4 +15,5 @@ pub mod Places
 pub mod RecordKinds
 pub mod Cases
 pub mod Clues
+pub mod Lines
 pub mod Shaded

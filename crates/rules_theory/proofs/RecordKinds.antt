@@ -6,7 +6,7 @@ use lib.ListN.{length, getD, take, drop}
 use lib.Seq.{getD-drop}
 use borrow.Author.Tests.{eqb-true, eqb-false, ltb-false, leb-true, le-ltb, le-leb, eq-eqb, not-false}
 use mathlib.Core.Path.{_≡_, refl, sym, _∙_, ap, subst}
-use mathlib.Core.Bool.{Bool, true, false, not, cond}
+use mathlib.Core.Bool.{Bool, true, false, not, _&&_, cond}
 use mathlib.Core.Logic.{_↔_, _⊎_, inl, inr}
 use mathlib.Core.Option.{Option, none, some}
 use mathlib.Core.List.{List, [], _∷_, _++_}
@@ -21,14 +21,14 @@ use Rattle.rules.specs.declared.Direction.the-variants.{North as north, East as
 use Rattle.rules.specs.declared.Layout.{Layout}
 use Rattle.rules.specs.declared.Layout.the-variants.{Byte, Word}
 use Rattle.rules.specs.declared.Kind.{Kind}
-use Rattle.rules.specs.declared.Kind.the-variants.{One, Two}
+use Rattle.rules.specs.declared.Kind.the-variants.{One, Two, Three}
 use Rattle.rules.specs.declared.KindField.the-variants.{Is as IsKind, NotAllowed as NoKind}
 use Rattle.rules.specs.declared.Cell.{Cell}
 use Rattle.rules.specs.declared.Cell.the-variants.{Open, Clue, Shaded}
 use Rattle.rules.specs.declared.CellCode.{CellCode}
 use Rattle.rules.specs.declared.CellCode.the-variants.{Is}
 use Rattle.rules.specs.declared.Grid.{Grid}
-use Rattle.rules.specs.Board.{Board, neighbour, openAt, outward, lineNext, clueOf, cluesFrom, board, boardOf}
+use Rattle.rules.specs.Board.{Board, neighbour, openAt, clueCell, stopsBeforeClues, unlessStopped, outward, lineNext, clueOf, cluesFrom, board, boardOf}
 use Rattle.rules.specs.Record.{Puzzle, layoutOf, kindNumber, readKind, kindNotAllowed, mostSide, cellBytes, mostNumber, directionUnit, shadedCode, readCell}
 use Rattle.rules.specs.Record.{cellOf, notAllowed, word, gridOf, size, cellCode, cellAt, puzzle, isSide, wrongLength, wrongKind, wrongSide, wrongSize}
 use Rattle.rules.specs.Record.{gridCell, wrongCell, recordRows, gridAnswer, recordAnswer, IsAccepted}
@@ -145,14 +145,16 @@ module _ (s : List ℕ) where
     λ w. rw (le-ltb _ _ (w .six), eq-eqb _ _ (sym (word-at s 0) ∙ w .told)),
   )
 
-  neither-kind : wrongKind s ≡ true ↔ (bytesAt s 2 2 ≡ 1 → ⊥) × (bytesAt s 2 2 ≡ 2 → ⊥)
-  neither-kind = rw (word-at s 2) (by (word s 2) (eqb (word s 2) 1) refl (eqb (word s 2) 2) refl)
+  no-kind : wrongKind s ≡ true ↔ (bytesAt s 2 2 ≡ 1 → ⊥) × (bytesAt s 2 2 ≡ 2 → ⊥) × (bytesAt s 2 2 ≡ 3 → ⊥)
+  no-kind = rw (word-at s 2) (by (word s 2) (eqb (word s 2) 1) refl (eqb (word s 2) 2) refl (eqb (word s 2) 3) refl)
     where
-      by : (n : ℕ) (a : Bool) → eqb n 1 ≡ a → (b : Bool) → eqb n 2 ≡ b
-          → kindNotAllowed (cond a (IsKind One) (cond b (IsKind Two) NoKind)) ≡ true ↔ (n ≡ 1 → ⊥) × (n ≡ 2 → ⊥)
-      by n true e b f = (λ q. clash q refl, λ p. absurd (p .0 (eqb-true n 1 e)))
-      by n false e true f = (λ q. clash q refl, λ p. absurd (p .1 (eqb-true n 2 f)))
-      by n false e false f = (λ q. (eqb-false n 1 e, eqb-false n 2 f), λ p. refl)
+      by : (n : ℕ) (a : Bool) → eqb n 1 ≡ a → (b : Bool) → eqb n 2 ≡ b → (c : Bool) → eqb n 3 ≡ c
+          → kindNotAllowed (cond a (IsKind One) (cond b (IsKind Two) (cond c (IsKind Three) NoKind))) ≡ true
+          ↔ (n ≡ 1 → ⊥) × (n ≡ 2 → ⊥) × (n ≡ 3 → ⊥)
+      by n true e b f c g = (λ q. clash q refl, λ p. absurd (p .0 (eqb-true n 1 e)))
+      by n false e true f c g = (λ q. clash q refl, λ p. absurd (p .1 (eqb-true n 2 f)))
+      by n false e false f true g = (λ q. clash q refl, λ p. absurd (p .2 (eqb-true n 3 g)))
+      by n false e false f false g = (λ q. (eqb-false n 1 e, eqb-false n 2 f, eqb-false n 3 g), λ p. refl)
 
   rest-two : {A : Type 0} → rest ≡ refusal 2 0 → A
   rest-two e =
@@ -167,22 +169,23 @@ module _ (s : List ℕ) where
   pub refused-kind : recordAnswer s ≡ refusal 2 0 ↔ OfOtherKind s
   refused-kind =
       let w = two (wrongLength s) (wrongKind s) in (
-        λ e. let p = w .0 e in let q = neither-kind .0 (p .1) in record { whole = whole .0 (p .0); not-one = q .0; not-two = q .1 },
-        λ o. w .1 (whole .1 (o .whole), neither-kind .1 (o .not-one, o .not-two)),
+        λ e. let p = w .0 e in let q = no-kind .0 (p .1) in record { whole = whole .0 (p .0); not-one = q .0; not-two = q .1; not-three = q .2 },
+        λ o. w .1 (whole .1 (o .whole), no-kind .1 (o .not-one, o .not-two, o .not-three)),
       )
 
-  -- an accepted record is of kind 1 or 2
-  pub either-kind : IsAccepted s → OfKind (recordKind One) s ⊎ OfKind (recordKind Two) s
-  either-kind a =
+  -- an accepted record is of kind 1, 2 or 3
+  pub each-kind : IsAccepted s → (OfKind (recordKind One) s ⊎ OfKind (recordKind Two) s) ⊎ OfKind (recordKind Three) s
+  each-kind a =
       let (c1, (c2, c)) = accepted-clear s a in
       let w = whole .0 (no-cause _ c1) in
-      by (eqb (bytesAt s 2 2) 1) refl (eqb (bytesAt s 2 2) 2) refl w (no-cause _ c2)
+      by (eqb (bytesAt s 2 2) 1) refl (eqb (bytesAt s 2 2) 2) refl (eqb (bytesAt s 2 2) 3) refl w (no-cause _ c2)
     where
-      by : (p : Bool) → eqb (bytesAt s 2 2) 1 ≡ p → (q : Bool) → eqb (bytesAt s 2 2) 2 ≡ q → Whole s → wrongKind s ≡ false
-          → OfKind (recordKind One) s ⊎ OfKind (recordKind Two) s
-      by true e q f w k = inl (record { whole = w; kind = eqb-true _ _ e })
-      by false e true f w k = inr (record { whole = w; kind = eqb-true _ _ f })
-      by false e false f w k = clash (neither-kind .1 (eqb-false _ _ e, eqb-false _ _ f)) k
+      by : (p : Bool) → eqb (bytesAt s 2 2) 1 ≡ p → (q : Bool) → eqb (bytesAt s 2 2) 2 ≡ q → (r : Bool) → eqb (bytesAt s 2 2) 3 ≡ r
+          → Whole s → wrongKind s ≡ false → (OfKind (recordKind One) s ⊎ OfKind (recordKind Two) s) ⊎ OfKind (recordKind Three) s
+      by true e q f r g w k = inl (inl (record { whole = w; kind = eqb-true _ _ e }))
+      by false e true f r g w k = inl (inr (record { whole = w; kind = eqb-true _ _ f }))
+      by false e false f true g w k = inr (record { whole = w; kind = eqb-true _ _ g })
+      by false e false f false g w k = clash (no-kind .1 (eqb-false _ _ e, eqb-false _ _ f, eqb-false _ _ g)) k
 
 -- 5. A record of a kind
 
@@ -193,12 +196,17 @@ module _ (k : Kind) (s : List ℕ) (h : OfKind (recordKind k) s) where
       by : (k : Kind) → IsKind k ≡ readKind (kindNumber k)
       by One = refl
       by Two = refl
+      by Three = refl
 
   abbrev grid : Grid
   grid = record { kind = k; rows = getD s 4 0; columns = getD s 5 0 }
 
   grid-same : grid ≡ gridOf s
   grid-same = grid-is s kind-field
+
+  -- whether its lines stop before clue cells
+  pub stops-of : stopsBeforeClues (gridOf s .kind) ≡ stopsBeforeClues k
+  stops-of = ap (λ (g : Grid). stopsBeforeClues (g .kind)) (sym grid-same)
 
   -- the cause of row 5
   abbrev wrong : Option ℕ
@@ -296,7 +304,7 @@ accepts k = record { accepted = accepted k; tells = tells k; all = all k; cells 
 pub refuses : (k : Kind) → Refuses (recordKind k)
 refuses k = record { side = refused-side k; size = refused-size k; cell = refused-cell k }
 
--- 6. One inner form: the board knows no kind
+-- 6. One inner form: the board knows no kind, but for where lines stop
 
 abbrev withKind : Kind → Grid → Grid
 withKind k g = record { kind = k; rows = g .rows; columns = g .columns }
@@ -307,12 +315,12 @@ neighbour-same k g east x = refl
 neighbour-same k g south x = refl
 neighbour-same k g west x = refl
 
-module _ (k : Kind) (p : Puzzle) where
+module _ (k : Kind) (p : Puzzle) (alike : stopsBeforeClues k ≡ stopsBeforeClues (p .grid .kind)) where
   abbrev puzzleWith : Puzzle
   puzzleWith = record { grid = withKind k (p .grid); cells = p .cells }
 
   next-same : (d : Direction) (x : ℕ) → lineNext puzzleWith d x ≡ lineNext p d x
-  next-same d x = neighbour-same k (p .grid) d x
+  next-same d x = λ i. unlessStopped (λ y. alike i && clueCell (getD (p .cells) y Open)) (neighbour-same k (p .grid) d x i)
 
   clue-same : (x : ℕ) (c : Cell) → clueOf puzzleWith x c ≡ clueOf p x c
   clue-same x Open = refl
@@ -327,17 +335,19 @@ module _ (k : Kind) (p : Puzzle) where
   board-same =
       λ i. record { size = size (p .grid); isOpen = openAt (p .cells); next = λ d x. neighbour-same k (p .grid) d x i; clues = clues-same 0 (p .cells) i }
 
-pub one-form : (s t : List ℕ) → SameGrid s t → boardOf s ≡ boardOf t
-one-form s t e =
-    sym (board-same One (puzzle (gridOf s) s))
-    ∙ (λ i. board (record { grid = record { kind = One; rows = e .rows i; columns = e .columns i }; cells = e .cells i }))
-    ∙ board-same One (puzzle (gridOf t) t)
+-- two records of the same grid whose lines stop alike
+module _ (s t : List ℕ) (e : SameGrid s t) (alike : stopsBeforeClues (gridOf s .kind) ≡ stopsBeforeClues (gridOf t .kind)) where
+  pub one-form : boardOf s ≡ boardOf t
+  one-form =
+      let k = gridOf s .kind in
+      (λ i. board (record { grid = record { kind = k; rows = e .rows i; columns = e .columns i }; cells = e .cells i }))
+      ∙ board-same k (puzzle (gridOf t) t) alike
 
--- what a call tells of accepted records of the same grid is the same: it is told by rows over the board
-pub same-told : (s t : List ℕ) → IsAccepted s → IsAccepted t → SameGrid s t → (rows : Board → List Row) (tells : Board → Outcome)
+-- what a call tells of accepted records with the same board is the same: it is told by rows over the board
+pub same-told : (s t : List ℕ) → IsAccepted s → IsAccepted t → boardOf s ≡ boardOf t → (rows : Board → List Row) (tells : Board → Outcome)
     → firstRefusal (recordRows s ++ rows (boardOf s)) (tells (boardOf s)) ≡ firstRefusal (recordRows t ++ rows (boardOf t)) (tells (boardOf t))
 same-told s t a c e rows tells =
-    left s a ∙ ap (λ b. firstRefusal (rows b) (tells b)) (one-form s t e) ∙ sym (left t c)
+    left s a ∙ ap (λ b. firstRefusal (rows b) (tells b)) e ∙ sym (left t c)
   where
     left : (s : List ℕ) → IsAccepted s
         → firstRefusal (recordRows s ++ rows (boardOf s)) (tells (boardOf s)) ≡ firstRefusal (rows (boardOf s)) (tells (boardOf s))

@@ -21,7 +21,7 @@ use Rattle.rules.specs.declared.Cell.the-variants.{Open, Clue as Clued, Shaded}
 use Rattle.rules.specs.Directions.{opposite}
 use Rattle.rules.specs.Record.{Puzzle, layoutOf, mostNumber, directionUnit, shadedCode, gridOf, size, puzzle, gridCell, IsAccepted}
 use Rattle.rules.specs.Record as records
-use Rattle.rules.specs.Board.{Clue, Board, openCell, openAt, line, clueIn, clueOf, board, boardOf}
+use Rattle.rules.specs.Board.{Clue, Board, openCell, openAt, stopsBeforeClues, line, clueIn, clueOf, board, boardOf}
 use Rattle.rules.specs.Drawing.{Reach, here, along, white, Allowed, SolutionBytes, linkAt, blackAt}
 use Rattle.rules.specs.Judge.{badByteAt}
 use Rattle.rules.proofs.Boards.{open-at}
@@ -32,6 +32,7 @@ use Rattle.rules_theory.specs.Shaded.{ShadedAt, ClueShaded}
 use Rattle.rules_theory.proofs.RecordKinds.{recordKind, code-read, accepts}
 use Rattle.rules_theory.proofs.Bytes.{allowed-byte}
 use Rattle.rules_theory.proofs.Clues.{ClueAt, of-clues, in-clues}
+use Rattle.rules_theory.proofs.Lines.{line-to-edge}
 
 -- 1. Cells of a board
 
@@ -50,7 +51,7 @@ isShaded (Clued d n) = false
 isShaded Shaded = true
 
 -- no cell is both shaded and a clue
-not-both : {c : Cell} {d : Direction} {n : ℕ} → c ≡ Shaded → c ≡ Clued d n → ⊥
+pub not-both : {c : Cell} {d : Direction} {n : ℕ} → c ≡ Shaded → c ≡ Clued d n → ⊥
 not-both h k = clash (ap isShaded h) (ap isShaded k)
 
 -- a cell that is not open is a clue or shaded
@@ -145,30 +146,6 @@ module _ (s t : List ℕ) (x : ℕ) (d : Direction) (n : ℕ) (h : ClueShaded s 
               let q = eqb-true y x e in ap openCell (ap (gridCell s) q ∙ h .clue) ∙ sym (ap openCell (ap (gridCell t) q ∙ h .shaded))
           by false e = let f = first-long in ap openCell (h .others y (omega arith) (eqb-false y x e))
 
-  -- the clues of the second are those of the first that do not stand in x
-  clue-kept : (k : Clue) → k ∈ board second .clues ↔ (k ∈ board first .clues) × (k .cell ≡ x → ⊥)
-  clue-kept k = (λ m. of (of-clues second k m), λ p. to (of-clues first k (p .0)) (p .1))
-    where
-      of : ClueAt second k → (k ∈ board first .clues) × (k .cell ≡ x → ⊥)
-      of c =
-          let l = c .within in
-          let f = first-long in
-          let g = second-long in
-          let apart : k .cell ≡ x → ⊥ = (λ e. not-both (h .shaded) (ap (gridCell t) (sym e) ∙ c .read)) in
-          let read = h .others (k .cell) (omega arith) apart ∙ c .read in
-          (in-clues first k (record { direction = c .direction; within = omega arith; read = read; along = c .along }), apart)
-
-      to : ClueAt first k → (k .cell ≡ x → ⊥) → k ∈ board second .clues
-      to c apart =
-          let l = c .within in
-          let f = first-long in
-          let g = second-long in
-          let read = sym (h .others (k .cell) (omega arith) apart) ∙ c .read in
-          in-clues second k (record { direction = c .direction; within = omega arith; read = read; along = c .along })
-
-  pub same-clues : (k : Clue) → k ∈ boardOf t .clues ↔ (k ∈ boardOf s .clues) × (k .cell ≡ x → ⊥)
-  same-clues k = subst (λ (b : Board). k ∈ b .clues ↔ (k ∈ boardOf s .clues) × (k .cell ≡ x → ⊥)) second-is (clue-kept k)
-
   -- the clue of the first that stands in x
   clue-in-x : (k : Clue) → k ∈ board first .clues → k .cell ≡ x → k ≡ clueIn first x d n
   clue-in-x k m q =
@@ -182,19 +159,50 @@ module _ (s t : List ℕ) (x : ℕ) (d : Direction) (n : ℕ) (h : ClueShaded s 
       let f = first-long in
       in-clues first (clueIn first x d n) (record { direction = d; within = omega arith; read = h .clue; along = refl })
 
-  pub same-solutions : (ds : List ℕ) → SolutionBytes (boardOf s) ds ↔ SolutionBytes (boardOf t) ds × (howMany (blackAt ds) (line first d x) ≡ n)
-  same-solutions ds = subst (λ b. SolutionBytes (boardOf s) ds ↔ SolutionBytes b ds × (howMany (blackAt ds) (line first d x) ≡ n)) second-is (
-    λ S. let met = S .solution .met in (
-      with-clues (board first) same-open S (all-in (Met ds) (board second .clues) (λ k m. all-at (Met ds) met (clue-kept k .0 m .0))),
-      all-at (Met ds) met x-has-clue,
-    ),
-    λ R. with-clues (board second) (sym same-open) (R .0) (all-in (Met ds) (board first .clues) (λ k m. by R k m (eqb (k .cell) x) refl)),
-  )
-    where
-      by : SolutionBytes (board second) ds × (howMany (blackAt ds) (line first d x) ≡ n) → (k : Clue) → k ∈ board first .clues
-          → (u : Bool) → eqb (k .cell) x ≡ u → Met ds k
-      by R k m true e = subst (Met ds) (sym (clue-in-x k m (eqb-true (k .cell) x e))) (R .1)
-      by R k m false e = all-at (Met ds) (R .0 .solution .met) (clue-kept k .1 (m, eqb-false (k .cell) x e))
+  -- in kinds 1 and 2, where no clue stops a line
+  module _ (to-edge : stopsBeforeClues (gridOf s .kind) ≡ false) where
+    pub same-line : (e : Direction) (y : ℕ) → line second e y ≡ line first e y
+    same-line e y = line-to-edge second to-edge e y ∙ sym (line-to-edge first to-edge e y)
+
+    -- the clues of the second are those of the first that do not stand in x
+    clue-kept : (k : Clue) → k ∈ board second .clues ↔ (k ∈ board first .clues) × (k .cell ≡ x → ⊥)
+    clue-kept k = (λ m. of (of-clues second k m), λ p. to (of-clues first k (p .0)) (p .1))
+      where
+        of : ClueAt second k → (k ∈ board first .clues) × (k .cell ≡ x → ⊥)
+        of c =
+            let l = c .within in
+            let f = first-long in
+            let g = second-long in
+            let apart : k .cell ≡ x → ⊥ = (λ e. not-both (h .shaded) (ap (gridCell t) (sym e) ∙ c .read)) in
+            let read = h .others (k .cell) (omega arith) apart ∙ c .read in
+            let along = c .along ∙ same-line (c .direction) (k .cell) in
+            (in-clues first k (record { direction = c .direction; within = omega arith; read = read; along = along }), apart)
+
+        to : ClueAt first k → (k .cell ≡ x → ⊥) → k ∈ board second .clues
+        to c apart =
+            let l = c .within in
+            let f = first-long in
+            let g = second-long in
+            let read = sym (h .others (k .cell) (omega arith) apart) ∙ c .read in
+            let along = c .along ∙ sym (same-line (c .direction) (k .cell)) in
+            in-clues second k (record { direction = c .direction; within = omega arith; read = read; along = along })
+
+    pub same-clues : (k : Clue) → k ∈ boardOf t .clues ↔ (k ∈ boardOf s .clues) × (k .cell ≡ x → ⊥)
+    same-clues k = subst (λ (b : Board). k ∈ b .clues ↔ (k ∈ boardOf s .clues) × (k .cell ≡ x → ⊥)) second-is (clue-kept k)
+
+    pub same-solutions : (ds : List ℕ) → SolutionBytes (boardOf s) ds ↔ SolutionBytes (boardOf t) ds × (howMany (blackAt ds) (line first d x) ≡ n)
+    same-solutions ds = subst (λ b. SolutionBytes (boardOf s) ds ↔ SolutionBytes b ds × (howMany (blackAt ds) (line first d x) ≡ n)) second-is (
+      λ S. let met = S .solution .met in (
+        with-clues (board first) same-open S (all-in (Met ds) (board second .clues) (λ k m. all-at (Met ds) met (clue-kept k .0 m .0))),
+        all-at (Met ds) met x-has-clue,
+      ),
+      λ R. with-clues (board second) (sym same-open) (R .0) (all-in (Met ds) (board first .clues) (λ k m. by R k m (eqb (k .cell) x) refl)),
+    )
+      where
+        by : SolutionBytes (board second) ds × (howMany (blackAt ds) (line first d x) ≡ n) → (k : Clue) → k ∈ board first .clues
+            → (u : Bool) → eqb (k .cell) x ≡ u → Met ds k
+        by R k m true e = subst (Met ds) (sym (clue-in-x k m (eqb-true (k .cell) x e))) (R .1)
+        by R k m false e = all-at (Met ds) (R .0 .solution .met) (clue-kept k .1 (m, eqb-false (k .cell) x e))
 
 -- 4. Its code
 

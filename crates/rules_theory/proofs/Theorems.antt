@@ -14,11 +14,11 @@ use Rattle.answers.proofs.Rows.{refusals-append, answered-clear, clear-answered
 use Rattle.rules.specs.declared.Direction.{Direction}
 use Rattle.rules.specs.declared.Direction.the-variants.{North as north, East as east, South as south, West as west}
 use Rattle.rules.specs.declared.Kind.{Kind}
-use Rattle.rules.specs.declared.Kind.the-variants.{One, Two}
+use Rattle.rules.specs.declared.Kind.the-variants.{One, Two, Three}
 use Rattle.rules.specs.declared.Parsed.{Parsed}
 use Rattle.rules.specs.declared.Verdict.{Verdict}
 use Rattle.rules.specs.Record.{gridOf, puzzle, recordRows, recordAnswer, IsAccepted, parsedOutcome}
-use Rattle.rules.specs.Board.{Board, boardOf}
+use Rattle.rules.specs.Board.{Board, boardOf, stopsBeforeClues}
 use Rattle.rules.specs.Drawing.{Drawing, white, Links, Solution, SolutionBytes}
 use Rattle.rules.specs.Judge.{wrongByte, clueNotMet, linkUnmatched, notTwoLinks, notOneLoop, judgeRows, judgeAnswer, saysYes, verdictOutcome}
 use Rattle.rules.proofs.Boards.{Wired, Laws, clues-in-order}
@@ -92,20 +92,20 @@ module _ {b : Board} (law : Laws b) {D : Drawing} (sol : Solution b D) where
 pub outcome-one-to-one : ((v w : Verdict) → verdictOutcome v ≡ verdictOutcome w → v ≡ w) × ((p q : Parsed) → parsedOutcome p ≡ parsedOutcome q → p ≡ q)
 outcome-one-to-one = (one-to-one verdicts, one-to-one readings)
 
--- What the reader tells of a record, in the documents' words (document 02, E4). Of a record of each kind: when it is accepted, and refusals 3 to 5; that no
--- other is accepted; and refusal 2.
+-- What the reader tells of a record, in the documents' words (document 02, E4 and E12). Of a record of each kind: when it is accepted, and refusals 3 to 5;
+-- that no other is accepted; and refusal 2.
 pub kind-accepts : (k : Kind) → Accepts (kinds.recordKind k)
 kind-accepts = kinds.accepts
 
 pub kind-refuses : (k : Kind) → Refuses (kinds.recordKind k)
 kind-refuses = kinds.refuses
 
-pub either-kind : (s : List ℕ) → IsAccepted s → OfKind (kinds.recordKind One) s ⊎ OfKind (kinds.recordKind Two) s
-either-kind = kinds.either-kind
+pub each-kind : (s : List ℕ) → IsAccepted s → (OfKind (kinds.recordKind One) s ⊎ OfKind (kinds.recordKind Two) s) ⊎ OfKind (kinds.recordKind Three) s
+each-kind = kinds.each-kind
 
 pub refused-kind : (s : List ℕ) → recordAnswer s ≡ refusal 2 0 ↔ OfOtherKind s
 refused-kind = kinds.refused-kind
 
--- Records of the same grid have the same board, whatever their kinds.
-pub one-form : (s t : List ℕ) → SameGrid s t → boardOf s ≡ boardOf t
+-- Records of the same grid have the same board, whatever their kinds, if their lines stop alike.
+pub one-form : (s t : List ℕ) → SameGrid s t → stopsBeforeClues (gridOf s .kind) ≡ stopsBeforeClues (gridOf t .kind) → boardOf s ≡ boardOf t
 one-form = kinds.one-form

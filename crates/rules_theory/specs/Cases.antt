@@ -35,7 +35,8 @@ readerCases =
     []
 
 -- kinds 0, 4 and 256 are refused; in kind 2, sides 25 and 45 are accepted; a length of 6 + N is refused; codes 0x1000 and 0x102C are allowed, 0x102D
--- is not, and 0x0001 in the second cell is refused beside 1; the bytes `10 00` are 0x0010, which is not allowed
+-- is not, and 0x0001 in the second cell is refused beside 1; the bytes `10 00` are 0x0010, which is not allowed; in kind 3 side 24 is accepted and 25 refused,
+-- as are a length of 6 + 2N and 0x51
 abbrev pub kindCases : List ReaderCase
 kindCases =
     record { bytes = recordOf 0 1 1 (0 ∷ []); says = refusal 2 0 } ∷
@@ -49,13 +50,18 @@ kindCases =
     record { bytes = recordOf 2 1 1 (0x2D ∷ 0x10 ∷ []); says = refusal 5 0 } ∷
     record { bytes = recordOf 2 1 2 (0 ∷ 0 ∷ 1 ∷ 0 ∷ []); says = refusal 5 1 } ∷
     record { bytes = recordOf 2 1 1 (0x10 ∷ 0x00 ∷ []); says = refusal 5 0 } ∷
+    record { bytes = openRecord 3 1 24 1; says = answer 24 1 3 } ∷
+    record { bytes = openRecord 3 1 25 1; says = refusal 3 0 } ∷
+    record { bytes = openRecord 3 2 1 1; says = refusal 4 0 } ∷
+    record { bytes = recordOf 3 1 2 (0x4F ∷ 0x51 ∷ []); says = refusal 5 1 } ∷
     []
 
--- in kind 1 0x50 is allowed, 0x5F (as 0x51 above) is not; in kind 2 0x5000 is allowed, 0x5001 and 0x5FFF are not; the bytes `50 00` are 0x0050, which is not
--- allowed
+-- in kind 1 0x50 is allowed, as in kind 3, and 0x5F (as 0x51 above) is not; in kind 2 0x5000 is allowed, 0x5001 and 0x5FFF are not; the bytes `50 00` are
+-- 0x0050, which is not allowed
 abbrev pub shadedCases : List ReaderCase
 shadedCases =
     record { bytes = recordOf 1 1 1 (0x50 ∷ []); says = answer 1 1 1 } ∷
+    record { bytes = recordOf 3 1 1 (0x50 ∷ []); says = answer 1 1 3 } ∷
     record { bytes = recordOf 1 1 2 (0x50 ∷ 0x5F ∷ []); says = refusal 5 1 } ∷
     record { bytes = recordOf 2 1 1 (0x00 ∷ 0x50 ∷ []); says = answer 1 1 2 } ∷
     record { bytes = recordOf 2 1 1 (0x01 ∷ 0x50 ∷ []); says = refusal 5 0 } ∷

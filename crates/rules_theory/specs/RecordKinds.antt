@@ -1,4 +1,5 @@
--- The records of a kind, in the words of document 01's "The grid record" and document 02's E4 and E5: what stands in their bytes, and what the reader tells.
+-- The records of a kind, in the words of document 01's "The grid record" and document 02's E4, E5 and E12: what stands in their bytes, and what the reader
+-- tells.
 use Prim.Native.Nat.{ℕ, _+_, _*_, _≤_, _<_}
 use lib.ListN.{length, getD, take, drop}
 use mathlib.Core.Path.{_≡_}
@@ -87,13 +88,14 @@ module _ (k : RecordKind) where
     pub size : (s : List ℕ) → OfKind s → recordAnswer s ≡ refusal 4 0 ↔ Sided s × (RightLength s → ⊥)
     pub cell : (s : List ℕ) → OfKind s → (x : ℕ) → recordAnswer s ≡ refusal 5 x ↔ Sided s × RightLength s × LeastWith (NoCell s) (cellCount s) x
 
--- whole, with another kind than 1 or 2
+-- whole, with another kind than 1, 2 or 3
 pub record OfOtherKind (s : List ℕ) : Type 0 where
   pub whole : Whole s
   pub not-one : bytesAt s 2 2 ≡ 1 → ⊥
   pub not-two : bytesAt s 2 2 ≡ 2 → ⊥
+  pub not-three : bytesAt s 2 2 ≡ 3 → ⊥
 
--- two records of the same grid, whatever their kinds: the same sides and the same cells
+-- two records of the same grid, whatever their kinds: the same sides and the same cells (the lines may differ, by the kind)
 pub record SameGrid (s t : List ℕ) : Type 0 where
   pub rows : getD s 4 0 ≡ getD t 4 0
   pub columns : getD s 5 0 ≡ getD t 5 0

@@ -62,6 +62,19 @@ sixCells q elements entries budget =
       budget = budget;
     }
 
+-- 2×5 of a kind with two cells in the middle of the first row, `00 00 a b 00 / 00 00 50 50 50`: a loop through cells 0, 1, 5 and 6 leaves cell 4, which is
+-- black then
+abbrev tenCells : ℕ → ℕ → ℕ → Asked → ℕ → ℕ → TallyInput
+tenCells kind a b q elements entries =
+    record {
+      bytes = 16 ∷ 0 ∷ kind ∷ 0 ∷ 2 ∷ 5 ∷ 0 ∷ 0 ∷ a ∷ b ∷ 0 ∷ 0 ∷ 0 ∷ 0x50 ∷ 0x50 ∷ 0x50 ∷ [];
+      asked = q;
+      counters = 45;
+      elements = elements;
+      entries = entries;
+      budget = 60;
+    }
+
 -- it is answered, and so many solutions have 0 and 1 black cells on the line, none has more
 abbrev answered : TallyInput → ℕ → ℕ → ℕ → ℕ → TallyCase
 answered i ending steps none one = record { gets = i; tells = answer ending steps 0; leaves = none ∷ one ∷ replicate 43 0 }
@@ -96,4 +109,9 @@ tallyCases =
     answered (sixCells (from 2 3) 590 45 45) 3 45 0 0 ∷
     answered (sixCells (from 2 3) 590 45 46) 3 46 0 1 ∷
     answered (sixCells (from 2 3) 590 45 53) 2 53 0 1 ∷
+    -- past the clue in cell 3 the line from cell 2 has the black cell in kind 1; in kind 3 it stops before the clue
+    answered (tenCells 1 0x50 0x10 (from 2 2) 527 44) 2 51 0 1 ∷
+    answered (tenCells 3 0x50 0x10 (from 2 2) 527 44) 2 51 1 0 ∷
+    -- in kind 3 the line of the clue "east, 0" in cell 2 goes on past cell 3, which stays shaded: no solution
+    answered (tenCells 3 0x20 0x50 (from 3 1) 537 46) 2 13 0 0 ∷
     []

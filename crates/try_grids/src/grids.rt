@@ -2,7 +2,7 @@
 ghost use Prim.Native.Nat.{_*_, _<_, _≤_};
 use super::plain_rules::SHADED;
 
-// The most bytes of a record of kind 1: 24×24 has 6 + 576.
+// The most bytes of a record of kind 1 or 3: 24×24 has 6 + 576.
 pub(crate) const BYTES: usize = 582;
 
 // The cell that a digit makes: 0 open, 1 to 8 clues of every direction with number 0 and 1, 9 shaded, 10 to 13 clues with number 2, 14 to 16
@@ -16,8 +16,9 @@ fn cell(digit: u64) -> u8 {
     }
 }
 
-// The record of a grid whose cells are made of a number's digits to some base, the lowest first; zeros after it.
-pub(crate) fn numbered(rows: usize, columns: usize, base: u64, number: u64) -> [u8; BYTES]
+// The record, of a kind with one byte a cell, of a grid whose cells are made of a number's digits to some base, the lowest first; zeros
+// after it.
+pub(crate) fn numbered(kind: u8, rows: usize, columns: usize, base: u64, number: u64) -> [u8; BYTES]
     requires { ⌜ (rows ≤ 24) × (columns ≤ 24) × (rows * columns ≤ 576) ⌝ }
     requires { ⌜ 0 < base ⌝ }
 {
@@ -25,7 +26,7 @@ pub(crate) fn numbered(rows: usize, columns: usize, base: u64, number: u64) -> [
     let mut record = [0u8; BYTES];
     record[0] = (end % 256) as u8;
     record[1] = (end / 256) as u8;
-    record[2] = 1;
+    record[2] = kind;
     record[4] = rows as u8;
     record[5] = columns as u8;
     let mut rest = number;

@@ -47,8 +47,16 @@ fn beside(columns: usize, x: usize, direction: u8) -> usize
     CELLS
 }
 
+// Does a line end before a cell? In a record of kind 3 it does before a clue.
+fn stops(record: &[u8], x: usize) -> bool
+    requires { ⌜ x < 12 ⌝ }
+{
+    let code = at(record, 6 + x);
+    at(record, 2) == 3 && code != 0 && code != SHADED
+}
+
 // How many black cells a clue's line has.
-fn line_count(columns: usize, drawing: &[u8], x: usize, direction: u8) -> u8
+fn line_count(columns: usize, record: &[u8], drawing: &[u8], x: usize, direction: u8) -> u8
     requires { ⌜ (0 < columns) × (columns ≤ 12) × (x < 12) ⌝ }
 {
     let mut count = 0;
@@ -56,6 +64,9 @@ fn line_count(columns: usize, drawing: &[u8], x: usize, direction: u8) -> u8
     for _ in 0..CELLS {
         y = beside(columns, y, direction);
         if y >= CELLS {
+            return count;
+        }
+        if stops(record, y) {
             return count;
         }
         if at(drawing, y) == BLACK {
@@ -81,7 +92,7 @@ fn fits(columns: usize, record: &[u8], drawing: &[u8], x: usize) -> bool
         if code == SHADED {
             return true;
         }
-        return line_count(columns, drawing, x, code / 16) == code % 16;
+        return line_count(columns, record, drawing, x, code / 16) == code % 16;
     }
     b % 2 + b / 2 % 2 + b / 4 % 2 + b / 8 % 2 == 2
 }

@@ -7,10 +7,10 @@ use Rattle.try_grids.proofs.grids.numbered.Statement.{statement}
 use Rattle.try_grids.proofs.grids.numbered.Tie as tie
 
 abbrev Inv-loop : tie.InvT-loop
-Inv-loop rows columns base number end record₀ rest₀ i₀ «record» rest i = (i ≤ end) × (length «record» ≡ 582)
+Inv-loop kind rows columns base number end record₀ rest₀ i₀ «record» rest i = (i ≤ end) × (length «record» ≡ 582)
 
 abbrev μ-loop : tie.MeasureT-loop
-μ-loop rows columns base number end record₀ rest₀ i₀ «record» rest i = end - i
+μ-loop kind rows columns base number end record₀ rest₀ i₀ «record» rest i = end - i
 
 mul-end : tie.Need-mul-end Inv-loop μ-loop
 mul-end c = search needs

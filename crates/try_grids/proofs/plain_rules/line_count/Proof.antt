@@ -6,10 +6,10 @@ use Rattle.try_grids.proofs.plain_rules.line_count.Statement.{statement
 use Rattle.try_grids.proofs.plain_rules.line_count.Tie as tie
 
 abbrev Inv-loop : tie.InvT-loop
-Inv-loop columns drawing x direction count₀ y₀ counter₀ count y counter = (counter ≤ 12) × (count ≤ counter) × (y < 12)
+Inv-loop columns «record» drawing x direction count₀ y₀ counter₀ count y counter = (counter ≤ 12) × (count ≤ counter) × (y < 12)
 
 abbrev μ-loop : tie.MeasureT-loop
-μ-loop columns drawing x direction count₀ y₀ counter₀ count y counter = 12 - counter
+μ-loop columns «record» drawing x direction count₀ y₀ counter₀ count y counter = 12 - counter
 
 loop-holds : tie.Need-loop-holds Inv-loop μ-loop
 loop-holds c = search needs
@@ -19,6 +19,12 @@ beside-requires c κs = search needs
 
 returns : tie.Need-returns Inv-loop μ-loop
 returns c = search needs
+
+stops-requires : tie.Need-stops-requires Inv-loop μ-loop
+stops-requires c κs = search needs
+
+returns-2 : tie.Need-returns-2 Inv-loop μ-loop
+returns-2 c = search needs
 
 at-requires : tie.Need-at-requires Inv-loop μ-loop
 at-requires c κs = search needs
@@ -33,10 +39,10 @@ loop-less : tie.Need-loop-less Inv-loop μ-loop
 loop-less c = search needs
 
 loop-again : tie.Need-loop-again Inv-loop μ-loop
-loop-again c = ⊎-elim (λ w. search needs) (λ w. search needs) (c .if2 .came)
+loop-again c = ⊎-elim (λ w. search needs) (λ w. search needs) (c .if3 .came)
 
-returns-2 : tie.Need-returns-2 Inv-loop μ-loop
-returns-2 c = search needs
+returns-3 : tie.Need-returns-3 Inv-loop μ-loop
+returns-3 c = search needs
 
 pub line-count-spec : {M : Type 1} → statement M
 line-count-spec =
@@ -47,9 +53,11 @@ line-count-spec =
     loop-holds
     beside-requires
     returns
+    stops-requires
+    returns-2
     at-requires
     add-count
     add-counter
     loop-less
     loop-again
-    returns-2)
+    returns-3)
