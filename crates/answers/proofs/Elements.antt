@@ -37,7 +37,7 @@ pub all_each : {A B : Type 0} (P : B → Type 0) (f : A → List B) (xs : List A
 all_each P f [] g = tt
 all_each P f (x ∷ xs) g = all_append P (f x) (each xs f) (g x (Memᴰ.head refl)) (all_each P f xs (λ y m. g y (Memᴰ.tail m)))
 
-pub each_at : {A B : Type 0} (P : B → Type 0) (f : A → List B) {xs : List A} {x : A} → All P (each xs f) → x ∈ xs → All P (f x)
+pub each_at : {A B : Type 0} (P : B → Type 0) (f : A → List B) {x : A} {xs : List A} → All P (each xs f) → x ∈ xs → All P (f x)
 each_at P f h (Memᴰ.head {x = y} {xs = ys} e) = subst (λ z. All P (f z)) (sym e) (all_left P (f y) (each ys f) h)
 each_at P f h (Memᴰ.tail {x = y} {xs = ys} m) = each_at P f (all_right P (f y) (each ys f) h) m
 
@@ -58,7 +58,7 @@ joined_all P (xs ∷ xss) h = (all_left P xs (joined xss) h, joined_all P xss (a
 
 -- 2. Elements
 
-pub in_each : {A B : Type 0} (f : A → List B) {xs : List A} {x : A} {y : B} → x ∈ xs → y ∈ f x → y ∈ each xs f
+pub in_each : {A B : Type 0} (f : A → List B) {x : A} {xs : List A} {y : B} → x ∈ xs → y ∈ f x → y ∈ each xs f
 in_each f {y = y} (Memᴰ.head {x = z} e) m = Memᴰ.append_left _ (subst (λ u. y ∈ f u) e m)
 in_each f (Memᴰ.tail {x = z} n) m = Memᴰ.append_right (f z) (in_each f n m)
 
@@ -70,7 +70,7 @@ of_each f (x ∷ xs) {y} m = by (Memᴰ.append_cases (f x) m) (of_each f xs)
     by (inl h) go = (x, Memᴰ.head refl, h)
     by (inr h) go = let r = go h in (r.0, Memᴰ.tail r.1, r.2)
 
-pub in_joined : {A : Type 0} {xss : List (List A)} {xs : List A} {y : A} → xs ∈ xss → y ∈ xs → y ∈ joined xss
+pub in_joined : {A : Type 0} {xs : List A} {xss : List (List A)} {y : A} → xs ∈ xss → y ∈ xs → y ∈ joined xss
 in_joined {y = y} (Memᴰ.head {x = zs} e) m = Memᴰ.append_left _ (subst (λ u. y ∈ u) e m)
 in_joined (Memᴰ.tail {x = zs} n) m = Memᴰ.append_right zs (in_joined n m)
 

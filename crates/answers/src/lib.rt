@@ -1,4 +1,6 @@
 // How a call answers: what it tells in document 01's numbers, and the first place at which a test holds.
+#![tactic(auto)]
+
 ghost use Rattle.std.specs.Prelude.{◌≡◌};
 ghost use Rattle.answers.specs.Outcome.{refusal, answer, words};
 

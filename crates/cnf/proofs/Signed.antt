@@ -36,7 +36,7 @@ module _ (z : ℤ) (f : SFits w32 z) where
   wide = rw (to_z-of_z f) (sfits_widen tt f)
 
   wide_is : Wide z ≡ z
-  wide_is = rw (to_z-of_z f) (to_z-of_z (sfits_widen tt f))
+  wide_is = rw (to_z-of_z f) (to_z-of_z {w = w64} (sfits_widen {w = w32} {w' = w64} (tt {0}) f))
 
   -- compared with 0, as it stands in a local
   pub zero_closes : of_z w32 z ≡ 0 → true ≡ closes z

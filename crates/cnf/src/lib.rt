@@ -1,4 +1,6 @@
 // Clause lists: the check of V and of a list, the number of clauses, and the few functions that touch an i32.
+#![tactic(auto)]
+
 ghost use Rattle.std.specs.Prelude.{◌≡◌, [], ◌∷◌, ◌+◌, ◌-◌, ◌/◌, ◌%◌, ◌^◌, ◌<◌, ◌≤◌, length, get_or, pos, neg_ℤ};
 ghost use Rattle.answers.specs.First.{placed, first_where};
 ghost use Rattle.answers.specs.Lent.{Wrote};

@@ -1,4 +1,6 @@
 // Sixty-four value lists in one reading of the clauses: document 02's E8. Bit i of each word belongs to list i.
+#![tactic(auto)]
+
 ghost use Rattle.std.specs.Prelude.{◌≡◌, false, ◌<◌, length, get_or, pos};
 ghost use Rattle.cnf.specs.Literals.{closes, beyond_at};
 ghost use Rattle.cnf_batch.specs.Batch.{literal_word};

@@ -1,5 +1,7 @@
 // Has a grid exactly one solution? Reads a record on standard input and prints `none`, `one` or `several` for its grid's solutions, `halted`
 // if the budget does not settle it, or one line such as `refused 3`.
+#![tactic(auto)]
+
 ghost use Rattle.io.specs.Counts.{IsPrefixLen};
 ghost use Rattle.answers.specs.Lent.{Wrote};
 ghost use Rattle.solver_count.specs.Answer.{meant};

@@ -1,4 +1,6 @@
 // The decoder: document 01's "Decoding". Values of the variables are drawn, and the drawing is handed out exactly if the judge says yes.
+#![tactic(auto)]
+
 ghost use Rattle.std.specs.Prelude.{◌≡◌, length, get_or, ltb};
 ghost use Rattle.answers.specs.First.{first_where, placed};
 ghost use Rattle.answers.specs.Outcome.{first_refusal};

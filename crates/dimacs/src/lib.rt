@@ -1,4 +1,6 @@
 // "DIMACS text" of document 01.
+#![tactic(auto)]
+
 ghost use Rattle.std.specs.Prelude.{◌≡◌};
 ghost use Rattle.dimacs.specs.Answers.{written_outcome, reading_outcome};
 

@@ -1,4 +1,6 @@
 // The next token of a text at a place: comment lines, the word of the header, numbers, elements, blanks.
+#![tactic(auto)]
+
 ghost use Rattle.std.specs.Prelude.{◌≡◌, not, ◌&&◌, ◌<◌, eqb, length, get_or, drop};
 ghost use Rattle.dimacs.specs.Text.{preamble};
 ghost use Rattle.dimacs.specs.Accepted.{is_blank};

@@ -1,1 +1,2 @@
 // Theorems about the definitions of `dimacs`: no code.
+#![tactic(auto)]

@@ -1,4 +1,6 @@
 // The writer: the text of V and a list.
+#![tactic(auto)]
+
 ghost use Rattle.std.specs.Prelude.{◌≡◌, ◌+◌, ◌<◌, ◌^◌, length, get_or, pos};
 ghost use Rattle.answers.specs.Lent.{Wrote};
 ghost use Rattle.dimacs.specs.Text.{lines, header_line};

@@ -1,5 +1,7 @@
 // Reads a record on standard input, solves it as program 2 does and prints the solution's proof sheet, `none` or `halted`, or one line such
 // as `refused 3`.
+#![tactic(auto)]
+
 ghost use Rattle.io.specs.Counts.{IsPrefixLen};
 ghost use Rattle.answers.specs.Lent.{Wrote};
 ghost use Rattle.draw.specs.Printed.{printed_sheet};

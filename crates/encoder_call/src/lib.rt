@@ -1,4 +1,6 @@
 // The encoder: document 01's clauses of a record's grid, in order, written into a lent list.
+#![tactic(auto)]
+
 ghost use Rattle.std.specs.Prelude.{◌≡◌};
 ghost use Rattle.answers.specs.Outcome.{first_refusal};
 ghost use Rattle.answers.specs.Lent.{filled, unless_refused};

@@ -1,4 +1,6 @@
 // Writes the clauses of an open cell: families 1, 3, 4 and 5 of document 01, by the numbers of their variables.
+#![tactic(auto)]
+
 ghost use Rattle.std.specs.Prelude.{◌+◌, ◌-◌, ◌≤◌, ◌<◌};
 ghost use Rattle.answers.specs.Lent.{Wrote};
 ghost use Rattle.cnf.specs.Literals.{most_variables};

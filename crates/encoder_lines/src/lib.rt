@@ -1,4 +1,6 @@
 // Writes the clauses of clue lines: family 2 of document 01.
+#![tactic(auto)]
+
 ghost use Rattle.std.specs.Prelude.{◌+◌, ◌<◌, ◌^◌};
 ghost use Rattle.answers.specs.Lent.{Wrote};
 ghost use Rattle.rules.specs.Record.{size, puzzle};

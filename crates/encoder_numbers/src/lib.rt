@@ -1,4 +1,6 @@
 // The numbers of the variables: document 01's "Variables".
+#![tactic(auto)]
+
 use rules::MOST_CELLS;
 
 // How many open cells, E variables and T variables some cells have. Those of all cells are F, A and the number of T variables.

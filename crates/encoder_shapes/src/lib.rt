@@ -1,5 +1,7 @@
 // Writes clauses by the numbers of their variables: a function for each shape of clause, and one for each run of clauses.
 // Each returns the place after what it wrote; beyond the end of the list nothing is written, and the place is counted all the same.
+#![tactic(auto)]
+
 ghost use Rattle.std.specs.Prelude.{◌+◌, ◌<◌, ◌^◌};
 ghost use Rattle.answers.specs.Lent.{Wrote};
 ghost use Rattle.encoder_shapes.specs.Limits.{WithinLimits};

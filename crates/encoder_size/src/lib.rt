@@ -1,4 +1,6 @@
 // Counts a grid's clauses and their elements without writing them: of each cell by products, so that no clause is visited.
+#![tactic(auto)]
+
 ghost use Rattle.std.specs.Prelude.{◌≡◌, ◌*◌, ◌≤◌, ◌<◌, ◌^◌, get_or};
 ghost use Rattle.answers.specs.Lists.{how_many};
 ghost use Rattle.rules.specs.declared.Cell.TheVariants.{Open, Clue};

@@ -1,1 +1,2 @@
 // Theorems about the definitions of `encoder`: no code.
+#![tactic(auto)]

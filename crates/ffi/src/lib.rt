@@ -1,5 +1,7 @@
 // The library as a C program sees it. Every function returns 0 if the call was answered, else the refusal's number, and writes all four
 // words of `answer`: on a refusal the value beside it and three zeros, else what the call answers, filled up with zeros.
+#![tactic(auto)]
+
 ghost use Rattle.std.specs.Prelude.{◌≡◌};
 ghost use Rattle.answers.specs.Outcome.{words, words as four_words};
 ghost use Rattle.cnf_batch.specs.Call.{batch_answer};

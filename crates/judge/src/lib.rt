@@ -1,4 +1,6 @@
 // The judge of a drawing: document 01's "The drawing and its judge". Each cause is sought over the whole board before the next.
+#![tactic(auto)]
+
 ghost use Rattle.std.specs.Prelude.{◌≡◌, ◌<◌, ◌≤◌, length};
 ghost use Rattle.answers.specs.First.{first_where, placed};
 ghost use Rattle.answers.specs.Outcome.{first_refusal};

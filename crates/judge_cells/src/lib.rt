@@ -1,4 +1,5 @@
 // What the judge looks at in one cell, and the first cell at which it finds something.
+#![tactic(auto)]
 
 // What the judge seeks cell by cell.
 #[derive(Drop)]

@@ -1,4 +1,6 @@
 // Program 1: reads a record on standard input and prints its grid's clauses as DIMACS text, or one line such as `refused 3`.
+#![tactic(auto)]
+
 ghost use Rattle.std.specs.Prelude.{◌++◌, ◌+◌, ◌<◌, ◌^◌, length};
 ghost use Rattle.io.specs.Counts.{IsPrefixLen};
 ghost use Rattle.answers.specs.Lent.{Wrote};

@@ -1,4 +1,6 @@
 // What the programs that print a solution have in common: the search under program 2's limits and budget, and the lines without a drawing.
+#![tactic(auto)]
+
 ghost use Rattle.program_solution.specs.Solutions.{Solves};
 
 use program_text::{BUDGET, ELEMENT_LIMIT, VARIABLE_LIMIT, put_refused};

@@ -1,5 +1,7 @@
 // What a grid is, and when a drawing is a solution: document 01's "The grid record" and "The drawing and its judge", with document 02's E4,
 // E5 and E12.
+#![tactic(auto)]
+
 #[derive(Drop)]
 pub enum Direction {
     North,

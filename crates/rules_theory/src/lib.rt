@@ -1,1 +1,2 @@
 // Theorems about the definitions of `rules`: no code.
+#![tactic(auto)]

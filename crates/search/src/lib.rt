@@ -1,1 +1,2 @@
 // The search: its definitions, no code.
+#![tactic(auto)]

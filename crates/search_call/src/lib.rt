@@ -1,4 +1,6 @@
 // The search: document 01's "Search", by its listed steps under a budget.
+#![tactic(auto)]
+
 ghost use Rattle.std.specs.Prelude.{◌≡◌, length};
 ghost use Rattle.answers.specs.declared.Outcome.{Outcome};
 ghost use Rattle.answers.specs.Outcome.{first_refusal};

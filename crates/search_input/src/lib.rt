@@ -1,4 +1,6 @@
 // What the search checks of its sizes and of the trail handed in.
+#![tactic(auto)]
+
 ghost use Rattle.std.specs.Prelude.{◌≡◌, List, ℕ, ◌+◌, ◌<◌, ◌≤◌, length};
 ghost use Rattle.answers.specs.First.{first_where, placed, Until};
 ghost use Rattle.cnf.specs.Literals.{most_variables};

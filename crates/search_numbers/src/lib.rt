@@ -1,4 +1,6 @@
 // What the search checks of the numbers beside the trail handed in: the clause behind each entry. A table of places keeps the look for a clause short.
+#![tactic(auto)]
+
 ghost use Rattle.std.specs.Prelude.{◌≡◌, [], ◌+◌, ◌-◌, ◌<◌, ◌≤◌, pos, length, get_or, drop};
 ghost use Rattle.answers.specs.First.{placed, Until};
 ghost use Rattle.answers.specs.Lent.{filled};

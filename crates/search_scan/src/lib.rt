@@ -1,4 +1,6 @@
 // What a step of the search chooses: functions that only read.
+#![tactic(auto)]
+
 ghost use Rattle.std.specs.Prelude.{◌≡◌, suc, ◌+◌, ◌-◌, ◌/◌, ◌≤◌, ◌<◌, pos, length, get_or, drop, false};
 ghost use Rattle.answers.specs.First.{placed};
 ghost use Rattle.cnf.specs.Literals.{closes};

@@ -1,4 +1,6 @@
 // One step of the search: document 01's "Search", the first of its listed steps that applies.
+#![tactic(auto)]
+
 ghost use Rattle.std.specs.Prelude.{◌≡◌, pos, negsuc, length, get_or};
 ghost use Rattle.cnf.specs.Clauses.{clause_number};
 ghost use Rattle.search.specs.Trail.{slices, entry};

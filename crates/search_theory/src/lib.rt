@@ -1,1 +1,2 @@
 // Theorems about the definitions of `search`: no code.
+#![tactic(auto)]

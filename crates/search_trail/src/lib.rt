@@ -1,4 +1,6 @@
 // The trail in the three lent buffers while a search runs: the functions that write it.
+#![tactic(auto)]
+
 ghost use Rattle.std.specs.Prelude.{◌≡◌, ◌++◌, ◌-◌, ◌<◌, ◌≤◌, ◌^◌, pos, neg_ℤ, nat_abs, length, get_or, set, take, replicate};
 ghost use Rattle.cnf.specs.Literals.{code_of};
 ghost use Rattle.search_theory.specs.Legal.{Legal};

@@ -1,4 +1,6 @@
 // The proof sheet: document 02's E7. A drawing that the judge agrees with, as plain text.
+#![tactic(auto)]
+
 ghost use Rattle.std.specs.Prelude.{◌≡◌, length};
 ghost use Rattle.answers.specs.Outcome.{answer, first_refusal};
 ghost use Rattle.answers.specs.Lent.{filled, unless_refused};

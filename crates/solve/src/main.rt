@@ -1,5 +1,7 @@
 // Program 2: reads a record on standard input, searches with budget 1,000,000 and prints the drawing, `none` or `halted`, or one line such
 // as `refused 3`.
+#![tactic(auto)]
+
 ghost use Rattle.io.specs.Counts.{IsPrefixLen};
 ghost use Rattle.answers.specs.Lent.{Wrote};
 ghost use Rattle.program_text.specs.Programs.{printed_solution};

@@ -1,4 +1,6 @@
 // The solver: a record's bytes in; a drawing, "none" or "halted" out.
+#![tactic(auto)]
+
 ghost use Rattle.std.specs.Prelude.{◌≡◌};
 ghost use Rattle.solver.specs.SolverCall.{solver_answer, solver_leaves};
 ghost use Rattle.solver_listing.specs.Read.{IsRead};

@@ -1,4 +1,6 @@
 // Text in a lent buffer: bytes, words and decimal numbers. What is beyond the buffer's end is left out and counted all the same.
+#![tactic(auto)]
+
 ghost use Rattle.std.specs.Prelude.{◌≡◌, [], ◌∷◌, ◌++◌, ◌+◌, ◌<◌, ◌^◌, length};
 ghost use Rattle.answers.specs.Lent.{Wrote};
 ghost use Rattle.text.specs.Decimal.{decimal};
