@@ -10,7 +10,7 @@ ghost use Rattle.cnf_batch.specs.Answer.{batch_outcome};
 use answers::Outcome;
 
 // Why a call is refused: 17 (for V alone), 21 and 16.
-#[derive(Drop)]
+#[derive(Clone, Copy)]
 pub enum BatchRefusal {
     Variables,
     Words,
@@ -18,7 +18,7 @@ pub enum BatchRefusal {
 }
 
 // The word of the lists that satisfy the clauses, or a refusal.
-#[derive(Drop)]
+#[derive(Clone, Copy)]
 pub enum BatchAnswer {
     Word(u64),
     Refused(BatchRefusal),

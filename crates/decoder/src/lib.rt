@@ -24,7 +24,7 @@ pub mod outcome; // the outcomes in document 01's numbers
 mod drawing; // from values to bytes
 
 // Why values are turned down: the record's refusal, else 8, 7 and 9 of document 01's table, else the rule that the drawing breaks.
-#[derive(Drop)]
+#[derive(Clone, Copy)]
 pub enum DecodeRefusal {
     Record(RecordRefusal),
     ValuesLength,
@@ -34,7 +34,7 @@ pub enum DecodeRefusal {
     Rule(RuleRefusal),
 }
 
-#[derive(Drop)]
+#[derive(Clone, Copy)]
 pub enum Decoded {
     Drawn,
     Refused(DecodeRefusal),

@@ -10,14 +10,14 @@ use answers::Outcome;
 pub const PREAMBLE: [u8; 6] = [112, 32, 99, 110, 102, 32];
 
 // Why the writer turns a list down: 17 (for V alone), 16 and 6 of document 01's table.
-#[derive(Drop)]
+#[derive(Clone, Copy)]
 pub enum WriteRefusal {
     Variables,
     List(usize),
     Room(usize),
 }
 
-#[derive(Drop)]
+#[derive(Clone, Copy)]
 pub enum Written {
     Bytes(usize),
     Refused(WriteRefusal),
@@ -40,13 +40,13 @@ impl Written {
 }
 
 // Why the reader turns a text down: 19 and 6 of document 01's table.
-#[derive(Drop)]
+#[derive(Clone, Copy)]
 pub enum ReadRefusal {
     Text(usize),
     Room(usize),
 }
 
-#[derive(Drop)]
+#[derive(Clone, Copy)]
 pub enum Reading {
     List {
         elements: usize,

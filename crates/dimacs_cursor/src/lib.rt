@@ -12,34 +12,34 @@ ghost use Rattle.dimacs_cursor.specs.Cursors.{ByteAt, at_passed, at_token, at_he
 use dimacs::PREAMBLE;
 
 // A place in a text.
-#[derive(Drop)]
+#[derive(Clone, Copy)]
 pub struct Cursor {
     pub at: usize,
 }
 
 // What is passed over at a place: the place after it, or the place of the refusal.
-#[derive(Drop)]
+#[derive(Clone, Copy)]
 pub enum Passed {
     To(Cursor),
     Refused(usize),
 }
 
 // A number at a place: the number and the place after it, or the place of the refusal.
-#[derive(Drop)]
+#[derive(Clone, Copy)]
 pub enum Token {
     Number(usize, Cursor),
     Refused(usize),
 }
 
 // The header: V, C and the place after it, or the place of the refusal.
-#[derive(Drop)]
+#[derive(Clone, Copy)]
 pub enum Head {
     Is(usize, usize, Cursor),
     Refused(usize),
 }
 
 // An element: whether a minus is before it, its number and the place after it, or the place of the refusal.
-#[derive(Drop)]
+#[derive(Clone, Copy)]
 pub enum Element {
     Is(bool, usize, Cursor),
     Refused(usize),

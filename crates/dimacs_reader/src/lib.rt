@@ -15,7 +15,7 @@ use dimacs::{ReadRefusal, Reading};
 use dimacs_cursor::{Cursor, Element, Head, Passed};
 
 // The list: the count of its elements, or the place of the refusal.
-#[derive(Drop)]
+#[derive(Clone, Copy)]
 pub enum Listed {
     Elements(usize),
     Refused(usize),

@@ -13,7 +13,7 @@ use dimacs::{PREAMBLE, WriteRefusal, Written};
 use text::{put_byte, put_field, put_word, width};
 
 // The bytes that a text needs.
-#[derive(Drop)]
+#[derive(Clone, Copy)]
 pub enum Needed {
     Bytes(usize),
     TooMany,

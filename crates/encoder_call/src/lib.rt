@@ -21,7 +21,7 @@ use rules::{Grid, Parsed, RecordRefusal};
 mod families; // the families of clauses, in order
 
 // The families of clauses that go cell by cell.
-#[derive(Drop)]
+#[derive(Clone, Copy)]
 pub enum Family {
     Touching,
     Links,
@@ -30,13 +30,13 @@ pub enum Family {
 }
 
 // Why a record is refused: the reader's refusal, else 6 with the elements needed.
-#[derive(Drop)]
+#[derive(Clone, Copy)]
 pub enum EncodeRefusal {
     Record(RecordRefusal),
     TooShort(usize),
 }
 
-#[derive(Drop)]
+#[derive(Clone, Copy)]
 pub enum Encoded {
     Written(Counts),
     Refused(EncodeRefusal),

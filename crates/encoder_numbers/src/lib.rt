@@ -4,7 +4,7 @@
 use rules::MOST_CELLS;
 
 // How many open cells, E variables and T variables some cells have. Those of all cells are F, A and the number of T variables.
-#[derive(Drop)]
+#[derive(Clone, Copy)]
 pub struct Sizes {
     pub opens: usize,
     pub links: usize,
@@ -15,7 +15,7 @@ pub struct Sizes {
 pub const TABLE: usize = 3 * MOST_CELLS;
 
 // What the clauses of x say of its neighbour y in a direction; zeros where there is no open one.
-#[derive(Drop)]
+#[derive(Clone, Copy)]
 pub struct NeighbourNumbers {
     // x→y, y→x, Zy and Q(y,0).
     pub out: usize,
@@ -25,7 +25,7 @@ pub struct NeighbourNumbers {
 }
 
 // An open cell x and its neighbours.
-#[derive(Drop)]
+#[derive(Clone, Copy)]
 pub struct CellNumbers {
     // The rank of x, Zx, Sx and Q(x,0).
     pub rank: usize,

@@ -20,14 +20,14 @@ use rules::{Cell, Direction, Grid};
 use rules_board::{End, go, line_end, opposite};
 
 // Some clauses, and their elements with the closing zeros.
-#[derive(Drop)]
+#[derive(Clone, Copy)]
 pub struct Amount {
     pub clauses: usize,
     pub elements: usize,
 }
 
 // What the encoder answers.
-#[derive(Drop)]
+#[derive(Clone, Copy)]
 pub struct Counts {
     pub elements: usize,
     pub variables: usize,

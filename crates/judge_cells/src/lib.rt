@@ -2,7 +2,7 @@
 #![tactic(auto)]
 
 // What the judge seeks cell by cell.
-#[derive(Drop)]
+#[derive(Clone, Copy)]
 pub enum Test {
     DrawingByte,
     Touching,

@@ -11,7 +11,7 @@ use solver_call::{Solved, solve_grid};
 use text::put_word;
 
 // What a program has to print of a record.
-#[derive(Drop)]
+#[derive(Clone, Copy)]
 pub enum ToPrint {
     // A line, which was written: its bytes.
     Line(usize),

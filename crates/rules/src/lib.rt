@@ -2,7 +2,7 @@
 // E5 and E12.
 #![tactic(auto)]
 
-#[derive(Drop)]
+#[derive(Clone, Copy)]
 pub enum Direction {
     North,
     East,
@@ -11,7 +11,7 @@ pub enum Direction {
 }
 
 // A cell is open, or a clue that carries a direction and a number, or shaded: neither black nor on the loop, and it says nothing.
-#[derive(Drop)]
+#[derive(Clone, Copy)]
 pub enum Cell {
     Open,
     Clue(Direction, u8),
@@ -19,21 +19,21 @@ pub enum Cell {
 }
 
 // What a cell's code is.
-#[derive(Drop)]
+#[derive(Clone, Copy)]
 pub enum CellCode {
     Is(Cell),
     NotAllowed,
 }
 
 // How the cells stand in a record, with the limits of sides and numbers: a byte a cell, or a word of two bytes.
-#[derive(Drop)]
+#[derive(Clone, Copy)]
 pub enum Layout {
     Byte,
     Word,
 }
 
 // A record's kind: 1; 2, with larger sides and numbers; 3, as 1 with lines that stop before clue cells.
-#[derive(Drop)]
+#[derive(Clone, Copy)]
 pub enum Kind {
     One,
     Two,
@@ -41,7 +41,7 @@ pub enum Kind {
 }
 
 // What the kind field of a record is.
-#[derive(Drop)]
+#[derive(Clone, Copy)]
 pub enum KindField {
     Is(Kind),
     NotAllowed,
@@ -51,7 +51,7 @@ pub enum KindField {
 pub const MOST_CELLS: usize = 2025;
 
 // The parsed grid: its kind, which code above this crate does not see, and its sides. The cells stay in the record.
-#[derive(Drop)]
+#[derive(Clone, Copy)]
 pub struct Grid {
     kind: Kind,
     pub rows: usize,
@@ -59,7 +59,7 @@ pub struct Grid {
 }
 
 // Why a record is refused: 1 to 5 of document 01's table.
-#[derive(Drop)]
+#[derive(Clone, Copy)]
 pub enum RecordRefusal {
     Length,
     Kind,
@@ -68,14 +68,14 @@ pub enum RecordRefusal {
     NotACell(usize),
 }
 
-#[derive(Drop)]
+#[derive(Clone, Copy)]
 pub enum Parsed {
     Accepted(Grid),
     Refused(RecordRefusal),
 }
 
 // The rule that a drawing of N bytes breaks: 10 to 15 of document 01's table, with the cell.
-#[derive(Drop)]
+#[derive(Clone, Copy)]
 pub enum RuleRefusal {
     DrawingByte(usize),
     Touching(usize),
@@ -87,21 +87,21 @@ pub enum RuleRefusal {
 }
 
 // What the rules say of a drawing of N bytes.
-#[derive(Drop)]
+#[derive(Clone, Copy)]
 pub enum RuleVerdict {
     Followed,
     Broken(RuleRefusal),
 }
 
 // Why a drawing is turned down: the record's refusal, else 7 of document 01's table, else the rule that is broken.
-#[derive(Drop)]
+#[derive(Clone, Copy)]
 pub enum JudgeRefusal {
     Record(RecordRefusal),
     DrawingLength,
     Rule(RuleRefusal),
 }
 
-#[derive(Drop)]
+#[derive(Clone, Copy)]
 pub enum Verdict {
     Yes,
     No(JudgeRefusal),

@@ -87,7 +87,7 @@ fn stops_before(g: Grid, record: &[u8], x: usize) -> bool
 }
 
 // Where a line ends.
-#[derive(Drop)]
+#[derive(Clone, Copy)]
 pub struct End {
     // Its far end; the clue's own cell where the line is empty.
     pub cell: usize,

@@ -20,7 +20,7 @@ use search_step::{Stepped, step};
 use search_trail::{clear_marks, clear_numbers, clear_trail, pack_values};
 
 // The answers of the search.
-#[derive(Drop)]
+#[derive(Clone, Copy)]
 pub enum Ending {
     Found,
     None,
@@ -28,7 +28,7 @@ pub enum Ending {
 }
 
 // How a search ended: its answer, the steps that this call made, the used count.
-#[derive(Drop)]
+#[derive(Clone, Copy)]
 pub struct End {
     pub ending: Ending,
     pub steps: u64,
@@ -36,7 +36,7 @@ pub struct End {
 }
 
 // Why a call is turned down: 17, 16 and 18 of document 01's table, 22 of E10, and 20 of E1, which is `next`'s only.
-#[derive(Drop)]
+#[derive(Clone, Copy)]
 pub enum SearchRefusal {
     Lengths,
     List(usize),
@@ -46,14 +46,14 @@ pub enum SearchRefusal {
 }
 
 // What a call of the search answers.
-#[derive(Drop)]
+#[derive(Clone, Copy)]
 pub enum Answer {
     Ended(End),
     Refused(SearchRefusal),
 }
 
 // Whether a list and a trail are accepted, or how they are refused.
-#[derive(Drop)]
+#[derive(Clone, Copy)]
 pub enum Checked {
     Accepted,
     Refused(SearchRefusal),

@@ -14,7 +14,7 @@ use search_scan::{clause_number, first_failed, forced_place, last_mark, lowest_u
 use search_trail::{assign, copy_at, negate_at, unassign};
 
 // After a step: the used count, or an answer.
-#[derive(Drop)]
+#[derive(Clone, Copy)]
 pub enum Stepped {
     MovedTo(usize),
     Found,

@@ -19,7 +19,7 @@ pub mod lines; // the lines of a sheet
 mod shown; // what a line shows at a cell
 
 // The three characters of a cell in a line.
-#[derive(Drop)]
+#[derive(Clone, Copy)]
 pub struct Characters {
     pub left: u8,
     pub middle: u8,
@@ -27,14 +27,14 @@ pub struct Characters {
 }
 
 // Why a call is refused: the judge's refusal, else 6 with the bytes needed.
-#[derive(Drop)]
+#[derive(Clone, Copy)]
 pub enum SheetRefusal {
     Judge(JudgeRefusal),
     TooShort(usize),
 }
 
 // The bytes written, or a refusal.
-#[derive(Drop)]
+#[derive(Clone, Copy)]
 pub enum SheetAnswer {
     Bytes(usize),
     Refused(SheetRefusal),

@@ -20,7 +20,7 @@ mod rooms; // what a grid needs of the lent buffers
 mod grid_search; // the search on a grid's clauses, with its drawing
 
 // The elements of a grid's clause list, V and N.
-#[derive(Drop)]
+#[derive(Clone, Copy)]
 pub struct Needs {
     pub elements: usize,
     pub variables: usize,
@@ -28,14 +28,14 @@ pub struct Needs {
 }
 
 // Why a call is refused: the record's refusal, else 6 with the elements needed.
-#[derive(Drop)]
+#[derive(Clone, Copy)]
 pub enum SolveRefusal {
     Record(RecordRefusal),
     TooShort(usize),
 }
 
 // What the solver answers: how the search ended, or a refusal.
-#[derive(Drop)]
+#[derive(Clone, Copy)]
 pub enum Solved {
     Ended(End),
     Refused(SolveRefusal),
