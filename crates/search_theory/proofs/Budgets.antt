@@ -99,7 +99,7 @@ module _ {x : Call} {s : Search} (ok : IsTaken x s) (a : ℕ) where
 -- In parts of any size, a call hands out what it does with all their budgets together.
 pub in-parts : {x : Call} {s : Search} → IsTaken x s → (a : ℕ) (bs : List ℕ) → in_parts x s a bs ≡ hands x s (total a bs)
 in-parts ok a [] = refl
-in-parts {x} {s} ok a (b ∷ bs) = by (is_halted h.outcome) refl (λ k. in-parts k b bs)
+in-parts {x} {s} ok a (b ∷ bs) = by (is_halted h.outcome) refl (λ k. in-parts {x = y} {s = resumed s h} k b bs)
   where
     h : Handed
     h = hands x s a

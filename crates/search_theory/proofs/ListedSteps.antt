@@ -85,6 +85,7 @@ module _ (v : ℕ) (ls : List ℤ) (closed : unclosed ls ≡ false) where
       by : (x : Next) → Undoes t x → NextComesTo v ls t (suc b) (after x t (λ u. run v ls b u))
       by (Moved u) h = drops h (search_comes b u)
       by AnsweredNone h = drops_last h
+      by AnsweredFound h = elim h [ ]
 
   comes-to : (x : Call) (b : ℕ) (t : Trail) → ComesTo x v ls t b (comes_to x v ls b t)
   comes-to Searching b t = search_comes b t

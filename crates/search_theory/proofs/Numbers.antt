@@ -1,10 +1,10 @@
 -- The numbers that a call gets and leaves. Assumes nothing.
-use Prim.Native.Nat.{ℕ, zero, suc, ◌+◌, ◌-◌, ◌≤◌, ◌<◌}
+use Prim.Native.Nat.{ℕ, ◌+◌, ◌-◌, ◌≤◌, ◌<◌}
 use native.Mathlib.Omega.{arith}
 use lib.Dec.{eqb}
 use lib.IntN.{ℤ, pos}
 use lib.ListN.{length, get_or, replicate}
-use mathlib.Core.Path.{◌≡◌, refl, sym, ◌∙◌, ap, subst}
+use mathlib.Core.Path.{◌≡◌, sym, ◌∙◌, ap, subst}
 use mathlib.Core.Bool.{Bool, false, not, ◌||◌}
 use mathlib.Core.Logic.{⊎_elim}
 use mathlib.Core.Option.{none}
@@ -16,13 +16,13 @@ use Rattle.answers.proofs.First.{first_same}
 use Rattle.answers.proofs.Lists.{blank}
 use Rattle.cnf.specs.Literals.{unclosed, wrong_list}
 use Rattle.search.specs.Trail.{entry, Trail, Slices, slices, laid, entry_at, trail_of, variable_value, Agrees}
-use Rattle.search.specs.Step.{Moved, step, fails, failed_clause}
+use Rattle.search.specs.Step.{Moved, fails, failed_clause}
 use Rattle.search.specs.Run.{done_outcome}
 use Rattle.search.specs.Reasons.{wrong_number, wrong_number_at, wrong_numbers}
-use Rattle.search.specs.Call.{Search, Handed, wrong_lengths, wrong_entry, wrong_entry_at, is_found, untrue, Call, Searching, Following, search_rows, rows_of, begins}
+use Rattle.search.specs.Call.{Search, Handed, wrong_lengths, wrong_entry, wrong_entry_at, is_found, Call, Searching, Following, search_rows, rows_of, begins}
 use Rattle.search.specs.Call.{comes_to, IsTaken, runs, hands, hands_done, ends_at}
 use Rattle.search.proofs.Trails.{same_trail, laid_rest}
-use Rattle.search_theory.specs.ListedSteps.{Undoes, ListedStep, Leads, stays, moves}
+use Rattle.search_theory.specs.ListedSteps.{Undoes, Leads, stays, moves}
 use Rattle.search_theory.specs.Reasons.{clause_numbered, Explained, AllExplained, renumbered, OnlyWay}
 use Rattle.search_theory.proofs.Undo.{undoes_to}
 use Rattle.search_theory.proofs.Legal.{each_at}

@@ -2,7 +2,6 @@
 -- the entries before. Read `number-place`, `explained_step`, `explained_run` and `only_way`. Assumes nothing.
 use Prim.Native.Nat.{ℕ, zero, suc, ◌+◌, ◌-◌, ◌≤◌, ◌<◌}
 use native.Mathlib.Omega.{arith}
-use native.Mathlib.Numerals.{add-one}
 use lib.Dec.{eqb}
 use lib.IntN.{ℤ, pos}
 use lib.ListN.{length, get_or, take, drop, length-drop}
@@ -30,7 +29,7 @@ use Rattle.search.specs.Reasons.{differs, is_reason, from_number, wrong_number, 
 use Rattle.search_theory.specs.Choices.{ForcingClause}
 use Rattle.search_theory.specs.Reasons.{Reason, clause_numbered, HasReason, Explained, AllExplained, BreaksAt, NumbersFault, not_long, breaking, OnlyWay}
 use Rattle.search_theory.proofs.Lists.{all_map, meet}
-use Rattle.search_theory.proofs.OverClauses.{Begins, begins_first, Tested, every, beginning, beginning_rest}
+use Rattle.search_theory.proofs.OverClauses.{begins_first, Tested, every, beginning, beginning_rest}
 use Rattle.search_theory.proofs.Values.{literal_false}
 use Rattle.search_theory.proofs.Legal.{read_each, each_read}
 use Rattle.search_theory.proofs.Choices.{is_false_lem, same_code, others_false, choice_laws}
@@ -75,6 +74,7 @@ module _ (w : Values) (l : ℤ) where
   is_in : (c : List ℤ) → Some (λ k. differs l k ≡ false) c → l ∈ c
   is_in (k ∷ c) (inl h) = Memᴰ.head (sym (same_code k l (eqb-true (code_of k) (code_of l) (not-false _ h))))
   is_in (k ∷ c) (inr h) = Memᴰ.tail (is_in c h)
+  is_in [] h = elim h [ ]
 
   -- by the two tests of its literals
   tested : (a b : Bool) (c : List ℤ) → Tested (differs l) a c → Tested (passes_but (fails w) l) b c → not a && b ≡ true ↔ Reason w l c

@@ -7,7 +7,7 @@ use mathlib.Core.Path.{◌≡◌, refl, sym, ◌∙◌, ap, subst}
 use mathlib.Core.Bool.{Bool}
 use mathlib.Core.Logic.{◌⊎◌, inl, inr, ◌↔◌, ⊎_elim}
 use mathlib.Core.Option.{none, some}
-use mathlib.Core.List.{List, ◌∷◌}
+use mathlib.Core.List.{List, [], ◌∷◌}
 use Rattle.answers.proofs.Bools.{clash}
 use Rattle.cnf.specs.Clauses.{Assignment, Satisfies}
 use Rattle.search.specs.Trail.{Trail, Agrees, Turned, Open, values_of}
@@ -26,6 +26,7 @@ use Rattle.search_theory.proofs.Handed.{given_one, next_exactly, comes, hands-do
 turned_disagrees : (a : List Bool) (t : Trail) → Turned a t → Agrees a t → ⊥
 turned_disagrees a (e ∷ t) (inl o) g = clash g.0 o.1
 turned_disagrees a (e ∷ t) (inr o) g = turned_disagrees a t o g.1
+turned_disagrees a [] o g = elim o [ ]
 
 -- of the assignments open at a trail that is one assignment, the others are turned
 others_turned : {v : ℕ} {t : Trail} → OneAssignment v t → (a : List Bool) → Assignment v a → (Open a t × (a ≡ values_of v t → ⊥)) ↔ Turned a t
