@@ -1,5 +1,5 @@
 -- What may be wrong with an entry of the trail handed in: by itself, or for the entries before it.
-use Rattle.std.specs.Prelude.{ℕ, zero, suc, ◌≤◌, ◌<◌, eqb, ltb, ℤ, pos, get_or, ◌≡◌, Bool, true, false, ◌||◌, List}
+use Rattle.std.specs.Prelude.{ℕ, zero, suc, ◌≤◌, ◌<◌, eqb, ltb, ℤ, pos, get_or, Bool, false, ◌||◌, List}
 use Rattle.cnf.specs.Literals.{closes, variable_at, beyond}
 
 -- an entry that is 0, beyond V, or with a mark not 0 or 1
