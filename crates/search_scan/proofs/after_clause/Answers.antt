@@ -1,0 +1,14 @@
+-- `search_scan::after_clause` meets its contract. Assumes nothing.
+use native.Mathlib.Omega.{arith}
+use mathlib.Core.Path.{sym, ◌∙◌}
+use Rattle.search_scan.proofs.Scans.{pass_none, pass_end, pass_on}
+use Rattle.search_scan.proofs.after_clause.Goals as goal
+
+pub returns-then-end : goal.returns-then-end
+returns-then-end c = pass_end c.loop-j.invariant (omega arith) (sym c.closes_at-end.ensures ∙ c.if-end.true)
+
+pub loop-j-preserved : goal.loop-j-preserved
+loop-j-preserved c = pass_on c.loop-j.invariant (omega arith) (sym c.closes_at-end.ensures ∙ c.if-end.false)
+
+pub returns : goal.returns
+returns c = pass_none c.loop-j.invariant (omega arith)
