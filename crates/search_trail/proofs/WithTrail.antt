@@ -11,14 +11,14 @@ use mathlib.Core.List.{List, [], ◌∷◌, ◌++◌, append-nil}
 use Rattle.answers.specs.Lent.{filled}
 use Rattle.cnf.specs.Literals.{most_variables}
 use Rattle.cnf.proofs.Lists.{code_variable}
-use Rattle.search.specs.Trail.{Entry, entry, Trail, Slices, slices, HasLength, image_by, image, entry_at, trail_of}
+use Rattle.search.specs.Trail.{Entry, entry, Trail, Slices, slices, HasLength, image_by, image, trail_of}
 use Rattle.search.specs.Trail.{Value, True, False, Unassigned, variable_value, Values}
 use Rattle.search.proofs.Trails.{length_trail, same_trail, same_values, length-laid, read_image, cut, image_read}
 use Rattle.search_theory.specs.Legal.{Legal}
 use Rattle.search_theory.proofs.Legal.{same_legal}
 use Rattle.search_theory.proofs.Full.{legal_length}
 use Rattle.search_scan.specs.PackedValues.{value_of, packed_values, bare_marks, number_of, packed}
-use Rattle.search_trail.specs.Packed.{bare_slices, running_trail, packed_trail, packed_marks, Packed, Running, with_trail}
+use Rattle.search_trail.specs.Packed.{bare_slices, running_trail, packed_trail, Packed, Running, with_trail}
 use Rattle.search_trail.proofs.Bytes.{low_most, proper_byte, length-packed, packed_bare, unpack}
 use Rattle.search_trail.proofs.Entries.{legal_at, running_used}
 
