@@ -9,7 +9,6 @@ use Rattle.answers.specs.Outcome.{answer}
 use Rattle.search.specs.Trail.{Trail, Slices}
 use Rattle.search.specs.Step.{Next, Moved, AnsweredFound, AnsweredNone, step}
 use Rattle.search.specs.Run.{Done, ends, after, ending_number, done_outcome, run}
-use Rattle.search.specs.Call.{Handed}
 use Rattle.search.proofs.BudgetSums.{counted}
 use Rattle.search_theory.specs.Legal.{Legal}
 use Rattle.search_trail.specs.Packed.{running_trail, Running, with_trail}

@@ -13,7 +13,7 @@ use Rattle.search_call.specs.declared.SearchRefusal.{SearchRefusal}
 use Rattle.search_call.specs.declared.SearchRefusal.TheVariants.{Lengths, List, Entry, Number, Untrue}
 use Rattle.search_call.specs.declared.Answer.{Answer}
 use Rattle.search_call.specs.declared.Answer.TheVariants.{Ended, Refused}
-use Rattle.search_call.specs.Answers.{ending_of, end_outcome, search_refusal_outcome, answer_outcome}
+use Rattle.search_call.specs.Answers.{ending_of, end_outcome, answer_outcome}
 
 -- from an outcome back to the answer
 abbrev ending_from : ℕ → Ending
