@@ -32,6 +32,7 @@ module _ (a : List Bool) where
   some_has : (c : List ℤ) → HasTrue c → has_true a c ≡ true
   some_has (l ∷ c) (inl h) = or_left (value a l) (has_true a c) h
   some_has (l ∷ c) (inr h) = or_right (value a l) (has_true a c) (some_has c h)
+  some_has [] x' = elim x' [ ]
 
   all_satisfied : (cs : List (List ℤ)) → all_have_true a cs ≡ true → All HasTrue cs
   all_satisfied [] e = tt
