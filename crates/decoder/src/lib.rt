@@ -105,7 +105,7 @@ fn judged(
     let Decoded::Drawn = answered else {
         return answered;
     };
-    bytes::copy(&own[..n], drawing);
+    drawing.copy_from_slice(&own[..n]);
     answered
 }
 

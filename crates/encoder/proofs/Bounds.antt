@@ -2,7 +2,7 @@
 use Prim.Native.Nat.{ℕ, zero, suc, ◌+◌, ◌*◌, ◌-◌, ◌≤◌, ◌<◌}
 use native.Mathlib.Omega.{arith}
 use native.Mathlib.Nat.{mul-le-mul}
-use lib.IntN.{ℤ, pos, nat_abs}
+use lib.IntN.{ℤ, pos}
 use lib.ListN.{length, get_or, length-append}
 use lib.Seq.{get_or-append-add}
 use borrow.Author.Tests.{le-ltb}
@@ -15,7 +15,6 @@ use Rattle.answers.specs.First.{first_where, found, or_else}
 use Rattle.answers.specs.Lists.{All, ◌∈◌, up_to, each}
 use Rattle.answers.proofs.First.{none_first}
 use Rattle.rules.specs.declared.Direction.{Direction}
-use Rattle.rules.specs.Record.{size}
 use Rattle.rules.specs.Board.{Clue, Board}
 use Rattle.rules.proofs.Boards.{Laws}
 use Rattle.cnf.specs.Literals.{closes, most_variables, beyond_at, unclosed, wrong_list}

@@ -64,7 +64,7 @@ module _ (w : Variable → Bool) where
   plus_some v (Memᴰ.tail m) h = inr (plus_some v m h)
 
   -- at most one of a list is true
-  pub at_most_one : {vs : List Variable} {a c : Variable} → Holds w (pairs vs) → a ∈ vs → c ∈ vs → w a ≡ true → w c ≡ true → a ≡ c
+  pub at_most_one : {a c : Variable} {vs : List Variable} → Holds w (pairs vs) → a ∈ vs → c ∈ vs → w a ≡ true → w c ≡ true → a ≡ c
   at_most_one h (Memᴰ.head e) (Memᴰ.head f) p q = e ∙ sym f
   at_most_one {c = c} h (Memᴰ.head {x = v} {xs = vs} e) (Memᴰ.tail n) p q =
       absurd (not-both v c (map_at (Sat w) (not_both v) (all_left (Sat w) (map (not_both v) vs) (pairs vs) h) n) (ap w (sym e) ∙ p) q)
