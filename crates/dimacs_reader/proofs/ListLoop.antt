@@ -17,12 +17,12 @@ use Rattle.answers.specs.Lent.{Wrote}
 use Rattle.answers.proofs.Lent.{wrote_nothing, wrote_after}
 use Rattle.dimacs.specs.Automaton.{end_from, refused_from}
 use Rattle.dimacs.specs.Reader.{Header, header_with, State, clause, literal_of, step_byte, accepts, list_from}
-use Rattle.dimacs.specs.Tokens.{TokenAt, may_begin_number, line_begins}
+use Rattle.dimacs.specs.Tokens.{TokenAt, stands, refused, may_begin_number, line_begins, element_and_blank_at, blank_or_comment_at}
 use Rattle.dimacs_reader.specs.declared.Listed.{Listed}
 use Rattle.dimacs_reader.specs.declared.Listed.TheVariants.{Elements, Refused as NoList}
 use Rattle.dimacs_reader.specs.Lists.{list_at, listed, closed_after}
 use Rattle.dimacs_reader.proofs.Runs.{header_after, Run, Dead, run_stay, run_then, run_dead, dead_step, dead_end, every_place}
-use Rattle.dimacs_reader.proofs.Agrees.{Agrees, there, nowhere, clause_step, BlankOrCommentRead, blank_or_comment_agrees}
+use Rattle.dimacs_reader.proofs.Agrees.{Agrees, there, nowhere, agrees_there, agrees_nowhere, clause_step, BlankOrCommentRead, blank_or_comment_agrees}
 use Rattle.dimacs_reader.proofs.Agrees.{ElementRead, element_and_blank_agrees}
 
 -- the clauses that an element leaves closed
@@ -92,6 +92,28 @@ module _ {text : List ℕ} {v c a : ℕ} {before after : List ℤ} {at n k : ℕ
         few = omega (arith, g.few, d.low);
         most = g.most;
       }
+
+  -- a blank or a comment line
+  module _ (h : at < length text) (o : may_begin_number (get_or text at 0) ≡ false) where
+    piece : Agrees text state at (λ _ b. BlankOrCommentRead text (header_with v c) k begun state at b) (blank_or_comment_at text begun at)
+    piece = blank_or_comment_agrees text (header_with v c) k begun h o
+
+    pub piece_read : {b : ℕ} → blank_or_comment_at text begun at ≡ stands tt b → BlankOrCommentRead text (header_with v c) k begun state at b
+    piece_read e = agrees_there piece e
+
+    pub piece_refused : {p : ℕ} → blank_or_comment_at text begun at ≡ refused p → Lists text (header_with v c) a before after (NoList p)
+    piece_refused e = list_refused (agrees_nowhere piece e)
+
+  -- an element
+  module _ (h : at < length text) (o : may_begin_number (get_or text at 0) ≡ true) (another : k ≡ c → ⊥) where
+    element_there : Agrees text state at (ElementRead text (header_with v c) k state at) (element_and_blank_at text v at)
+    element_there = element_and_blank_agrees text (header_with v c) k h begun o another
+
+    pub element_read : {e : Bool × ℕ} {b : ℕ} → element_and_blank_at text v at ≡ stands e b → ElementRead text (header_with v c) k state at e b
+    element_read e = agrees_there element_there e
+
+    pub element_refused : {p : ℕ} → element_and_blank_at text v at ≡ refused p → Lists text (header_with v c) a before after (NoList p)
+    element_refused e = list_refused (agrees_nowhere element_there e)
 
   -- at the text's end
   module _ (h : length text ≤ at) where
