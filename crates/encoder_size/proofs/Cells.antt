@@ -16,7 +16,7 @@ use Rattle.rules.specs.declared.Cell.TheVariants.{Open, Clue as Clued, Shaded}
 use Rattle.rules.specs.declared.Grid.{Grid}
 use Rattle.rules.specs.Record.{size, puzzle, most_cells, RecordFits}
 use Rattle.rules.specs.Board.{Board, open_cell, line, clue_of, grid_board}
-use Rattle.encoder.specs.Variables.{directions, open_count, neighbours, lower, rank, at_cell}
+use Rattle.encoder.specs.Variables.{directions, open_count, neighbours, rank, at_cell}
 use Rattle.encoder.specs.Clauses.{Clause, east_south, from_one, touching_at, clue_clauses, links_at, start_at, distance_at, pair_count, Sized}
 use Rattle.encoder.proofs.Bounds.{neighbours-most}
 use Rattle.encoder.proofs.ClauseLists.{at_open, at_shut}
