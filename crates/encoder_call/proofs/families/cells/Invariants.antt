@@ -1,0 +1,21 @@
+-- `encoder_call::families::cells` meets its contract. Assumes nothing.
+use native.Mathlib.Omega.{arith}
+use Prim.Native.Nat.{◌-◌}
+use mathlib.Core.Path.{◌≡◌, sym}
+use Rattle.answers.proofs.Lent.{wrote_recast}
+use Rattle.rules.specs.Board.{grid_board}
+use Rattle.answers.specs.Lists.{up_to, each}
+use Rattle.encoder.specs.Variables.{opens, at_cell}
+use Rattle.encoder.specs.Clauses.{list_of}
+use Rattle.encoder_shapes.proofs.Written.{limits_recast, Writing, write_start, write_needs, write_on, write_end, write_kept}
+use Rattle.encoder_call.specs.Families.{family_at}
+use Rattle.encoder_call.proofs.EachCell.{cells_each}
+use borrow.Author.Rules.{rules}
+use Rattle.encoder_call.proofs.families.cells.Given as goal
+
+abbrev pub invariant-loop-k : goal.invariant-loop-k
+invariant-loop-k l =
+    Writing l.initial.list l.at (λ x. list_of (grid_board l.g l.record) (at_cell (grid_board l.g l.record) (family_at l.family (grid_board l.g l.record)) x)) l.n l.list l.i l.k
+
+abbrev pub decreases-loop-k : goal.decreases-loop-k
+decreases-loop-k l = l.n - l.k
