@@ -3,14 +3,12 @@ use native.Mathlib.Omega.{arith}
 use lib.ListN.{replicate}
 use Rattle.encoder_numbers.specs.Tables.{table_length}
 use Rattle.encoder_numbers.proofs.FilledTable.{tables_filled}
-use Rattle.encoder_call.proofs.Ends.{list_limits, ends_short, ends-listed}
-use borrow.Author.Rules.{rules}
+use Rattle.encoder_call.proofs.Ends.{list_limits, ends-listed}
 use Rattle.encoder_call.proofs.encode_grid.Goals as goal
 
 pub all_families-requires-clause-within_limits : goal.all_families-requires-clause-within_limits
 all_families-requires-clause-within_limits c =
     let h = c.requires.encodable in
-    let f = c.fill-sizes.ensures in
     list_limits h
 
 pub all_families-requires-clause-tables : goal.all_families-requires-clause-tables

@@ -6,7 +6,6 @@ use Rattle.rules.specs.Board.{Board, grid_board}
 use Rattle.encoder.specs.Clauses.{families, list_of}
 use Rattle.encoder.proofs.ClauseLists.{list_families}
 use Rattle.encoder_shapes.proofs.Written.{in-parts, limits_recast, Progress, begun, part_needs, part_on, parts_end}
-use borrow.Author.Rules.{rules}
 use Rattle.encoder_call.proofs.families.all_families.Goals as goal
 
 pub cells-i-requires-clause-fact : goal.cells-i-requires-clause-fact

@@ -1,7 +1,6 @@
 -- `encoder_call::families::cell` meets its contract. Assumes nothing.
 use mathlib.Core.Path.{◌≡◌, sym, ◌∙◌}
-use borrow.Author.Tests.{not-true, not-false}
-use Rattle.answers.proofs.Lent.{wrote_nothing, wrote_recast}
+use Rattle.answers.proofs.Lent.{wrote_recast}
 use Rattle.rules.specs.Board.{grid_board}
 use Rattle.answers.specs.Lists.{joined}
 use Rattle.encoder.specs.Clauses.{list_of}
@@ -9,8 +8,7 @@ use Rattle.encoder.specs.Variables.{at_cell}
 use Rattle.encoder_shapes.proofs.Written.{limits_recast}
 use Rattle.encoder_numbers.specs.Tables.{OpenCell}
 use Rattle.encoder_call.specs.Families.{family_at, family_parts}
-use Rattle.encoder_call.proofs.EachCell.{shut_list, open_list, open_few}
-use borrow.Author.Rules.{rules}
+use Rattle.encoder_call.proofs.EachCell.{open_list, open_few}
 use Rattle.encoder_call.proofs.families.cell.Goals as goal
 
 pub open_cell-requires-clause-parts_within_limits : goal.open_cell-requires-clause-parts_within_limits

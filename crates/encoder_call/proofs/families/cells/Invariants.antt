@@ -1,16 +1,10 @@
 -- `encoder_call::families::cells` meets its contract. Assumes nothing.
-use native.Mathlib.Omega.{arith}
 use Prim.Native.Nat.{◌-◌}
-use mathlib.Core.Path.{◌≡◌, sym}
-use Rattle.answers.proofs.Lent.{wrote_recast}
 use Rattle.rules.specs.Board.{grid_board}
-use Rattle.answers.specs.Lists.{up_to, each}
-use Rattle.encoder.specs.Variables.{opens, at_cell}
+use Rattle.encoder.specs.Variables.{at_cell}
 use Rattle.encoder.specs.Clauses.{list_of}
-use Rattle.encoder_shapes.proofs.Written.{limits_recast, Writing, write_start, write_needs, write_on, write_end, write_kept}
+use Rattle.encoder_shapes.proofs.Written.{Writing}
 use Rattle.encoder_call.specs.Families.{family_at}
-use Rattle.encoder_call.proofs.EachCell.{cells_each}
-use borrow.Author.Rules.{rules}
 use Rattle.encoder_call.proofs.families.cells.Given as goal
 
 abbrev pub invariant-loop-k : goal.invariant-loop-k

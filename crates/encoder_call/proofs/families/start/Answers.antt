@@ -1,5 +1,4 @@
 -- `encoder_call::families::start` meets its contract. Assumes nothing.
-use native.Mathlib.Omega.{arith}
 use Prim.Native.Nat.{◌+◌}
 use lib.IntN.{ℤ}
 use mathlib.Core.Path.{◌≡◌, refl, sym, ap}
@@ -12,9 +11,8 @@ use Rattle.encoder.specs.Clauses.{start as start_clauses, start_at, list_of}
 use Rattle.encoder_shapes.specs.Shapes.{at_least_one}
 use Rattle.encoder_shapes.proofs.Written.{in-parts, limits_recast, Progress, begun, part_needs, part_on, parts_end}
 use Rattle.encoder_numbers.specs.declared.Sizes.{Sizes}
-use Rattle.encoder_numbers.proofs.Neighbours.{fits_laws, few}
+use Rattle.encoder_numbers.proofs.Neighbours.{fits_laws}
 use Rattle.encoder_call.proofs.EachCell.{start_parts}
-use borrow.Author.Rules.{rules}
 use Rattle.encoder_call.proofs.families.start.Goals as goal
 
 pub at_least_one-i-requires : goal.at_least_one-i-requires
