@@ -56,10 +56,6 @@ lengths_right v n values lent (e8, (e7, c)) = (eqb-true _ _ (not-false _ (no-cau
 pub front : (f : ℕ → ℕ) (m : ℕ) (buf : List ℕ) {n : ℕ} {own : List ℕ} → n ≡ m → own ≡ filled buf (map f (up_to m)) → take n own ≡ map f (up_to m)
 front f m buf e h = (λ i. take (e i) (h i)) ∙ take_at (map f (up_to m)) _ m (made_long f m)
 
--- a whole copy
-pub copied : (src lent : List ℕ) → length lent ≡ length src → take (length src) src ++ drop (length src) lent ≡ src
-copied src lent e = let h : length lent ≤ length src = omega arith in (λ i. take-length src i ++ drop_of_length-le lent h i) ∙ append-nil src
-
 -- a drawing of N bytes: the judge's rows are the rules'
 pub rules_left : (b : Board) (ds : List ℕ) → length ds ≡ b.size → first_refusal (rule_rows b ds) says_yes ≡ first_refusal (judge_rows b ds) says_yes
 rules_left b ds e = sym (ap (λ t. unless 7 (cause (not t)) (first_refusal (rule_rows b ds) says_yes)) (eq-eqb _ _ e))
