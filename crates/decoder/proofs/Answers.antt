@@ -1,12 +1,12 @@
 -- How a call ends: what it tells and what it leaves in the lent drawing. Assumes nothing.
-use Prim.Native.Nat.{ℕ, ◌≤◌}
+use Prim.Native.Nat.{ℕ}
 use native.Mathlib.Omega.{arith}
-use lib.ListN.{length, take, drop, drop_of_length-le}
-use lib.Seq.{take_at, take-length}
+use lib.ListN.{length, take}
+use lib.Seq.{take_at}
 use borrow.Author.Tests.{eq-eqb, eqb-true, ne_eqb, not-false}
 use mathlib.Core.Path.{◌≡◌, refl, sym, ◌∙◌, ap}
 use mathlib.Core.Bool.{not, cond}
-use mathlib.Core.List.{List, ◌++◌, map, append-nil}
+use mathlib.Core.List.{List, ◌++◌, map}
 use Rattle.answers.specs.declared.Outcome.{Outcome}
 use Rattle.answers.specs.Outcome.{Row, cause, unless, first_refusal}
 use Rattle.answers.specs.Lent.{filled, unless_refused}

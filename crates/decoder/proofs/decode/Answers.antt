@@ -4,14 +4,12 @@ use mathlib.Core.Path.{◌≡◌, refl, ◌∙◌}
 use mathlib.Core.List.{List}
 use Rattle.answers.specs.Outcome.{first_refusal}
 use Rattle.answers.specs.Lent.{unless_refused}
-use Rattle.rules.specs.Record.{grid_of}
 use Rattle.rules.specs.Board.{grid_board, board_of}
 use Rattle.rules.specs.Judge.{says_yes}
 use Rattle.rules.proofs.Records.{passes_up, read_grid, read_fits, goes_on}
 use Rattle.encoder.specs.Decoding.{decoded, decoder_grid_rows, decoder_rows, decoder_answer}
 use Rattle.decoder.specs.declared.DecodeRefusal.TheVariants.{Record}
 use Rattle.decoder.proofs.Answers.{ends-refused}
-use borrow.Author.Rules.{rules}
 use Rattle.decoder.proofs.decode.Goals as goal
 
 pub returns-in_default-clause-result_value : goal.returns-in_default-clause-result_value

@@ -1,22 +1,18 @@
 -- `decoder::decode_grid` meets its contract. Assumes nothing.
 use native.Mathlib.Omega.{arith}
-use Prim.Native.Nat.{ℕ}
 use lib.ListN.{length, replicate}
 use mathlib.Core.Path.{◌≡◌, ◌∙◌, ap}
-use mathlib.Core.List.{List, ◌++◌}
+use mathlib.Core.List.{List}
 use Rattle.answers.specs.Outcome.{Row, first_refusal}
-use Rattle.answers.specs.Lent.{unless_refused}
 use Rattle.answers.proofs.Rows.{Clear}
 use Rattle.rules.specs.Record.{size}
 use Rattle.rules.specs.Board.{Board, grid_board}
-use Rattle.rules.specs.Judge.{judge_rows, says_yes}
+use Rattle.rules.specs.Judge.{says_yes}
 use Rattle.encoder.specs.Variables.{variable_count}
-use Rattle.encoder.specs.Decoding.{decoded}
 use Rattle.encoder_numbers.specs.Tables.{table_length}
 use Rattle.encoder_numbers.proofs.FilledTable.{tables_filled}
 use Rattle.decoder.specs.Answer.{decoded_outcome, value_rows}
-use Rattle.decoder.proofs.Answers.{ends-refused, refused_first, passed_first, values_clear, lengths_right}
-use borrow.Author.Rules.{rules}
+use Rattle.decoder.proofs.Answers.{values_clear, lengths_right}
 use Rattle.decoder.proofs.decode_grid.Goals as goal
 
 pub judged-requires-clause-valued : goal.judged-requires-clause-valued

@@ -1,8 +1,7 @@
 -- `decoder::judged` meets its contract. Assumes nothing.
-use native.Mathlib.Omega.{arith}
 use Prim.Native.Nat.{ℕ}
 use lib.ListN.{length, take}
-use mathlib.Core.Path.{◌≡◌, sym, ◌∙◌, ap}
+use mathlib.Core.Path.{◌≡◌, ◌∙◌, ap}
 use mathlib.Core.List.{List}
 use Rattle.answers.specs.Outcome.{Row, first_refusal}
 use Rattle.rules.specs.Record.{size}
@@ -11,8 +10,7 @@ use Rattle.rules.specs.Judge.{rule_rows, judge_rows, says_yes}
 use Rattle.encoder.specs.Decoding.{value_of, drawn_at, decoded}
 use Rattle.answers.proofs.Elements.{made_long}
 use Rattle.decoder.specs.Answer.{decoded_outcome}
-use Rattle.decoder.proofs.Answers.{ends-refused, ends_yes, front, copied, rules_left}
-use borrow.Author.Rules.{rules}
+use Rattle.decoder.proofs.Answers.{ends-refused, ends_yes, front, rules_left}
 use Rattle.decoder.proofs.judged.Goals as goal
 
 pub returns-in_default-clause-result_value : goal.returns-in_default-clause-result_value

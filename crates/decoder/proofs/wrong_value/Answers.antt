@@ -1,11 +1,7 @@
 -- `decoder::wrong_value` meets its contract. Assumes nothing.
-use Prim.Native.Nat.{◌-◌}
-use lib.Dec.{ltb}
-use lib.ListN.{length, get_or}
-use borrow.Author.Tests.{lt-ltb, le-ltb}
-use borrow.Author.Rules.{rules}
+use borrow.Author.Tests.{lt-ltb}
 use mathlib.Core.Path.{refl}
-use Rattle.answers.proofs.First.{Seeking, seek_start, seek_on, seek_found, seek_none}
+use Rattle.answers.proofs.First.{seek_found, seek_none}
 use Rattle.decoder.proofs.wrong_value.Goals as goal
 
 pub returns-then-values-i-gt1 : goal.returns-then-values-i-gt1

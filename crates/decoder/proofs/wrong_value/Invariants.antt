@@ -2,10 +2,7 @@
 use Prim.Native.Nat.{◌-◌}
 use lib.Dec.{ltb}
 use lib.ListN.{length, get_or}
-use borrow.Author.Tests.{lt-ltb, le-ltb}
-use borrow.Author.Rules.{rules}
-use mathlib.Core.Path.{refl}
-use Rattle.answers.proofs.First.{Seeking, seek_start, seek_on, seek_found, seek_none}
+use Rattle.answers.proofs.First.{Seeking}
 use Rattle.decoder.proofs.wrong_value.Given as goal
 
 abbrev pub invariant-loop-i : goal.invariant-loop-i

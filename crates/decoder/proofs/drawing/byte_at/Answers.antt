@@ -1,13 +1,11 @@
 -- `decoder::drawing::byte_at` meets its contract. Assumes nothing.
-use native.Mathlib.Omega.{arith}
 use mathlib.Core.Path.{◌≡◌, sym, ◌∙◌}
 use mathlib.Core.Bool.{Bool}
-use borrow.Author.Tests.{not-true, not-false}
 use Rattle.rules.specs.Board.{Board, grid_board}
 use Rattle.encoder.specs.Variables.{Variable, Z, variables, place}
-use Rattle.encoder.specs.Decoding.{drawn_link, value_of}
+use Rattle.encoder.specs.Decoding.{value_of}
 use Rattle.encoder_numbers.specs.Tables.{OpenCell}
-use Rattle.decoder.proofs.Values.{known_inside, value_true, value_false, at_z, byte_clue, byte_black, byte_white, link_sum_small}
+use Rattle.decoder.proofs.Values.{known_inside, value_true, value_false, at_z, byte_black, byte_white}
 use Rattle.decoder.proofs.drawing.byte_at.Goals as goal
 
 pub bounds-values-z : goal.bounds-values-z

@@ -1,17 +1,13 @@
 -- `decoder::drawing::link_bit` meets its contract. Assumes nothing.
-use native.Mathlib.Omega.{arith}
 use Prim.Native.Nat.{ℕ}
-use mathlib.Core.Path.{◌≡◌, refl, sym, ◌∙◌, ap}
-use mathlib.Core.Bool.{Bool}
+use mathlib.Core.Path.{◌≡◌, refl, ◌∙◌, ap}
 use Rattle.answers.proofs.First.{found_at, found_none}
 use Rattle.rules.specs.Directions.{opposite}
 use Rattle.rules.specs.Board.{Board, grid_board}
-use Rattle.encoder.specs.Variables.{Variable, E, number}
-use Rattle.encoder.specs.Decoding.{value_of}
+use Rattle.encoder.specs.Variables.{E, number}
 use Rattle.encoder_numbers.specs.Tables.{OpenPair}
 use Rattle.encoder_numbers.proofs.Neighbours.{open_pair, pair_back}
-use Rattle.decoder.proofs.Values.{link_some, link_out, link_inside, link_true, link_false, link_nowhere}
-use borrow.Author.Rules.{rules}
+use Rattle.decoder.proofs.Values.{link_inside, link_nowhere}
 use Rattle.decoder.proofs.drawing.link_bit.Goals as goal
 
 pub returns-in_default : goal.returns-in_default
