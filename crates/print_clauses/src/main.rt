@@ -2,14 +2,17 @@
 #![tactic(auto)]
 
 ghost use Rattle.std.specs.Prelude.{◌++◌, ◌+◌, ◌<◌, ◌^◌, length};
-ghost use Rattle.io.specs.Counts.{IsPrefixLen};
+ghost use Rattle.program_text.specs.Counts.{IsPrefixLen};
 ghost use Rattle.answers.specs.Lent.{Wrote};
 ghost use Rattle.dimacs.specs.Text.{lines, header_line};
 ghost use Rattle.program_text.specs.Programs.{printed_clauses};
 
 use dimacs_writer::{put_header, put_lines};
 use encoder_call::{Encoded, encode};
+use program_io::read_full;
 use program_text::{ELEMENT_LIMIT, VARIABLE_LIMIT, put_refused};
+use std::io;
+use std::io::Write;
 
 // The header, then one clause a line.
 fn put_text(text: &mut [u8], variables: usize, clauses: usize, list: &[i32]) -> usize
@@ -39,10 +42,10 @@ fn clauses_text(record: &[u8], text: &mut [u8; 65536]) -> usize
 }
 
 // No record has more than 65,535 bytes, so 65,536 of a longer input are enough to refuse it.
-fn main() {
-    let mut record = io::large_buffer();
-    let read = io::read_full(0, &mut record);
-    let mut text = io::large_buffer();
+fn main(rt: HostRuntime) -> io::Result<()> {
+    let mut record = [0u8; 65536];
+    let read = read_full(&mut rt.stdin(), &mut record)?;
+    let mut text = [0u8; 65536];
     let printed = clauses_text(&record[..read], &mut text);
-    io::write_all(1, &text[..printed]);
+    rt.stdout().write_all(&text[..printed])
 }
