@@ -2,15 +2,18 @@
 // if the budget does not settle it, or one line such as `refused 3`.
 #![tactic(auto)]
 
-ghost use Rattle.io.specs.Counts.{IsPrefixLen};
+ghost use Rattle.program_text.specs.Counts.{IsPrefixLen};
 ghost use Rattle.answers.specs.Lent.{Wrote};
 ghost use Rattle.solver_count.specs.Answer.{meant};
 ghost use Rattle.count_solutions.specs.Printed.{count_line, printed_count};
 
 use encoder_call::{Encoded, encode};
+use program_io::read_full;
 use program_text::{BUDGET, ELEMENT_LIMIT, VARIABLE_LIMIT, put_refused};
 use solver_count::{SolutionCount, count_solutions};
 use text::put_word;
+use std::io;
+use std::io::Write;
 
 // The line of an answer.
 fn put_count(text: &mut [u8], many: SolutionCount) -> usize
@@ -53,10 +56,10 @@ fn count_text(record: &[u8], text: &mut [u8; 4096]) -> usize
 }
 
 // No record has more than 65,535 bytes, so 65,536 of a longer input are enough to refuse it.
-fn main() {
-    let mut record = io::large_buffer();
-    let read = io::read_full(0, &mut record);
-    let mut text = io::buffer();
+fn main(rt: HostRuntime) -> io::Result<()> {
+    let mut record = [0u8; 65536];
+    let read = read_full(&mut rt.stdin(), &mut record)?;
+    let mut text = [0u8; 4096];
     let printed = count_text(&record[..read], &mut text);
-    io::write_all(1, &text[..printed]);
+    rt.stdout().write_all(&text[..printed])
 }

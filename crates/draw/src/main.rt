@@ -2,13 +2,16 @@
 // as `refused 3`.
 #![tactic(auto)]
 
-ghost use Rattle.io.specs.Counts.{IsPrefixLen};
+ghost use Rattle.program_text.specs.Counts.{IsPrefixLen};
 ghost use Rattle.answers.specs.Lent.{Wrote};
 ghost use Rattle.draw.specs.Printed.{printed_sheet};
 
+use program_io::read_full;
 use program_solution::{ToPrint, solve_record};
 use rules::MOST_CELLS;
 use sheet_call::lines::put_sheet;
+use std::io;
+use std::io::Write;
 
 // Writes what the program prints for the bytes on its standard input, which `text` has room for; returns how many bytes that is.
 fn sheet_text(record: &[u8], text: &mut [u8; 65536]) -> usize
@@ -27,10 +30,10 @@ fn sheet_text(record: &[u8], text: &mut [u8; 65536]) -> usize
 }
 
 // No record has more than 65,535 bytes, so 65,536 of a longer input are enough to refuse it.
-fn main() {
-    let mut record = io::large_buffer();
-    let read = io::read_full(0, &mut record);
-    let mut text = io::large_buffer();
+fn main(rt: HostRuntime) -> io::Result<()> {
+    let mut record = [0u8; 65536];
+    let read = read_full(&mut rt.stdin(), &mut record)?;
+    let mut text = [0u8; 65536];
     let printed = sheet_text(&record[..read], &mut text);
-    io::write_all(1, &text[..printed]);
+    rt.stdout().write_all(&text[..printed])
 }
