@@ -11,9 +11,9 @@ use encoder_call::{Encoded, encode};
 use program_io::read_full;
 use program_text::{BUDGET, ELEMENT_LIMIT, VARIABLE_LIMIT, put_refused};
 use solver_count::{SolutionCount, count_solutions};
-use text::put_word;
 use std::io;
 use std::io::Write;
+use text::put_word;
 
 // The line of an answer.
 fn put_count(text: &mut [u8], many: SolutionCount) -> usize
