@@ -16,7 +16,7 @@ use Rattle.rules.specs.declared.RecordRefusal.{RecordRefusal}
 use Rattle.rules.specs.Record.{record_rows, record_answer, record_refusal_outcome, parsed_outcome}
 use Rattle.rules.specs.Board.{grid_board, board_of}
 use Rattle.rules.proofs.Records.{accepted_clear, refusal-number, passes_up, is_accepted, read_grid}
-use Rattle.encoder.specs.Clauses.{clauses, clause_list}
+use Rattle.encoder.specs.Clauses.{clause_list}
 use Rattle.encoder.specs.Encoding.{encoder_leaves}
 use Rattle.search.specs.Trail.{Slices}
 use Rattle.search.specs.Run.{Done, done_outcome}

@@ -16,7 +16,7 @@ use Rattle.rules.specs.Judge.{says_yes}
 use Rattle.rules.proofs.Records.{is_accepted, read_grid, read_fits, goes_on}
 use Rattle.encoder.specs.Variables.{variable_count}
 use Rattle.encoder.specs.Decoding.{decoded, decoder_leaves, decoder_grid_rows}
-use Rattle.search.specs.Trail.{Slices, slices, filled_slices, image}
+use Rattle.search.specs.Trail.{Slices, filled_slices, image}
 use Rattle.search.specs.Run.{Ending, Found as DoneFound, None as DoneNone, Halted as DoneHalted, Done, done_outcome}
 use Rattle.search.specs.Call.{Search, Handed, Searching, IsTaken, hands_done, hands_taken}
 use Rattle.search.proofs.Endings.{same_ending, other_ending}
