@@ -1,4 +1,5 @@
 -- `solver_call::grid_search::find_drawing` meets its contract. Assumes nothing.
+use borrow.Author.Rules.{rules}
 use lib.Seq.{length-take-le}
 use mathlib.Core.Path.{sym}
 use Rattle.solver_call.proofs.GridSearch.{may_search, may_decode, unfound, literals, found}
@@ -13,12 +14,12 @@ searched-end-requires c = may_search c.requires c.args.budget
 pub returns-in_default : goal.returns-in_default
 returns-in_default c =
     unfound c.requires c.args.budget c.searched-end.result c.searched-end.ensures
-    c.trail-1.given.0 c.marks-1.given.0 c.numbers-1.given.0 c.in_default.not-Found
+    (search rules) (search rules) (search rules) (search rules)
 
 pub give_values-requires : goal.give_values-requires
 give_values-requires c =
     literals c.requires c.args.budget c.searched-end.result c.searched-end.ensures
-    c.trail-1.given.0 c.marks-1.given.0 c.numbers-1.given.0 c.in-Found.is
+    (search rules) (search rules) (search rules) (search rules)
 
 pub decode_grid-requires : goal.decode_grid-requires
 decode_grid-requires c = may_decode c.requires c.args.budget
@@ -26,5 +27,5 @@ decode_grid-requires c = may_decode c.requires c.args.budget
 pub returns : goal.returns
 returns c =
     found c.requires c.args.budget c.searched-end.result c.searched-end.ensures
-    c.trail-1.given.0 c.marks-1.given.0 c.numbers-1.given.0 c.in-Found.is
-    c.give_values.ensures c.decode_grid.ensures.drawing_after c.values-1.given.0 c.drawing-1.given.0
+    (search rules) (search rules) (search rules) (search rules)
+    c.give_values.ensures c.decode_grid.ensures.drawing_after (search rules) (search rules)
