@@ -1,4 +1,5 @@
 -- `solve::solution_text` meets its contract. Assumes nothing.
+use borrow.Author.Rules.{rules}
 use native.Mathlib.Omega.{arith}
 use lib.ListN.{replicate}
 use Prim.Native.Nat.{ℕ}
@@ -39,21 +40,21 @@ put_drawing-requires c =
 pub returns-in-Line-clause-wrote : goal.returns-in-Line-clause-wrote
 returns-in-Line-clause-wrote c =
     let s : List ℕ = c.args.«record».now in
-    (whole c.solve_record-arg-1.given.0.1 (solution_fits s) (ends-line (rw c.in-Line.is at c.solve_record-to_print.ensures))).0
+    (whole (search rules) (solution_fits s) (ends-line (rw c.in-Line.is at c.solve_record-to_print.ensures))).0
 
 pub returns-in-Line-clause-prefix_len : goal.returns-in-Line-clause-prefix_len
 returns-in-Line-clause-prefix_len c =
     let s : List ℕ = c.args.«record».now in
-    (whole c.solve_record-arg-1.given.0.1 (solution_fits s) (ends-line (rw c.in-Line.is at c.solve_record-to_print.ensures))).1
+    (whole (search rules) (solution_fits s) (ends-line (rw c.in-Line.is at c.solve_record-to_print.ensures))).1
 
 pub returns-in-Drawing-clause-wrote : goal.returns-in-Drawing-clause-wrote
 returns-in-Drawing-clause-wrote c =
     let s : List ℕ = c.args.«record».now in
     let drawn : WroteDrawing s (replicate most_cells 0) c.args.text.now c.in-Drawing.g c.solve_record-to_print.new.drawing c.solve_record-to_print.new.text = rw c.in-Drawing.is at c.solve_record-to_print.ensures in
-    (whole c.solve_record-arg-1.given.0.1 (solution_fits s) (ends-drawn drawn c.size-n.ensures c.put_drawing.ensures)).0
+    (whole (search rules) (solution_fits s) (ends-drawn drawn c.size-n.ensures c.put_drawing.ensures)).0
 
 pub returns-in-Drawing-clause-prefix_len : goal.returns-in-Drawing-clause-prefix_len
 returns-in-Drawing-clause-prefix_len c =
     let s : List ℕ = c.args.«record».now in
     let drawn : WroteDrawing s (replicate most_cells 0) c.args.text.now c.in-Drawing.g c.solve_record-to_print.new.drawing c.solve_record-to_print.new.text = rw c.in-Drawing.is at c.solve_record-to_print.ensures in
-    (whole c.solve_record-arg-1.given.0.1 (solution_fits s) (ends-drawn drawn c.size-n.ensures c.put_drawing.ensures)).1
+    (whole (search rules) (solution_fits s) (ends-drawn drawn c.size-n.ensures c.put_drawing.ensures)).1
