@@ -2,7 +2,7 @@
  * Yajilin: judge, proof sheet, encoder, decoder, search, batches of value lists, tally of a line's numbers and DIMACS
  * text. docs/REFERENCE.md has the formats, clauses, steps and refusals in full, with examples.
  *
- * Link with target/staticlib/libffi.a, which `rt staticlib ffi` writes (x86-64, System V calls). Of the C library it
+ * Link with crates/ffi/out/libffi.a, which `rt lib` writes (x86-64, System V calls). Of the C library it
  * needs memcpy and memset. It allocates nothing, keeps nothing between calls and does no input or output, so calls may
  * run at the same time on buffers of their own.
  *
