@@ -35,6 +35,7 @@ returns-in_default-clause-drawing_after c =
     let outcome : decoded_outcome c.answer-answered.result ≡ first_refusal rows says_yes = c.answer-answered.ensures ∙ c.judge_rules-verdict.ensures ∙ ap (λ ds. first_refusal (rule_rows b ds) says_yes) drawn ∙ rules_left b picture long in
     (ends-refused rows c.args.drawing.now picture c.in_default.field-0 (ap decoded_outcome c.in_default.is) outcome).1
 
+-- what is answered needs nothing of the copy
 pub returns-clause-result_value : goal.returns-clause-result_value
 returns-clause-result_value c =
     let b : Board = grid_board c.args.g c.args.«record».now in
@@ -43,9 +44,8 @@ returns-clause-result_value c =
     let own : List ℕ = take c.size-n.result c.draw.new.drawing in
     let drawn : own ≡ picture = front (drawn_at b (value_of b c.args.values.now)) (size c.args.g) _ c.size-n.ensures c.draw.ensures in
     let long : length picture ≡ size c.args.g = made_long (drawn_at b (value_of b c.args.values.now)) (size c.args.g) in
-    let own-long : length own ≡ size c.args.g = ap length drawn ∙ long in
     let outcome : decoded_outcome c.answer-answered.result ≡ first_refusal rows says_yes = c.answer-answered.ensures ∙ c.judge_rules-verdict.ensures ∙ ap (λ ds. first_refusal (rule_rows b ds) says_yes) drawn ∙ rules_left b picture long in
-    (ends_yes rows c.args.drawing.now picture (ap decoded_outcome c.in-Drawn.is) outcome (c.copy_from_slice.ensures.after ∙ drawn)).0
+    outcome
 
 pub returns-clause-drawing_after : goal.returns-clause-drawing_after
 returns-clause-drawing_after c =
@@ -55,6 +55,5 @@ returns-clause-drawing_after c =
     let own : List ℕ = take c.size-n.result c.draw.new.drawing in
     let drawn : own ≡ picture = front (drawn_at b (value_of b c.args.values.now)) (size c.args.g) _ c.size-n.ensures c.draw.ensures in
     let long : length picture ≡ size c.args.g = made_long (drawn_at b (value_of b c.args.values.now)) (size c.args.g) in
-    let own-long : length own ≡ size c.args.g = ap length drawn ∙ long in
     let outcome : decoded_outcome c.answer-answered.result ≡ first_refusal rows says_yes = c.answer-answered.ensures ∙ c.judge_rules-verdict.ensures ∙ ap (λ ds. first_refusal (rule_rows b ds) says_yes) drawn ∙ rules_left b picture long in
     (ends_yes rows c.args.drawing.now picture (ap decoded_outcome c.in-Drawn.is) outcome (c.copy_from_slice.ensures.after ∙ drawn)).1
