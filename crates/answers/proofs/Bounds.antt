@@ -4,7 +4,7 @@ use native.Mathlib.Omega.{arith}
 use native.Mathlib.Decide.{dec_lt}
 use mathlib.Core.Path.{◌≡◌, refl, sym, ◌∙◌}
 use mathlib.Core.Bool.{Bool, true, ◌||◌}
-use mathlib.Core.Option.{none, some}
+use Rattle.std.specs.Prelude.{None, Some}
 use Rattle.answers.specs.First.{first_where, Until}
 use Rattle.answers.proofs.Bools.{or_left, or_right}
 use Rattle.answers.proofs.First.{Seeking, seek_found, seek_none}
@@ -21,10 +21,10 @@ module _ {p : ℕ → Bool} {n m : ℕ} (u : Until p n m) where
   seeking : Seeking p n m
   seeking = record { within = u.within; none_yet = u.none_yet }
 
-  pub until_found : m < n → some m ≡ first_where p n
+  pub until_found : m < n → Some m ≡ first_where p n
   until_found h = seek_found seeking h (u.stops h) refl
 
-  pub until_none : n ≤ m → none ≡ first_where p n
+  pub until_none : n ≤ m → None ≡ first_where p n
   until_none h = seek_none seeking h refl
 
   -- one test, and another below that place: the first place of either

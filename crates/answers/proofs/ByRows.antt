@@ -6,7 +6,9 @@ use borrow.Author.Tests.{eqb-false, ltb-true, lt-ltb}
 use mathlib.Core.Path.{◌≡◌, refl, sym, ◌∙◌, ap, subst₂}
 use mathlib.Core.Bool.{Bool, true, false}
 use mathlib.Core.Logic.{◌↔◌}
-use mathlib.Core.Option.{Option, none, some, some-injective, some-ne-none}
+use Rattle.std.specs.Prelude.{Option, None, Some}
+use Rattle.std.proofs.lemmas.Option.{same_Some}
+use Rattle.answers.proofs.Options.{some-none}
 use mathlib.Core.List.{List, [], ◌∷◌, map}
 use Rattle.answers.specs.declared.Outcome.{Outcome}
 use Rattle.answers.specs.First.{found}
@@ -35,9 +37,9 @@ module _ (t : Outcome) (answers : t.number ≡ 0) where
     where
       by : (o : Option ℕ) → unless r.number o (first_refusal rs t) ≡ refusal n v → (first_refusal rs t ≡ refusal n v → FirstCause rs n v)
           → FirstCause (row r.number o ∷ rs) n v
-      by none e go = later (go e)
-      by (some w) e go =
-          subst₂ (FirstCause (row r.number (some w) ∷ rs)) (ap (λ (t : Outcome). t.number) e) (ap (λ (t : Outcome). t.first) e) here
+      by None e go = later (go e)
+      by (Some w) e go =
+          subst₂ (FirstCause (row r.number (Some w) ∷ rs)) (ap (λ (t : Outcome). t.number) e) (ap (λ (t : Outcome). t.first) e) here
 
   -- a call that goes by these rows
   pub by_rows : (order : List ℕ) (rs : List Row) {Untouched : Type 0} → map (λ (r : Row). r.number) rs ≡ order → unnumbered rs ≡ 0
@@ -51,9 +53,9 @@ module _ (t : Outcome) (answers : t.number ≡ 0) where
       }
 
 -- row 6: turned down exactly if there is less room than needed
-pub short : (room needed n : ℕ) → too_short room needed ≡ some n ↔ (room < needed) × (n ≡ capped needed)
+pub short : (room needed n : ℕ) → too_short room needed ≡ Some n ↔ (room < needed) × (n ≡ capped needed)
 short room needed n = (by (ltb room needed) refl, λ h. rw (lt-ltb room needed h.0, h.1))
   where
-    by : (t : Bool) → ltb room needed ≡ t → found t (capped needed) none ≡ some n → (room < needed) × (n ≡ capped needed)
-    by true q e = (ltb-true room needed q, sym (some-injective _ n e))
-    by false q e = absurd (some-ne-none n (sym e))
+    by : (t : Bool) → ltb room needed ≡ t → found t (capped needed) None ≡ Some n → (room < needed) × (n ≡ capped needed)
+    by true q e = (ltb-true room needed q, sym (same_Some _ n e))
+    by false q e = absurd (some-none n (sym e))

@@ -1,5 +1,5 @@
 -- Laws of All, membership and Apart over lists made of numbers or of other lists, and their lengths. Assumes nothing.
-use Prim.Native.Nat.{ℕ, zero, suc, ◌+◌, ◌*◌, ◌≤◌, ◌<◌}
+use Prim.Native.Nat.{ℕ, zero, suc, ◌+◌, ◌-◌, ◌*◌, ◌≤◌, ◌<◌}
 use native.Mathlib.Omega.{arith}
 use native.Mathlib.Decide.{ℕ_discrete}
 use native.Mathlib.Nat.{add-zero, zero-add, suc-mul, zero-mul}
@@ -190,6 +190,10 @@ from_last a n = from-append a n 1
 pub length_from : (a n : ℕ) → length (from a n) ≡ n
 length_from a zero = refl
 length_from a (suc n) = ap suc (length_from (suc a) n)
+
+-- of the numbers from k up to n, the first and the others
+pub each_next : {A : Type 0} (f : ℕ → List A) (n k : ℕ) → k < n → each (from k (n - k)) f ≡ f k ++ each (from (k + 1) (n - (k + 1))) f
+each_next f n k h = let e : n - k ≡ suc (n - (k + 1)) = omega arith in rw e (ap (λ m. f k ++ each (from m (n - (k + 1))) f) (omega arith))
 
 -- as many for each
 pub length-each : {A B : Type 0} (f : A → List B) (m : ℕ) (xs : List A) → ((x : A) → length (f x) ≡ m) → length (each xs f) ≡ length xs * m

@@ -6,11 +6,11 @@ use lib.ListN.{length, get_or}
 use mathlib.Core.Path.{◌≡◌, refl, sym, ◌∙◌, ap, subst}
 use mathlib.Core.Bool.{Bool, true, false}
 use mathlib.Core.Logic.{◌⊎◌, inl, inr, ◌↔◌}
-use mathlib.Core.Option.{Option, none, some, some-injective, some-ne-none}
+use Rattle.std.specs.Prelude.{Option, None as none, Some as some}
+use Rattle.std.proofs.lemmas.Option.{same_Some}
+use Rattle.answers.proofs.Options.{some-none}
 use mathlib.Core.List.{List}
-use Rattle.answers.specs.declared.Place.{Place}
-use Rattle.answers.specs.declared.Place.TheVariants.{At, Nowhere}
-use Rattle.answers.specs.First.{found, first_from, first_where, Least, LeastWith, NoneBelow, FirstIn, here, later, NoneIn, placed}
+use Rattle.answers.specs.First.{found, first_from, first_where, Least, LeastWith, NoneBelow, FirstIn, here, later, NoneIn}
 use Rattle.answers.specs.Lists.{Some}
 use Rattle.answers.proofs.Bools.{clash, off}
 
@@ -80,7 +80,7 @@ module _ (p : ℕ → Bool) (n : ℕ) where
   first_none e = by first_cases
     where
       by : ((m : ℕ) × Least p n m × (first_where p n ≡ some m)) ⊎ (((k : ℕ) → k < n → p k ≡ false) × (first_where p n ≡ none)) → (k : ℕ) → k < n → p k ≡ false
-      by (inl r) = absurd (some-ne-none r.0 (sym r.2 ∙ e))
+      by (inl r) = absurd (some-none r.0 (sym r.2 ∙ e))
       by (inr r) = r.0
 
   pub none_first : ((k : ℕ) → k < n → p k ≡ false) → first_where p n ≡ none
@@ -94,8 +94,8 @@ module _ (p : ℕ → Bool) (n : ℕ) where
   first_some m e = by first_cases
     where
       by : ((m : ℕ) × Least p n m × (first_where p n ≡ some m)) ⊎ (((k : ℕ) → k < n → p k ≡ false) × (first_where p n ≡ none)) → Least p n m
-      by (inl r) = subst (Least p n) (some-injective r.0 m (sym r.2 ∙ e)) r.1
-      by (inr r) = absurd (some-ne-none m (sym e ∙ r.1))
+      by (inl r) = subst (Least p n) (same_Some r.0 m (sym r.2 ∙ e)) r.1
+      by (inr r) = absurd (some-none m (sym e ∙ r.1))
 
   pub some_first : {m : ℕ} → Least p n m → first_where p n ≡ some m
   some_first {m} l = by first_cases
@@ -195,12 +195,5 @@ module _ {p : ℕ → Bool} {n i : ℕ} (s : Seeking p n i) where
 
 -- nothing was found: the test did not hold
 pub not_found : (t : Bool) (n : ℕ) → found t n none ≡ none → t ≡ false
-not_found true n e = absurd (some-ne-none n e)
+not_found true n e = absurd (some-none n e)
 not_found false n e = refl
-
--- what a search answered, as the definition has it
-pub found_at : {q : Place} {x : ℕ} {o : Option ℕ} → q ≡ At x → placed q ≡ o → some x ≡ o
-found_at e h = sym (ap placed e) ∙ h
-
-pub found_none : {q : Place} {o : Option ℕ} → q ≡ Nowhere → placed q ≡ o → none ≡ o
-found_none e h = sym (ap placed e) ∙ h

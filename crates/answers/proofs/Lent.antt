@@ -2,21 +2,18 @@
 use Prim.Native.Nat.{ℕ, suc, ◌+◌, ◌≤◌}
 use native.Mathlib.Omega.{arith}
 use lib.ListN.{length, set, drop, length-append}
-use lib.Seq.{sets, length-sets, sets-eq, set_out, drop-append_seam}
+use lib.Seq.{sets, length-sets, sets-eq, drop-append_seam}
 use mathlib.Core.Path.{◌≡◌, refl, sym, ◌∙◌, ap}
 use mathlib.Core.List.{List, [], ◌∷◌, ◌++◌}
 use Rattle.answers.specs.Lent.{Wrote, filled}
 
-sets-append : {A : Type 0} (buf : List A) (at : ℕ) (xs ys : List A) → sets buf at (xs ++ ys) ≡ sets (sets buf at xs) (at + length xs) ys
-sets-append buf at [] ys = let e : at + 0 ≡ at = omega arith in rw e
-sets-append buf at (x ∷ xs) ys = let e : at + suc (length xs) ≡ suc at + length xs = omega arith in rw e (sets-append (set buf at x) (suc at) xs ys)
+pub sets_append : {A : Type 0} (buf : List A) (at : ℕ) (xs ys : List A) → sets buf at (xs ++ ys) ≡ sets (sets buf at xs) (at + length xs) ys
+sets_append buf at [] ys = let e : at + 0 ≡ at = omega arith in rw e
+sets_append buf at (x ∷ xs) ys = let e : at + suc (length xs) ≡ suc at + length xs = omega arith in rw e (sets_append (set buf at x) (suc at) xs ys)
 
--- one element, inside and beyond the end
+-- one element
 pub wrote_one : {A : Type 0} (buf : List A) (at : ℕ) {x y : A} → x ≡ y → Wrote buf at (y ∷ []) (set buf at x) (at + 1)
 wrote_one buf at e = record { place = refl; holds = ap (set buf at) e }
-
-pub wrote_out : {A : Type 0} (buf : List A) (at : ℕ) (y : A) → length buf ≤ at → Wrote buf at (y ∷ []) buf (at + 1)
-wrote_out buf at y h = record { place = refl; holds = sym (set_out buf at y h) }
 
 pub wrote_nothing : {A : Type 0} (buf : List A) (at : ℕ) → Wrote buf at [] buf at
 wrote_nothing buf at = record { place = omega arith; holds = refl }
@@ -27,7 +24,7 @@ wrote_after {buf = buf} {at = at} {xs = xs} {ys = ys} p q =
     let i = p.place in
     let j = q.place in
     let l = length-append xs ys in
-    record { place = omega arith; holds = q.holds ∙ (λ t. sets (p.holds t) (i t) ys) ∙ sym (sets-append buf at xs ys) }
+    record { place = omega arith; holds = q.holds ∙ (λ t. sets (p.holds t) (i t) ys) ∙ sym (sets_append buf at xs ys) }
 
 pub wrote_recast : {A : Type 0} {buf new : List A} {at next : ℕ} {xs ys : List A} → xs ≡ ys → Wrote buf at xs new next → Wrote buf at ys new next
 wrote_recast e p = rw (← e) p

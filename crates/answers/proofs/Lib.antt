@@ -6,6 +6,9 @@ pub mod Bounds
 pub mod Lent
 pub mod Lists
 pub mod OneToOne
+pub mod Options
+pub mod Results
 pub mod Rows
 pub mod ByRows
 pub mod Settled
+pub mod Putting

@@ -5,7 +5,8 @@ use lib.Dec.{eqb}
 use borrow.Author.Tests.{eqb-false}
 use mathlib.Core.Path.{◌≡◌, refl, sym, ◌∙◌, ap}
 use mathlib.Core.Bool.{Bool, true, false}
-use mathlib.Core.Option.{Option, none, some, some-ne-none}
+use Rattle.std.specs.Prelude.{Option, None, Some}
+use Rattle.answers.proofs.Options.{some-none}
 use mathlib.Core.List.{List, [], ◌∷◌, ◌++◌}
 use Rattle.answers.specs.declared.Outcome.{Outcome}
 use Rattle.answers.specs.Outcome.{Row, row, refusal, cause, unless, first_refusal}
@@ -14,8 +15,8 @@ use Rattle.answers.specs.Lists.{tally, how_many, All}
 -- what the rows give, from the first on: each is passed, until one refuses the call or none is left
 pub data RowsGive : List Row → Outcome → Outcome → Type 0 where
   answers : {t : Outcome} → RowsGive [] t t
-  refuses : {n v : ℕ} {o : Option ℕ} {rs : List Row} {t : Outcome} → o ≡ some v → RowsGive (row n o ∷ rs) t (refusal n v)
-  passes : {n : ℕ} {o : Option ℕ} {rs : List Row} {t u : Outcome} → o ≡ none → RowsGive rs t u → RowsGive (row n o ∷ rs) t u
+  refuses : {n v : ℕ} {o : Option ℕ} {rs : List Row} {t : Outcome} → o ≡ Some v → RowsGive (row n o ∷ rs) t (refusal n v)
+  passes : {n : ℕ} {o : Option ℕ} {rs : List Row} {t u : Outcome} → o ≡ None → RowsGive rs t u → RowsGive (row n o ∷ rs) t u
 
 pub rows_give : {rs : List Row} {t u : Outcome} → RowsGive rs t u → u ≡ first_refusal rs t
 rows_give answers = refl
@@ -30,10 +31,10 @@ pub left_all : (whole : List Row) (t : Outcome) → Left whole t whole
 left_all whole t = record { leads = λ h. rows_give h }
 
 module _ {whole rows : List Row} {t : Outcome} {n : ℕ} {o : Option ℕ} (l : Left whole t (row n o ∷ rows)) where
-  pub left_next : none ≡ o → Left whole t rows
+  pub left_next : None ≡ o → Left whole t rows
   left_next e = record { leads = λ h. l.leads (passes (sym e) h) }
 
-  pub left_turn : {v : ℕ} → some v ≡ o → refusal n v ≡ first_refusal whole t
+  pub left_turn : {v : ℕ} → Some v ≡ o → refusal n v ≡ first_refusal whole t
   left_turn e = l.leads (refuses (sym e))
 
 pub left_done : {whole : List Row} {t : Outcome} → Left whole t [] → t ≡ first_refusal whole t
@@ -46,7 +47,7 @@ refusals_append (r ∷ rs) qs t = ap (unless r.number r.beside) (refusals_append
 
 -- no row's cause is there
 abbrev pub Clear : List Row → Type 0
-Clear rs = All (λ (r : Row). r.beside ≡ none) rs
+Clear rs = All (λ (r : Row). r.beside ≡ None) rs
 
 -- how many rows have no number, that is, 0
 abbrev pub unnumbered : List Row → ℕ
@@ -60,15 +61,15 @@ answered_clear (r ∷ rs) t n e = by (eqb r.number 0) refl n r.beside refl e (an
         → (unless r.number o (first_refusal rs t)).number ≡ 0
         → (unnumbered rs ≡ 0 → (first_refusal rs t).number ≡ 0 → Clear rs) → Clear (r ∷ rs)
     by true q n o p e go = absurd (omega arith)
-    by false q n none p e go = (p, go n e)
-    by false q n (some v) p e go = absurd (eqb-false r.number 0 q e)
+    by false q n None p e go = (p, go n e)
+    by false q n (Some v) p e go = absurd (eqb-false r.number 0 q e)
 
 pub clear_answered : (rs : List Row) (t : Outcome) → Clear rs → first_refusal rs t ≡ t
 clear_answered [] t c = refl
 clear_answered (r ∷ rs) t c = ap (λ (o : Option ℕ). unless r.number o (first_refusal rs t)) c.0 ∙ clear_answered rs t c.1
 
-pub no-cause : (t : Bool) → cause t ≡ none → t ≡ false
-no-cause true e = absurd (some-ne-none 0 e)
+pub no-cause : (t : Bool) → cause t ≡ None → t ≡ false
+no-cause true e = absurd (some-none 0 e)
 no-cause false e = refl
 
 -- a call that the first rows refuse is refused whatever comes after them
@@ -79,5 +80,5 @@ still_refused (r ∷ rs) qs t u z n = by r.beside n (still_refused rs qs t u z)
     by : (o : Option ℕ) → ((unless r.number o (first_refusal rs t)).number ≡ 0 → ⊥)
         → (((first_refusal rs t).number ≡ 0 → ⊥) → first_refusal rs t ≡ first_refusal (rs ++ qs) u)
         → unless r.number o (first_refusal rs t) ≡ unless r.number o (first_refusal (rs ++ qs) u)
-    by none n go = go n
-    by (some v) n go = refl
+    by None n go = go n
+    by (Some v) n go = refl

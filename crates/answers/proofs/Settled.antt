@@ -5,7 +5,7 @@ use borrow.Author.Tests.{ne_eqb, lt-ltb, le-ltb, ltb-false}
 use lib.Dec.{ltb}
 use mathlib.Core.Path.{◌≡◌, ◌∙◌, ap}
 use mathlib.Core.Bool.{cond}
-use mathlib.Core.Option.{none, some}
+use Rattle.std.specs.Prelude.{None, Some}
 use mathlib.Core.List.{List}
 use Rattle.answers.specs.declared.Outcome.{Outcome}
 use Rattle.answers.specs.Outcome.{Row, first_refusal}
@@ -15,16 +15,16 @@ use Rattle.answers.proofs.Rows.{RowsGive, rows_give}
 
 -- a count below 2^64 against the room
 module _ (room : ℕ) {needed : ℕ} where
-  pub short_over : room < 2 ^ 64 → 2 ^ 64 ≤ needed → too_short room needed ≡ some (2 ^ 64 - 1)
+  pub short_over : room < 2 ^ 64 → 2 ^ 64 ≤ needed → too_short room needed ≡ Some (2 ^ 64 - 1)
   short_over r h = let l : room < needed = omega arith in rw (lt-ltb room needed l, le-ltb needed (2 ^ 64) h)
 
-  pub short_by : room < needed → needed < 2 ^ 64 → too_short room needed ≡ some needed
+  pub short_by : room < needed → needed < 2 ^ 64 → too_short room needed ≡ Some needed
   short_by l h = rw (lt-ltb room needed l, lt-ltb needed (2 ^ 64) h)
 
-  pub long_enough : needed ≤ room → too_short room needed ≡ none
+  pub long_enough : needed ≤ room → too_short room needed ≡ None
   long_enough l = rw (le-ltb room needed l)
 
-  pub enough : too_short room needed ≡ none → needed ≤ room
+  pub enough : too_short room needed ≡ None → needed ≤ room
   enough e = ltb-false room needed (not_found (ltb room needed) (capped needed) e)
 
 -- a refusal leaves all as it was

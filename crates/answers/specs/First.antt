@@ -1,23 +1,20 @@
 -- "First": the least number below n at which a test holds, as the code seeks it. And "first" of a property, of numbers or of the elements of a list, for what
 -- document 01 says without a test.
-use Rattle.std.specs.Prelude.{ℕ, zero, suc, ◌≤◌, ◌<◌, ◌≡◌, Bool, true, false, List, ◌∷◌}
-use Rattle.std.proofs.Math.Option.{Option, none, some}
-use Rattle.answers.specs.declared.Place.{Place}
-use Rattle.answers.specs.declared.Place.TheVariants.{At, Nowhere}
+use Rattle.std.specs.Prelude.{ℕ, zero, suc, ◌≤◌, ◌<◌, ◌≡◌, Bool, true, false, List, ◌∷◌, Option, None, Some}
 use Rattle.answers.specs.Lists.{All}
 
 abbrev pub found : Bool → ℕ → Option ℕ → Option ℕ
-found true a rest = some a
+found true a rest = Some a
 found false a rest = rest
 
 -- the first of two
 abbrev pub or_else : Option ℕ → Option ℕ → Option ℕ
-or_else none o = o
-or_else (some i) o = some i
+or_else None o = o
+or_else (Some i) o = Some i
 
 -- among the n numbers from a on
 unfoldable pub first_from : (ℕ → Bool) → ℕ → ℕ → Option ℕ
-first_from p a zero = none
+first_from p a zero = None
 first_from p a (suc n) = found (p a) a (first_from p (suc a) n)
 
 abbrev pub first_where : (ℕ → Bool) → ℕ → Option ℕ
@@ -34,11 +31,6 @@ pub record Until (p : ℕ → Bool) (n m : ℕ) : Type 0 where
   pub within : m ≤ n
   pub none_yet : (k : ℕ) → k < m → p k ≡ false
   pub stops : m < n → p m ≡ true
-
--- the code's answer to such a search
-abbrev pub placed : Place → Option ℕ
-placed (At x) = some x
-placed Nowhere = none
 
 -- m is the least number below n with a property; `Least p` says it of the property that the test p holds
 pub record LeastWith (P : ℕ → Type 0) (n m : ℕ) : Type 0 where

@@ -1,7 +1,6 @@
 -- Lent buffers: what a call leaves in one, and row 6 of "Turned down".
-use Rattle.std.specs.Prelude.{ℕ, ◌+◌, ◌-◌, ◌^◌, eqb, ltb, length, drop, ◌≡◌, cond, List, ◌++◌}
+use Rattle.std.specs.Prelude.{ℕ, ◌+◌, ◌-◌, ◌^◌, eqb, ltb, length, drop, ◌≡◌, cond, List, ◌++◌, Option, None}
 use Rattle.std.proofs.lemmas.List.Edits.{sets}
-use Rattle.std.proofs.Math.Option.{Option, none}
 use Rattle.answers.specs.declared.Outcome.{Outcome}
 use Rattle.answers.specs.First.{found}
 
@@ -11,7 +10,7 @@ capped n = cond (ltb n (2 ^ 64)) n (2 ^ 64 - 1)
 
 -- 6: output shorter than needed
 abbrev pub too_short : ℕ → ℕ → Option ℕ
-too_short room needed = found (ltb room needed) (capped needed) none
+too_short room needed = found (ltb room needed) (capped needed) None
 
 -- the elements are written from the first place on; those past them are untouched
 abbrev pub filled : {A : Type 0} → List A → List A → List A

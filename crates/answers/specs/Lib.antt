@@ -5,3 +5,4 @@ pub mod Outcome
 pub mod ByRows
 pub mod Lent
 pub mod Lists
+pub mod Writer

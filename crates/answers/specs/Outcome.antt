@@ -1,6 +1,5 @@
 -- What a call tells, and the table "Turned down" of document 01 as a list of its rows.
-use Rattle.std.specs.Prelude.{ℕ, Bool, true, false, List, [], ◌∷◌}
-use Rattle.std.proofs.Math.Option.{Option, none, some}
+use Rattle.std.specs.Prelude.{ℕ, Bool, true, false, List, [], ◌∷◌, Option, None, Some}
 use Rattle.answers.specs.declared.Outcome.{Outcome}
 
 -- refused: the number and the value beside it
@@ -25,12 +24,12 @@ row number beside = record { number = number; beside = beside }
 
 -- a cause without a place of its own: 0 stands beside it
 abbrev pub cause : Bool → Option ℕ
-cause true = some 0
-cause false = none
+cause true = Some 0
+cause false = None
 
 abbrev pub unless : ℕ → Option ℕ → Outcome → Outcome
-unless number none t = t
-unless number (some beside) t = refusal number beside
+unless number None t = t
+unless number (Some beside) t = refusal number beside
 
 -- the first row whose cause is there refuses the call; without one it is answered
 abbrev pub first_refusal : List Row → Outcome → Outcome

@@ -1,3 +1,2 @@
--- Laws of literals and lists.
-pub mod Signed
+-- Laws of lists.
 pub mod Lists

@@ -1,22 +1,17 @@
--- Laws of codes, of the number of clauses, of the loop that counts them, and of the places where clauses begin. Assumes nothing.
+-- Laws of codes, of the number of clauses, and of the places where clauses begin. Assumes nothing.
 use Prim.Native.Nat.{ℕ, zero, suc, ◌+◌, ◌*◌, ◌-◌, ◌/◌, ◌≤◌, ◌<◌}
 use native.Mathlib.Omega.{arith}
-use native.Mathlib.Numerals.{add-one}
 use borrow.Author.Tests.{ne_eqb, lt-ltb, le-ltb}
 use lib.Dec.{eqb}
 use lib.IntN.{ℤ, pos, negsuc, nat_abs}
-use lib.ListN.{length, get_or, take, drop, drop_of_length-le, length-take}
-use lib.Seq.{drop-cons, drop-drop}
+use lib.ListN.{length, get_or, drop}
+use lib.Seq.{take-append_seam, drop-append_seam}
 use mathlib.Core.Path.{◌≡◌, refl, sym, ◌∙◌, ap}
 use mathlib.Core.Bool.{Bool, true, false, not, cond}
-use mathlib.Core.Option.{Option}
-use mathlib.Core.List.{List, [], ◌∷◌}
-use Rattle.answers.specs.declared.Place.{Place}
-use Rattle.answers.specs.declared.Place.TheVariants.{At, Nowhere}
-use Rattle.answers.specs.First.{placed, or_else}
+use mathlib.Core.List.{List, [], ◌∷◌, ◌++◌}
 use Rattle.answers.specs.Lists.{tally}
 use Rattle.answers.proofs.Bools.{clash}
-use Rattle.answers.proofs.Lists.{many_most, many_parted}
+use Rattle.answers.proofs.Lists.{many_parted}
 use Rattle.cnf.specs.Literals.{closes, code_of, beyond, unclosed}
 use Rattle.cnf.specs.Clauses.{split_step, split, clause_count, place_after}
 
@@ -63,14 +58,6 @@ pub closed_rest : (l : ℤ) (ls : List ℤ) → unclosed (l ∷ ls) ≡ false �
 closed_rest l [] h = refl
 closed_rest l (m ∷ ls) h = sym (unclosed_tail l m ls) ∙ h
 
--- a first search that found a place settles both, else the second does
-module _ (p : Place) (first other : Option ℕ) (e : placed p ≡ first) where
-  pub place_first : {i : ℕ} → p ≡ At i → placed p ≡ or_else first other
-  place_first q = e ∙ rw (sym e ∙ ap placed q)
-
-  pub place_other : p ≡ Nowhere → {o : Option ℕ} → o ≡ other → o ≡ or_else first other
-  place_other q h = h ∙ rw (sym e ∙ ap placed q)
-
 -- the clauses of a list that ends in 0 are as many as it has zeros
 pub split_count : (ls : List ℤ) → unclosed ls ≡ false → length (split ls) ≡ clause_count ls
 unfolding split
@@ -86,46 +73,9 @@ split_count (l ∷ m ∷ ls) h = one_more (closes l) (closes m) (split ls) ∙ a
     one_more false false [] = refl
     one_more false false (c ∷ cs) = refl
 
--- at the head of the loop that counts: the clauses counted and those of the rest are all
-pub record ClausesCounted (ls : List ℤ) (i n : ℕ) : Type 0 where
-  pub within : i ≤ length ls
-  pub few : n ≤ i
-  pub rest : n + clause_count (drop i ls) ≡ clause_count ls
-
-pub count_start : {ls : List ℤ} → ClausesCounted ls 0 0
-count_start = record { within = omega arith; few = omega arith; rest = omega arith }
-
-module _ {ls : List ℤ} {i n : ℕ} (c : ClausesCounted ls i n) where
-  turn : i < length ls → (t : Bool) → closes (get_or ls i (pos 0)) ≡ t → n + tally t (clause_count (drop (i + 1) ls)) ≡ clause_count ls
-  turn h t e = rw (← e) (rw add-one (ap (λ r. n + clause_count r) (sym (drop-cons ls i (pos 0) h)) ∙ c.rest))
-
-  pub count_closed : i < length ls → closes (get_or ls i (pos 0)) ≡ true → ClausesCounted ls (i + 1) (n + 1)
-  count_closed h e =
-      let f = c.few in
-      let r = turn h true e in
-      record { within = omega arith; few = omega arith; rest = omega arith }
-
-  pub count_other : i < length ls → closes (get_or ls i (pos 0)) ≡ false → ClausesCounted ls (i + 1) n
-  count_other h e = let f = c.few in record { within = omega arith; few = omega arith; rest = turn h false e }
-
-  -- the next m elements
-  counted_part : (m : ℕ) → n + (clause_count (take m (drop i ls)) + clause_count (drop (i + m) ls)) ≡ clause_count ls
-  counted_part m =
-      let parts = many_parted closes (drop i ls) m in
-      let rest : clause_count (drop m (drop i ls)) ≡ clause_count (drop (i + m) ls) = ap clause_count (drop-drop m i ls) in
-      let all = c.rest in
-      omega arith
-
-  pub count_part : {k : ℕ} (m : ℕ) → i + m ≤ length ls → k ≡ clause_count (take m (drop i ls)) → ClausesCounted ls (i + m) (n + k)
-  count_part {k} m h e =
-      let f = c.few in
-      let most = many_most closes (take m (drop i ls)) in
-      let long = length-take m (drop i ls) in
-      let all = counted_part m in
-      record { within = h; few = omega arith; rest = omega arith }
-
-  pub count_end : length ls ≤ i → n ≡ clause_count ls
-  count_end h = let r : n + 0 ≡ clause_count ls = ap (λ r. n + clause_count r) (sym (drop_of_length-le ls h)) ∙ c.rest in omega arith
+-- the clauses of two lists, one after the other
+pub count_append : (ls ms : List ℤ) → clause_count (ls ++ ms) ≡ clause_count ls + clause_count ms
+count_append ls ms = rw (take-append_seam, drop-append_seam) at (many_parted closes (ls ++ ms) (length ls))
 
 -- the place after some clauses
 pub place_zero : (ls : List ℤ) → place_after 0 ls ≡ 0

@@ -1,6 +1,5 @@
 -- "Literals are signed 32-bit, minus for 'not'; 0 closes a clause", and the refusals of V and of a list against V.
-use Rattle.std.specs.Prelude.{ℕ, zero, suc, ◌+◌, ◌*◌, ◌-◌, ltb, ℤ, pos, negsuc, nat_abs, length, get_or, Bool, true, false, not, List}
-use Rattle.std.proofs.Math.Option.{Option, none}
+use Rattle.std.specs.Prelude.{ℕ, zero, suc, ◌+◌, ◌*◌, ◌-◌, ltb, ℤ, pos, negsuc, nat_abs, length, get_or, Bool, true, false, not, List, Option, None}
 use Rattle.answers.specs.First.{found, or_else, first_where}
 
 -- 0 closes a clause
@@ -39,4 +38,4 @@ unclosed ls = not (closes (get_or ls (length ls - 1) (pos 0)))
 
 -- 16: literal beyond V, or list non-empty and not ending in 0; first such index, else list length
 abbrev pub wrong_list : ℕ → List ℤ → Option ℕ
-wrong_list v ls = or_else (first_where (beyond_at v ls) (length ls)) (found (unclosed ls) (length ls) none)
+wrong_list v ls = or_else (first_where (beyond_at v ls) (length ls)) (found (unclosed ls) (length ls) None)

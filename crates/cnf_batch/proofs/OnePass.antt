@@ -8,7 +8,7 @@ use lib.ListN.{length, get_or, drop, drop_of_length-le}
 use lib.Seq.{drop-cons}
 use mathlib.Core.Path.{◌≡◌, refl, sym, ◌∙◌, ap, subst}
 use mathlib.Core.Bool.{Bool, true, false, ◌||◌}
-use mathlib.Core.Option.{Option, none}
+use Rattle.std.specs.Prelude.{Option, None}
 use mathlib.Core.List.{List, [], ◌∷◌}
 use Rattle.answers.specs.First.{found, or_else}
 use Rattle.answers.specs.Outcome.{answer, refusal}
@@ -54,7 +54,7 @@ module _ {words : List ℕ} {ls : List ℤ} {i satisfied clause : ℕ} (r : Clau
     left_at = subst (AllRead words ls satisfied clause) (rw add-one (drop-cons ls i (pos 0) h)) r.lists
 
     pub read_beyond : beyond_at (length words) ls i ≡ true → refusal 16 i ≡ reading_answer words ls
-    read_beyond e = left_turn (row_16 words ls) (ap (λ (o : Option ℕ). or_else o (found (unclosed ls) (length ls) none)) (seek_found r.seeking h e refl))
+    read_beyond e = left_turn (row_16 words ls) (ap (λ (o : Option ℕ). or_else o (found (unclosed ls) (length ls) None)) (seek_found r.seeking h e refl))
 
     module _ (within : beyond_at (length words) ls i ≡ false) where
       pub read_close : closes lit ≡ true → ClausesRead words ls (i + 1) (bit_and satisfied clause) 0
@@ -74,10 +74,10 @@ module _ {words : List ℕ} {ls : List ℤ} {i satisfied clause : ℕ} (r : Clau
       }
 
   module _ (h : length ls ≤ i) where
-    ends : {t : Bool} → t ≡ unclosed ls → found t (length ls) none ≡ wrong_list (length words) ls
+    ends : {t : Bool} → t ≡ unclosed ls → found t (length ls) None ≡ wrong_list (length words) ls
     ends e =
-        ap (λ (t : Bool). found t (length ls) none) e
-        ∙ ap (λ (o : Option ℕ). or_else o (found (unclosed ls) (length ls) none)) (seek_none r.seeking h refl)
+        ap (λ (t : Bool). found t (length ls) None) e
+        ∙ ap (λ (o : Option ℕ). or_else o (found (unclosed ls) (length ls) None)) (seek_none r.seeking h refl)
 
     pub read_unclosed : true ≡ unclosed ls → refusal 16 (length ls) ≡ reading_answer words ls
     read_unclosed e = left_turn (row_16 words ls) (ends e)

@@ -1,15 +1,14 @@
 -- Document 01's number and values tell every answer from every other. Assumes nothing.
-use Prim.Native.Nat.{◌≤◌}
+use Prim.Native.Nat.{ℕ, ◌≤◌}
 use native.Mathlib.Omega.{arith}
 use lib.Dec.{eqb}
 use mathlib.Core.Path.{◌≡◌, refl, ap}
 use mathlib.Core.Bool.{cond}
+use Rattle.std.specs.Prelude.{Result, Ok, Err}
 use Rattle.answers.specs.declared.Outcome.{Outcome}
 use Rattle.answers.proofs.OneToOne.{OneToOne, one_to_one, Between, number-eqb}
 use Rattle.cnf_batch.specs.declared.BatchRefusal.{BatchRefusal}
 use Rattle.cnf_batch.specs.declared.BatchRefusal.TheVariants.{Variables, Words, List as WrongList}
-use Rattle.cnf_batch.specs.declared.BatchAnswer.{BatchAnswer}
-use Rattle.cnf_batch.specs.declared.BatchAnswer.TheVariants.{Word, Refused}
 use Rattle.cnf_batch.specs.Answer.{batch_refusal_outcome, batch_outcome}
 
 -- the refusals are 17, 21 and 16
@@ -35,12 +34,12 @@ batch_refusals = record { from = from; back = back }
 batch_answers : OneToOne batch_outcome
 batch_answers = record { from = from; back = back }
   where
-    from : Outcome → BatchAnswer
-    from t = cond (eqb t.number 0) (Word t.first) (Refused (batch_refusals.from t))
+    from : Outcome → Result ℕ BatchRefusal
+    from t = cond (eqb t.number 0) (Ok t.first) (Err (batch_refusals.from t))
 
-    back : (a : BatchAnswer) → from (batch_outcome a) ≡ a
-    back (Word w) = refl
-    back (Refused r) = rw (number-eqb batch_numbers r {n = 0} (omega arith)) (ap Refused (batch_refusals.back r))
+    back : (a : Result ℕ BatchRefusal) → from (batch_outcome a) ≡ a
+    back (Ok w) = refl
+    back (Err r) = rw (number-eqb batch_numbers r {n = 0} (omega arith)) (ap Err (batch_refusals.back r))
 
-pub batch_outcome_one_to_one : (a b : BatchAnswer) → batch_outcome a ≡ batch_outcome b → a ≡ b
+pub batch_outcome_one_to_one : (a b : Result ℕ BatchRefusal) → batch_outcome a ≡ batch_outcome b → a ≡ b
 batch_outcome_one_to_one = one_to_one batch_answers

@@ -8,7 +8,7 @@ use lib.Seq.{ext_get_or}
 use mathlib.Core.Path.{◌≡◌, refl, sym, ◌∙◌, ap, subst}
 use mathlib.Core.Bool.{Bool, true, false}
 use mathlib.Core.Logic.{◌↔◌}
-use mathlib.Core.Option.{Option, none, some}
+use Rattle.std.specs.Prelude.{Option, None, Some}
 use mathlib.Core.List.{List, [], ◌∷◌, ◌++◌, map}
 use Rattle.answers.specs.Lists.{All, ◌∈◌, up_to}
 use Rattle.answers.specs.Outcome.{answer, refusal, unless}
@@ -108,8 +108,8 @@ module _ (v : ℕ) (ls : List ℤ) (words : List ℕ) where
           sym (words_right v ls words (few h) e)
           ∙ ap (λ (p : Option ℕ). unless 16 p (answer (satisfied_word words ls) 0 0)) (ap (λ (m : ℕ). wrong_list m ls) e ∙ n)
 
-      pub refused_list : {i : ℕ} → wrong_list v ls ≡ some i → batch_answer v ls words ≡ refusal 16 i
+      pub refused_list : {i : ℕ} → wrong_list v ls ≡ Some i → batch_answer v ls words ≡ refusal 16 i
       refused_list n = reads n
 
-      pub answered : wrong_list v ls ≡ none → batch_answer v ls words ≡ answer (satisfied_word words ls) 0 0
+      pub answered : wrong_list v ls ≡ None → batch_answer v ls words ≡ answer (satisfied_word words ls) 0 0
       answered n = reads n

@@ -5,37 +5,27 @@ ghost use Rattle.std.specs.Prelude.{◌≡◌, false, ◌<◌, length, get_or, p
 ghost use Rattle.cnf.specs.Literals.{closes, beyond_at};
 ghost use Rattle.cnf_batch.specs.Batch.{literal_word};
 ghost use Rattle.cnf_batch.specs.Call.{batch_answer, reading_answer};
-ghost use Rattle.cnf_batch.specs.Answer.{batch_outcome};
+ghost use Rattle.cnf_batch.specs.Answer.{batch_outcome, batch_refusal_outcome};
 
-use answers::Outcome;
+use answers::{Outcome, refused};
 
 // Why a call is refused: 17 (for V alone), 21 and 16.
-#[derive(Clone, Copy)]
+#[derive(Clone, Copy, Debug, PartialEq, Eq)]
 pub enum BatchRefusal {
     Variables,
     Words,
     List(usize),
 }
 
-// The word of the lists that satisfy the clauses, or a refusal.
-#[derive(Clone, Copy)]
-pub enum BatchAnswer {
-    Word(u64),
-    Refused(BatchRefusal),
-}
+// Document 01's number, and the value beside it.
+impl From<BatchRefusal> for Outcome {
+    ghost from_gives = { λ r t. t ≡ batch_refusal_outcome r };
 
-impl BatchAnswer {
-    // Document 01's number and values.
-    pub fn outcome(self) -> Outcome
-        ensures { result ≡ batch_outcome self }
-    {
-        match self {
-            BatchAnswer::Word(w) => answers::answered(w, 0, 0),
-            BatchAnswer::Refused(why) => match why {
-                BatchRefusal::Variables => answers::refused(17, 0),
-                BatchRefusal::Words => answers::refused(21, 0),
-                BatchRefusal::List(i) => answers::refused(16, i as u64),
-            },
+    fn from(refusal: BatchRefusal) -> Outcome {
+        match refusal {
+            BatchRefusal::Variables => refused(17, 0),
+            BatchRefusal::Words => refused(21, 0),
+            BatchRefusal::List(i) => refused(16, i as u64),
         }
     }
 }
@@ -48,46 +38,41 @@ fn literal_word(list: &[i32], i: usize, words: &[u64]) -> u64
 {
     let k = cnf::code_at(list, i);
     let w = words[k / 2 - 1];
-    if k % 2 == 0 {
-        return w;
-    }
-    !w
+    if k % 2 == 0 { w } else { !w }
 }
 
 // 16, and the word. `satisfied` has the lists that satisfy the clauses read, `clause` those with a true literal in the clause that is being read.
-fn read_clauses(list: &[i32], words: &[u64]) -> BatchAnswer
+fn read_clauses(list: &[i32], words: &[u64]) -> Result<u64, BatchRefusal>
     ensures { batch_outcome result ≡ reading_answer words.now list.now }
 {
-    let mut satisfied: u64 = 18446744073709551615;
+    let mut satisfied = u64::MAX;
     let mut clause: u64 = 0;
-    let mut i: usize = 0;
-    while i < list.len() {
+    for i in 0..list.len() {
         if cnf::code_at(list, i) / 2 > words.len() {
-            return BatchAnswer::Refused(BatchRefusal::List(i));
+            return Err(BatchRefusal::List(i));
         }
         if cnf::closes_at(list, i) {
-            satisfied = satisfied & clause;
+            satisfied &= clause;
             clause = 0;
         } else {
-            clause = clause | literal_word(list, i, words);
+            clause |= literal_word(list, i, words);
         }
-        i += 1;
     }
     if cnf::is_unclosed(list) {
-        return BatchAnswer::Refused(BatchRefusal::List(list.len()));
+        return Err(BatchRefusal::List(list.len()));
     }
-    BatchAnswer::Word(satisfied)
+    Ok(satisfied)
 }
 
 // Refusals 17, 21 and 16 in order. The list is read once, for 16 and for the word.
-pub fn satisfied(variables: usize, list: &[i32], words: &[u64]) -> BatchAnswer
+pub fn satisfied(variables: usize, list: &[i32], words: &[u64]) -> Result<u64, BatchRefusal>
     ensures { batch_outcome result ≡ batch_answer variables list.now words.now }
 {
     if cnf::too_many_variables(variables) {
-        return BatchAnswer::Refused(BatchRefusal::Variables);
+        return Err(BatchRefusal::Variables);
     }
     if words.len() != variables {
-        return BatchAnswer::Refused(BatchRefusal::Words);
+        return Err(BatchRefusal::Words);
     }
     read_clauses(list, words)
 }

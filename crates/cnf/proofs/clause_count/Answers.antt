@@ -1,16 +1,18 @@
--- `cnf::clause_count` meets its contract: the loop keeps `ClausesCounted`. Assumes nothing.
-use Prim.Native.Nat.{ℕ, ◌+◌, ◌-◌}
+-- `cnf::clause_count` meets its contract: the parts counted and what is left have all clauses. Assumes nothing.
 use native.Mathlib.Omega.{arith}
-use lib.IntN.{ℤ}
-use mathlib.Core.Path.{◌≡◌, subst}
-use mathlib.Core.List.{List}
-use Rattle.cnf.proofs.Lists.{ClausesCounted, count_part}
+use lib.ListN.{length, length-append}
+use mathlib.Core.Path.{◌∙◌, ap}
+use Rattle.answers.proofs.Lists.{many_most}
+use Rattle.cnf.specs.Literals.{closes}
+use Rattle.cnf.specs.Clauses.{clause_count}
+use Rattle.cnf.proofs.Lists.{count_append}
 use Rattle.cnf.proofs.clause_count.Goals as goal
 
-pub loop-i-preserved : goal.loop-i-preserved
-loop-i-preserved c =
-    let list : List ℤ = c.args.list.now in
-    let at : ℕ = c.loop-i.i in
-    let part : ℕ = at + 2147483648 - at in
-    let counted : ClausesCounted list (at + 2147483648) (c.loop-i.n + c.closed_in.result) = let n : at + part ≡ at + 2147483648 = omega arith in subst (λ (k : ℕ). ClausesCounted list k (c.loop-i.n + c.closed_in.result)) n (count_part c.loop-i.invariant part (omega arith) c.closed_in.ensures) in
-    counted
+pub loop-part-preserved : goal.loop-part-preserved
+loop-part-preserved c =
+    let i = c.loop-part.invariant in
+    let parts = c.in-Some.ensures.steps.1.0 in
+    let most = many_most closes c.in-Some.part.now in
+    let long = simp length-append at (ap length parts) in
+    let count = simp count_append at (ap clause_count parts) in
+    record { size = c.in-Some.ensures.steps.0 ∙ i.size; few = omega arith; rest = omega arith }
