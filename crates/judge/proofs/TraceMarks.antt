@@ -1,73 +1,46 @@
 -- The walk in code: marking the cells that it passes. Assumes nothing.
-use Prim.Native.Nat.{ℕ, zero, suc, ◌-◌, ◌≤◌, ◌<◌}
+use Prim.Native.Nat.{ℕ, suc, ◌-◌, ◌≤◌, ◌<◌}
 use native.Mathlib.Omega.{arith}
 use lib.Dec.{eqb}
 use lib.ListN.{length, get_or, set, replicate, length-set, length-replicate, get_or-replicate}
 use lib.Seq.{get_or-set_same, get_or-set_other}
-use borrow.Author.Tests.{eqb-true, eqb-false}
+use borrow.Author.Tests.{eqb-true, eqb-false, eq-eqb, ne_eqb}
 use mathlib.Core.Path.{◌≡◌, refl, sym, ◌∙◌, ap}
 use mathlib.Core.Bool.{Bool, true, false, not, ◌&&◌, ◌||◌, cond, and_comm}
 use mathlib.Core.List.{List, [], ◌∷◌}
 use Rattle.answers.specs.First.{first_where}
 use Rattle.answers.proofs.First.{first_same}
 use Rattle.rules.specs.declared.Direction.{Direction}
-use Rattle.rules.specs.declared.Direction.TheVariants.{East as east}
 use Rattle.rules.specs.declared.Grid.{Grid}
 use Rattle.rules.specs.Directions.{opposite, other}
 use Rattle.rules.specs.Record.{size, most_cells, OnBoard}
 use Rattle.rules.specs.Board.{Board, neighbour}
 use Rattle.rules.specs.Drawing.{byte_link, link_at}
-use Rattle.rules.specs.Walk.{State, go, onto, step, onward, around, loop_cells, among}
-use Rattle.judge.specs.WalkMarks.{ones_at, left_after, unseen_at}
+use Rattle.rules.specs.Walk.{go, onto, around, loop_cells, among}
+use Rattle.judge.specs.WalkMarks.{ones_at, unseen_at}
 use Rattle.rules.specs.Judge.{white_at, off_loop_at}
 use Rattle.rules_board.proofs.Steps.{gone_on}
 
 -- to mark what is left of the walk gives the whole
 pub record Tracing (g : Grid) (ds : List ℕ) (s : ℕ) (seen₀ seen : List ℕ) (x : ℕ) (d : Direction) (left : ℕ) : Type 0 where
   pub on : OnBoard g x
-  pub long : length seen ≡ length seen₀
   pub rest : ones_at (around (go (neighbour g)) (onto (link_at ds)) s left (record { cell = x; way = d })) seen
       ≡ ones_at (loop_cells (size g) (neighbour g) (link_at ds) s) seen₀
-
-pub trace_start : {g : Grid} {s n : ℕ} (ds seen : List ℕ) → OnBoard g s → n ≡ size g → Tracing g ds s seen seen s east n
-trace_start {g} {s} ds seen o e =
-    record { on = o; long = refl; rest = ap (λ (n : ℕ). ones_at (around (go (neighbour g)) (onto (link_at ds)) s n (record { cell = s; way = east })) seen) e }
 
 module _ {g : Grid} {ds : List ℕ} {s : ℕ} {seen₀ seen : List ℕ} {x : ℕ} {d : Direction} {left : ℕ} (t : Tracing g ds s seen₀ seen x d left) where
   pub trace_end : left ≡ 0 → seen ≡ ones_at (loop_cells (size g) (neighbour g) (link_at ds) s) seen₀
   unfolding around ones_at
   trace_end e = rw e at t.rest
 
-  pub trace_on : {y n : ℕ} {c e : Direction} → 0 < left → y ≡ go (neighbour g) d x → c ≡ opposite d → e ≡ other (byte_link (get_or ds y 0)) c
-      → n ≡ left_after y s left → Tracing g ds s seen₀ (set seen x 1) y e n
-  unfolding around ones_at
-  trace_on {y} {n} {c} {e} h p q r f = record { on = gone_on d t.on p; long = length-set seen x 1 ∙ t.long; rest = by left refl h }
-    where
-      from : ℕ → State → List ℕ
-      from l z = around (go (neighbour g)) (onto (link_at ds)) s l z
+  module _ {y : ℕ} (p : y ≡ go (neighbour g) d x) where
+    pub trace_back : 0 < left → y ≡ s → set seen x 1 ≡ ones_at (loop_cells (size g) (neighbour g) (link_at ds) s) seen₀
+    unfolding around ones_at
+    trace_back h e = let q : left ≡ suc (left - 1) = omega arith in rw (q, ← p, eq-eqb _ _ e) at t.rest
 
-      same : ◌≡◌ {A = State} (step (go (neighbour g)) (onto (link_at ds)) (record { cell = x; way = d })) (record { cell = y; way = e })
-      same = λ k. record { cell = sym p k; way = (sym (r ∙ (λ k. other (byte_link (get_or ds (p k) 0)) (q k)))) k }
-
-      after : (b : Bool) (l : ℕ) → n ≡ cond b 0 l
-          → ones_at (from n (record { cell = y; way = e })) (set seen x 1) ≡ ones_at (onward b (record { cell = y; way = e }) (λ z. from l z)) (set seen x 1)
-      after true l z = rw z
-      after false l z = rw z
-
-      by : (l : ℕ) → left ≡ l → 0 < l
-          → ones_at (from n (record { cell = y; way = e })) (set seen x 1) ≡ ones_at (loop_cells (size g) (neighbour g) (link_at ds) s) seen₀
-      by zero w h = absurd (omega arith)
-      by (suc l) w h =
-          after (eqb y s) l (let z : left - 1 ≡ l = omega arith in rw z at f)
-          ∙ (λ k. ones_at (onward (eqb (sym same k).cell s) (sym same k) (λ z. from l z)) (set seen x 1))
-          ∙ (rw w at t.rest)
-
-pub left_less : (y s left : ℕ) {n : ℕ} → 0 < left → n ≡ left_after y s left → n < left
-left_less y s left {n} h f = by (eqb y s) f
-  where
-    by : (b : Bool) → n ≡ cond b 0 (left - 1) → n < left
-    by true e = omega arith
-    by false e = omega arith
+    pub trace_on : {c e : Direction} {l : ℕ} → left ≡ suc l → (y ≡ s → ⊥) → c ≡ opposite d → e ≡ other (byte_link (get_or ds y 0)) c
+        → Tracing g ds s seen₀ (set seen x 1) y e l
+    unfolding around ones_at
+    trace_on h f q r = record { on = gone_on d t.on p; rest = rw (r, q) (rw (h, ← p, ne_eqb _ _ f) at t.rest) }
 
 -- a cell is marked exactly if it is in the list
 ones-at : (l ms : List ℕ) (x : ℕ) → x < length ms → get_or (ones_at l ms) x 0 ≡ cond (among x l) 1 (get_or ms x 0)

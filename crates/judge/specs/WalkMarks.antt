@@ -1,5 +1,5 @@
 -- The walk in code: cells are marked as it passes them.
-use Rattle.std.specs.Prelude.{ℕ, ◌-◌, eqb, get_or, set, Bool, ◌&&◌, cond, List, [], ◌∷◌}
+use Rattle.std.specs.Prelude.{ℕ, eqb, get_or, set, Bool, ◌&&◌, List, [], ◌∷◌}
 use Rattle.rules.specs.Board.{Board}
 use Rattle.rules.specs.Judge.{white_at}
 
@@ -7,10 +7,6 @@ use Rattle.rules.specs.Judge.{white_at}
 unfoldable pub ones_at : List ℕ → List ℕ → List ℕ
 ones_at [] ms = ms
 ones_at (x ∷ l) ms = ones_at l (set ms x 1)
-
--- the steps left after one that leads to y: none if that is s
-abbrev pub left_after : ℕ → ℕ → ℕ → ℕ
-left_after y s left = cond (eqb y s) 0 (left - 1)
 
 -- a white cell without a mark, where the cells of the walk are marked
 abbrev pub unseen_at : Board → List ℕ → List ℕ → ℕ → Bool

@@ -6,7 +6,7 @@ use lib.ListN.{length, get_or}
 use borrow.Author.Tests.{lt-ltb, le-ltb, le-leb, lt-leb, eq-eqb, ne_eqb}
 use mathlib.Core.Path.{◌≡◌, refl, sym, ◌∙◌, ap}
 use mathlib.Core.Bool.{Bool, true, false, not}
-use mathlib.Core.Option.{Option, some}
+use Rattle.std.specs.Prelude.{Option, Some}
 use mathlib.Core.List.{List, [], ◌∷◌, ◌++◌}
 use Rattle.answers.specs.Lists.{how_many}
 use Rattle.answers.specs.First.{found, first_from, first_where}
@@ -15,6 +15,7 @@ use Rattle.rules.specs.declared.Direction.TheVariants.{North as north, East as e
 use Rattle.rules.specs.declared.Cell.{Cell}
 use Rattle.rules.specs.declared.Cell.TheVariants.{Open, Clue as Clued, Shaded}
 use Rattle.rules.specs.declared.Grid.{Grid}
+use Rattle.rules.specs.declared.board.Drawn.{Drawn}
 use Rattle.rules.specs.Directions.{opposite, bit}
 use Rattle.rules.specs.Record.{Puzzle, size, OnBoard, RecordFits, DrawingFits, puzzle}
 use Rattle.rules.specs.Board.{Board, neighbour, open_cell, line, clue_of, clues_from, board, grid_board}
@@ -47,12 +48,15 @@ module _ {g : Grid} {s : List ℕ} {x : ℕ} (h : RecordFits g s) (inside : x < 
   pub is_opened : {c : Cell} → c ≡ get_or (puzzle g s).cells x Open → open_cell c ≡ (grid_board g s).is_open x
   is_opened e = let l = puzzle-filled g s in ap open_cell e ∙ open-at (puzzle g s).cells x (omega arith)
 
--- a cell of a grid with its drawing
-pub on_drawn : {g : Grid} {s ds : List ℕ} {x : ℕ} → DrawingFits g s ds → x < size g → OnBoard g x
-on_drawn d h = record { sides = d.record_fits.sides; inside = h }
+-- a board with its drawing fits, and so its cells are on it
+pub drawing_fits : (d : Drawn) → DrawingFits d.board.grid d.board.record.now d.drawing.now
+drawing_fits d = record { record_fits = d.board.fits; drawn = d.drawn }
+
+pub on_drawn : {x : ℕ} (d : Drawn) → x < size d.board.grid → OnBoard d.board.grid x
+on_drawn d h = record { sides = d.board.fits.sides; inside = h }
 
 -- so has the drawing a byte for its neighbour
-pub beside : {g : Grid} {n x y : ℕ} → OnBoard g x → n ≡ size g → (d : Direction) → some y ≡ neighbour g d x → y < n
+pub beside : {g : Grid} {n x y : ℕ} → OnBoard g x → n ≡ size g → (d : Direction) → Some y ≡ neighbour g d x → y < n
 beside o l d e = let i = (stays_on o d e).inside in omega arith
 
 module _ (b : Board) (ds : List ℕ) (x : ℕ) where

@@ -3,8 +3,7 @@ use Prim.Native.Nat.{ℕ, ◌+◌, ◌≤◌, ◌<◌}
 use native.Mathlib.Omega.{arith}
 use native.Mathlib.Numerals.{add-one}
 use lib.ListN.{length, get_or, take, length-take}
-use lib.Seq.{take_all}
-use mathlib.Core.Path.{◌≡◌, refl, sym, ◌∙◌, ap}
+use mathlib.Core.Path.{◌≡◌, sym}
 use mathlib.Core.Bool.{Bool, true, false}
 use Rattle.answers.specs.Lists.{tally, how_many}
 use Rattle.answers.proofs.Lists.{many_most, many_next}
@@ -20,9 +19,6 @@ pub record CountedTo (p : Puzzle) (d : Direction) (x : ℕ) (test : ℕ → Bool
   pub here : y ≡ get_or (line p d x) j x
   pub counted : count ≡ how_many test (take j (line p d x))
 
-pub count_start : {y : ℕ} (p : Puzzle) (d : Direction) (x : ℕ) (test : ℕ → Bool) → y ≡ get_or (line p d x) 0 x → CountedTo p d x test y 0 0
-count_start p d x test e = record { here = e; counted = refl }
-
 tally-bit : (t : Bool) (n : ℕ) → n + bit t ≡ tally t n
 tally-bit true n = omega arith
 tally-bit false n = omega arith
@@ -30,9 +26,6 @@ tally-bit false n = omega arith
 module _ {p : Puzzle} {d : Direction} {x : ℕ} {test : ℕ → Bool} {y count j : ℕ} (c : CountedTo p d x test y count j) where
   pub count_few : count ≤ j
   count_few = omega (arith, many_most test (take j (line p d x)), length-take j (line p d x))
-
-  pub count_end : length (line p d x) ≤ j → count ≡ how_many test (line p d x)
-  count_end h = c.counted ∙ ap (how_many test) (take_all j (line p d x) h)
 
   module _ (h : j < length (line p d x)) where
     pub count_inside : y < size p.grid

@@ -1,6 +1,5 @@
 -- The tests of a cell by name, and row 12 asked of one cell.
-use Rattle.std.specs.Prelude.{ℕ, eqb, get_or, Bool, false, not, List}
-use Rattle.std.proofs.Math.Option.{Option}
+use Rattle.std.specs.Prelude.{ℕ, eqb, get_or, Bool, false, not, List, Option}
 use Rattle.answers.specs.First.{first_where}
 use Rattle.answers.specs.Lists.{how_many}
 use Rattle.rules.specs.declared.Cell.{Cell}

@@ -20,45 +20,30 @@ pub fn weight(d: Direction) -> u8
 pub fn linked(b: u8, d: Direction) -> bool
     ensures { result ≡ byte_link b d }
 {
-    let w = weight(d);
-    b / w % 2 == 1
-}
-
-// 1 for a link, 0 for none.
-fn link_bit(b: u8, d: Direction) -> usize
-    ensures { result ≡ bit (byte_link b d) }
-{
-    let l = linked(b, d);
-    if l {
-        return 1;
-    }
-    0
+    b / weight(d) % 2 == 1
 }
 
 // The number of a cell's links.
 pub fn degree(b: u8) -> usize
     ensures { result ≡ degree (byte_link b) }
 {
-    let n = link_bit(b, Direction::North);
-    let e = link_bit(b, Direction::East);
-    let s = link_bit(b, Direction::South);
-    let w = link_bit(b, Direction::West);
-    n + e + s + w
+    usize::from(linked(b, Direction::North))
+        + usize::from(linked(b, Direction::East))
+        + usize::from(linked(b, Direction::South))
+        + usize::from(linked(b, Direction::West))
 }
 
 // The first of three ways that is linked, or the last.
 fn first_of(b: u8, x: Direction, y: Direction, z: Direction) -> Direction
     ensures { result ≡ pick (byte_link b x) (byte_link b y) x y z }
 {
-    let p = linked(b, x);
-    if p {
-        return x;
+    if linked(b, x) {
+        x
+    } else if linked(b, y) {
+        y
+    } else {
+        z
     }
-    let q = linked(b, y);
-    if q {
-        return y;
-    }
-    z
 }
 
 // The link that is not d, of a byte that has two.
@@ -77,8 +62,5 @@ pub fn other(b: u8, d: Direction) -> Direction
 pub fn black_bit(b: u8) -> usize
     ensures { result ≡ bit (eqb b 0x10) }
 {
-    if b == 0x10 {
-        return 1;
-    }
-    0
+    usize::from(b == 0x10)
 }

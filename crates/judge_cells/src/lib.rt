@@ -2,7 +2,7 @@
 #![tactic(auto)]
 
 // What the judge seeks cell by cell.
-#[derive(Clone, Copy)]
+#[derive(Clone, Copy, Debug, PartialEq, Eq)]
 pub enum Test {
     DrawingByte,
     Touching,

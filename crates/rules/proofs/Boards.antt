@@ -8,7 +8,7 @@ use lib.Dec.{ltb}
 use borrow.Author.Tests.{ltb-true, ltb-false, leb-true, lt-ltb, le-leb}
 use mathlib.Core.Path.{◌≡◌, refl, sym, ◌∙◌, ap}
 use mathlib.Core.Bool.{Bool, true, false, not, ◌&&◌}
-use mathlib.Core.Option.{Option, none, some}
+use Rattle.std.specs.Prelude.{Option, None, Some}
 use mathlib.Core.Logic.{◌⊎◌, inl, inr}
 use mathlib.Core.List.Memᴰ
 use mathlib.Core.List.{List, [], ◌∷◌}
@@ -33,10 +33,10 @@ Ahead west x y = x ≡ suc y
 
 -- a step stays inside; opposite directions lead back; distinct ones to distinct cells; east is the next cell, north and west have lower numbers
 pub record Wired (size : ℕ) (next : Direction → ℕ → Option ℕ) : Type 0 where
-  pub inside : (d : Direction) (x y : ℕ) → next d x ≡ some y → (x < size) × (y < size)
-  pub back : (d : Direction) (x y : ℕ) → next d x ≡ some y → next (opposite d) y ≡ some x
-  pub apart : (d e : Direction) (x y : ℕ) → next d x ≡ some y → next e x ≡ some y → d ≡ e
-  pub ahead : (d : Direction) (x y : ℕ) → next d x ≡ some y → Ahead d x y
+  pub inside : (d : Direction) (x y : ℕ) → next d x ≡ Some y → (x < size) × (y < size)
+  pub back : (d : Direction) (x y : ℕ) → next d x ≡ Some y → next (opposite d) y ≡ Some x
+  pub apart : (d e : Direction) (x y : ℕ) → next d x ≡ Some y → next e x ≡ Some y → d ≡ e
+  pub ahead : (d : Direction) (x y : ℕ) → next d x ≡ Some y → Ahead d x y
 
 pub record Laws (b : Board) : Type 0 where
   pub wired : Wired b.size b.next
@@ -49,11 +49,11 @@ pub record Laws (b : Board) : Type 0 where
 abbrev pub Filled : Puzzle → Type 0
 Filled p = length p.cells ≡ size p.grid
 
-pub when_some : (p : Bool) (t y : ℕ) → when p t ≡ some y → (p ≡ true) × (t ≡ y)
+pub when_some : (p : Bool) (t y : ℕ) → when p t ≡ Some y → (p ≡ true) × (t ≡ y)
 when_some true t y e = (refl, cc)
 when_some false t y e = let z : ◌≡◌ {A = ℕ} 0 1 = cc in absurd (omega arith)
 
-pub when_true : (p : Bool) (t y : ℕ) → p ≡ true → t ≡ y → when p t ≡ some y
+pub when_true : (p : Bool) (t y : ℕ) → p ≡ true → t ≡ y → when p t ≡ Some y
 when_true p t y h e = rw (h, e)
 
 open_below : (cs : List Cell) (x : ℕ) → open_at cs x ≡ true → x < length cs
@@ -92,12 +92,12 @@ module _ (g : Grid) where
     pub there : inside g d x ≡ true
     pub is : target g d x ≡ y
 
-  pub has : (d : Direction) (x y : ℕ) → neighbour g d x ≡ some y → Has d x y
+  pub has : (d : Direction) (x y : ℕ) → neighbour g d x ≡ Some y → Has d x y
   has d x y e = let w = when_some (ltb x (size g) && inside g d x) (target g d x) y e in
       let t = and_both (ltb x (size g)) (inside g d x) w.0 in
       record { within = ltb-true _ _ t.0; there = t.1; is = w.1 }
 
-  pub has_of : (d : Direction) (x y : ℕ) → Has d x y → neighbour g d x ≡ some y
+  pub has_of : (d : Direction) (x y : ℕ) → Has d x y → neighbour g d x ≡ Some y
   has_of d x y h = when_true (ltb x (size g) && inside g d x) (target g d x) y (both_and _ _ (lt-ltb _ _ h.within) h.there) h.is
 
   back_inside : (d : Direction) (x : ℕ) → x < size g → inside g d x ≡ true → inside g (opposite d) (target g d x) ≡ true
@@ -223,7 +223,7 @@ module _ (g : Grid) where
   not_far west x h = omega arith
 
   -- a line whose next cells are neighbours in its direction stays inside, and ends where there is no next cell
-  module _ (d : Direction) (next : ℕ → Option ℕ) (goes : (x y : ℕ) → next x ≡ some y → neighbour g d x ≡ some y) where
+  module _ (d : Direction) (next : ℕ → Option ℕ) (goes : (x y : ℕ) → next x ≡ Some y → neighbour g d x ≡ Some y) where
     outward_stays : (fuel x : ℕ) (seen : List ℕ) → All (λ y. y < size g) seen → All (λ y. y < size g) (outward next fuel x seen)
     unfolding outward
     outward_stays zero x seen k = k
@@ -231,23 +231,23 @@ module _ (g : Grid) where
       where
         by : (o : Option ℕ) → next x ≡ o → ((y : ℕ) → y < size g → All (λ y. y < size g) (outward next fuel y (y ∷ seen)))
             → All (λ y. y < size g) (beyond o seen (λ y. outward next fuel y (y ∷ seen)))
-        by none e go = k
-        by (some y) e go = go y (goes_back d x y (has d x y (goes x y e))).within
+        by None e go = k
+        by (Some y) e go = go y (goes_back d x y (has d x y (goes x y e))).within
 
     outward-ends : (fuel x : ℕ) (seen : List ℕ) (from : ℕ) → get_or seen 0 from ≡ x → far d x ≤ fuel
-        → next (get_or (outward next fuel x seen) 0 from) ≡ none
+        → next (get_or (outward next fuel x seen) 0 from) ≡ None
     unfolding outward
     outward-ends zero x seen from e h = rw e (by (next x) refl)
       where
-        by : (o : Option ℕ) → next x ≡ o → next x ≡ none
-        by none q = q
-        by (some y) q = let n : far d y < far d x = nearer d x y (has d x y (goes x y q)) in absurd (omega arith)
+        by : (o : Option ℕ) → next x ≡ o → next x ≡ None
+        by None q = q
+        by (Some y) q = let n : far d y < far d x = nearer d x y (has d x y (goes x y q)) in absurd (omega arith)
     outward-ends (suc fuel) x seen from e h = by (next x) refl (λ y. outward-ends fuel y (y ∷ seen) from refl)
       where
-        by : (o : Option ℕ) → next x ≡ o → ((y : ℕ) → far d y ≤ fuel → next (get_or (outward next fuel y (y ∷ seen)) 0 from) ≡ none)
-            → next (get_or (beyond o seen (λ y. outward next fuel y (y ∷ seen))) 0 from) ≡ none
-        by none q go = rw e q
-        by (some y) q go = let n : far d y < far d x = nearer d x y (has d x y (goes x y q)) in go y (omega arith)
+        by : (o : Option ℕ) → next x ≡ o → ((y : ℕ) → far d y ≤ fuel → next (get_or (outward next fuel y (y ∷ seen)) 0 from) ≡ None)
+            → next (get_or (beyond o seen (λ y. outward next fuel y (y ∷ seen))) 0 from) ≡ None
+        by None q go = rw e q
+        by (Some y) q go = let n : far d y < far d x = nearer d x y (has d x y (goes x y q)) in go y (omega arith)
 
   pub wired : Wired (size g) (neighbour g)
   wired = record {
@@ -295,18 +295,18 @@ module _ (p : Puzzle) where
   clues_in_order = clue_order p.cells 0
 
   -- a line goes on to a neighbour
-  pub line_goes : (d : Direction) (x y : ℕ) → line_next p d x ≡ some y → neighbour p.grid d x ≡ some y
+  pub line_goes : (d : Direction) (x y : ℕ) → line_next p d x ≡ Some y → neighbour p.grid d x ≡ Some y
   line_goes d x y = by (neighbour p.grid d x)
     where
-      by : (o : Option ℕ) → unless_stopped (stops_before p) o ≡ some y → o ≡ some y
-      by none e = e
-      by (some z) e = ap some (when_some (not (stops_before p z)) z y e).1
+      by : (o : Option ℕ) → unless_stopped (stops_before p) o ≡ Some y → o ≡ Some y
+      by None e = e
+      by (Some z) e = ap Some (when_some (not (stops_before p z)) z y e).1
 
   -- where it goes on, by whether it stops before the neighbour
-  pub next_by : (d : Direction) (x : ℕ) {y : ℕ} {t : Bool} → neighbour p.grid d x ≡ some y → stops_before p y ≡ t → line_next p d x ≡ when (not t) y
+  pub next_by : (d : Direction) (x : ℕ) {y : ℕ} {t : Bool} → neighbour p.grid d x ≡ Some y → stops_before p y ≡ t → line_next p d x ≡ when (not t) y
   next_by d x {y} e h = ap (unless_stopped (stops_before p)) e ∙ ap (λ t. when (not t) y) h
 
-  pub line-ends : (d : Direction) (x : ℕ) → x < size p.grid → line_next p d (get_or (line p d x) 0 x) ≡ none
+  pub line-ends : (d : Direction) (x : ℕ) → x < size p.grid → line_next p d (get_or (line p d x) 0 x) ≡ None
   line-ends d x h = outward-ends p.grid d (line_next p d) (line_goes d) (size p.grid) x [] x refl (not_far p.grid d x h)
 
   clue_stays : (cs : List Cell) (x : ℕ) → x + length cs ≤ size p.grid

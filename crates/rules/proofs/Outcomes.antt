@@ -4,6 +4,7 @@ use native.Mathlib.Omega.{arith}
 use lib.Dec.{eqb, leb}
 use mathlib.Core.Path.{◌≡◌, refl, ap}
 use mathlib.Core.Bool.{cond}
+use Rattle.std.specs.Prelude.{Result, Ok, Err}
 use Rattle.answers.specs.declared.Outcome.{Outcome}
 use Rattle.answers.proofs.OneToOne.{OneToOne, Between, number-eqb, number_under, number_over}
 use Rattle.rules.specs.declared.Kind.{Kind}
@@ -11,14 +12,10 @@ use Rattle.rules.specs.declared.Kind.TheVariants.{One, Two, Three}
 use Rattle.rules.specs.declared.Grid.{Grid}
 use Rattle.rules.specs.declared.RecordRefusal.{RecordRefusal}
 use Rattle.rules.specs.declared.RecordRefusal.TheVariants.{Length, Kind as OtherKind, Side, Size, NotACell}
-use Rattle.rules.specs.declared.Parsed.{Parsed}
-use Rattle.rules.specs.declared.Parsed.TheVariants.{Accepted, Refused}
 use Rattle.rules.specs.declared.RuleRefusal.{RuleRefusal}
 use Rattle.rules.specs.declared.RuleRefusal.TheVariants.{DrawingByte, Touching, ClueNotMet, LinkUnmatched, NotTwoLinks, NotOneLoop}
 use Rattle.rules.specs.declared.JudgeRefusal.{JudgeRefusal}
 use Rattle.rules.specs.declared.JudgeRefusal.TheVariants.{Record, DrawingLength, Rule}
-use Rattle.rules.specs.declared.Verdict.{Verdict}
-use Rattle.rules.specs.declared.Verdict.TheVariants.{Yes, No}
 use Rattle.rules.specs.Record.{kind_number, read_kind, kind_of, grid_answer, record_refusal_outcome, parsed_outcome}
 use Rattle.rules.specs.Judge.{rule_refusal_outcome, judge_refusal_outcome, verdict_outcome}
 
@@ -66,12 +63,12 @@ grid-told g = λ i. record { kind = by g.kind i; rows = g.rows; columns = g.colu
 pub readings : OneToOne parsed_outcome
 readings = record { from = from; back = back }
   where
-    from : Outcome → Parsed
-    from t = cond (eqb t.number 0) (Accepted (grid_told t)) (Refused (record_refusals.from t))
+    from : Outcome → Result Grid RecordRefusal
+    from t = cond (eqb t.number 0) (Ok (grid_told t)) (Err (record_refusals.from t))
 
-    back : (p : Parsed) → from (parsed_outcome p) ≡ p
-    back (Accepted g) = ap Accepted (grid-told g)
-    back (Refused r) = rw (number-eqb record_numbers r {n = 0} (omega arith)) (ap Refused (record_refusals.back r))
+    back : (p : Result Grid RecordRefusal) → from (parsed_outcome p) ≡ p
+    back (Ok g) = ap Ok (grid-told g)
+    back (Err r) = rw (number-eqb record_numbers r {n = 0} (omega arith)) (ap Err (record_refusals.back r))
 
 -- the rules' are 10 to 15
 pub rule_numbers : Between rule_refusal_outcome 10 15
@@ -128,9 +125,9 @@ judge_refusals = record { from = from; back = back }
 pub verdicts : OneToOne verdict_outcome
 verdicts = record { from = from; back = back }
   where
-    from : Outcome → Verdict
-    from t = cond (eqb t.number 0) Yes (No (judge_refusals.from t))
+    from : Outcome → Result Unit JudgeRefusal
+    from t = cond (eqb t.number 0) (Ok tt) (Err (judge_refusals.from t))
 
-    back : (v : Verdict) → from (verdict_outcome v) ≡ v
-    back Yes = refl
-    back (No r) = rw (number-eqb judge_numbers r {n = 0} (omega arith)) (ap No (judge_refusals.back r))
+    back : (v : Result Unit JudgeRefusal) → from (verdict_outcome v) ≡ v
+    back (Ok tt) = refl
+    back (Err r) = rw (number-eqb judge_numbers r {n = 0} (omega arith)) (ap Err (judge_refusals.back r))

@@ -8,7 +8,7 @@ use borrow.Author.Tests.{eqb-true, leb-true, lt-ltb, le-ltb, eq-eqb, ne_eqb, le-
 use mathlib.Core.Path.{◌≡◌, refl, sym, ◌∙◌, ap, subst}
 use mathlib.Core.Bool.{Bool, true, false, not, cond}
 use mathlib.Core.Logic.{inl, inr}
-use mathlib.Core.Option.{none, some}
+use Rattle.std.specs.Prelude.{None, Some, Option, Result, Ok, Err}
 use mathlib.Core.List.{List, [], ◌∷◌, ◌++◌}
 use Rattle.answers.proofs.First.{first_none}
 use Rattle.answers.proofs.Bools.{clash, and_both, or_left, or_right, or_neither}
@@ -24,17 +24,14 @@ use denote.Enum.Declared.{tag_of}
 use Rattle.rules.specs.declared.Cell.{Cell}
 use Rattle.rules.specs.contracts.Cell.{the_type}
 use Rattle.rules.specs.declared.Cell.TheVariants.{Open, Clue, Shaded}
-use Rattle.rules.specs.declared.CellCode.{CellCode}
-use Rattle.rules.specs.declared.CellCode.TheVariants.{Is, NotAllowed}
 use Rattle.rules.specs.declared.Kind.{Kind}
 use Rattle.rules.specs.declared.Layout.{Layout}
 use Rattle.rules.specs.declared.Layout.TheVariants.{Byte, Word}
-use Rattle.rules.specs.declared.KindField.TheVariants.{Is as IsKind, NotAllowed as NoKind}
 use Rattle.rules.specs.declared.Grid.{Grid}
 use Rattle.rules.specs.declared.RecordRefusal.{RecordRefusal}
-use Rattle.rules.specs.declared.Parsed.{Parsed}
-use Rattle.rules.specs.declared.Parsed.TheVariants.{Accepted, Refused}
-use Rattle.rules.specs.Board.{open_cell, board_of}
+use Rattle.rules.specs.declared.board.Board as code
+use Rattle.rules.specs.Board.{Board, open_cell, board_of, grid_board}
+use Rattle.rules.specs.Read.{puzzle_on, rules_board}
 use Rattle.rules.proofs.Boards.{Laws, Filled, laws}
 use Rattle.rules.proofs.Outcomes.{record_numbers, grid_told, grid-told}
 use Rattle.rules.specs.Record.{layout_of, read_kind, kind_of, kind_not_allowed, most_side, cell_bytes, most_number, direction_unit, direction_of, is_direction}
@@ -46,31 +43,31 @@ use Rattle.rules.specs.Record.{record_answer, IsAccepted, record_refusal_outcome
 
 -- a clue's code: its direction d and its number n
 clue_of : (k : Layout) (c d n : ℕ) → 1 ≤ d → d ≤ 4 → n ≤ most_number k → (c ≡ 0 → ⊥) → c / direction_unit k ≡ d → c % direction_unit k ≡ n
-    → Is (Clue (direction_of d) n) ≡ read_cell k c
+    → Some (Clue (direction_of d) n) ≡ read_cell k c
 clue_of k c d n low high m z q r = simp (ne_eqb c 0 z, q, r, le-leb 1 d low, le-leb d 4 high, le-leb n (most_number k) m)
 
-pub clue_code : (k : Layout) (c d n : ℕ) → 1 ≤ d → d ≤ 4 → n ≤ most_number k → c ≡ d * direction_unit k + n → Is (Clue (direction_of d) n) ≡ read_cell k c
+pub clue_code : (k : Layout) (c d n : ℕ) → 1 ≤ d → d ≤ 4 → n ≤ most_number k → c ≡ d * direction_unit k + n → Some (Clue (direction_of d) n) ≡ read_cell k c
 clue_code Byte c d n low high m e = clue_of Byte c d n low high m (λ z. omega arith) (omega arith) (omega arith)
 clue_code Word c d n low high m e = clue_of Word c d n low high m (λ z. omega arith) (omega arith) (omega arith)
 
 -- the codes of a direction from its first to its largest number
 pub clue_within : (k : Layout) (c d : ℕ) → 1 ≤ d → d ≤ 4 → d * direction_unit k ≤ c → c ≤ d * direction_unit k + most_number k
-    → Is (Clue (direction_of d) (c % direction_unit k)) ≡ read_cell k c
+    → Some (Clue (direction_of d) (c % direction_unit k)) ≡ read_cell k c
 clue_within Byte c d low high from to = clue_code Byte c d _ low high (omega arith) (omega arith)
 clue_within Word c d low high from to = clue_code Word c d _ low high (omega arith) (omega arith)
 
 -- what a code is read as
-pub data ReadAs (k : Layout) (c : ℕ) : CellCode → Type 0 where
-  as_open : c ≡ 0 → ReadAs k c (Is Open)
-  as_clue : (d n : ℕ) → 1 ≤ d → d ≤ 4 → n ≤ most_number k → c ≡ d * direction_unit k + n → ReadAs k c (Is (Clue (direction_of d) n))
-  as_shaded : c ≡ shaded_code k → ReadAs k c (Is Shaded)
-  as_none : ReadAs k c NotAllowed
+pub data ReadAs (k : Layout) (c : ℕ) : Option Cell → Type 0 where
+  as_open : c ≡ 0 → ReadAs k c (Some Open)
+  as_clue : (d n : ℕ) → 1 ≤ d → d ≤ 4 → n ≤ most_number k → c ≡ d * direction_unit k + n → ReadAs k c (Some (Clue (direction_of d) n))
+  as_shaded : c ≡ shaded_code k → ReadAs k c (Some Shaded)
+  as_none : ReadAs k c None
 
 pub read_as : (k : Layout) (c : ℕ) → ReadAs k c (read_cell k c)
 read_as k c = by (eqb c 0) refl (is_clue k c) refl (eqb c (shaded_code k)) refl
   where
     by : (s : Bool) → eqb c 0 ≡ s → (t : Bool) → is_clue k c ≡ t → (u : Bool) → eqb c (shaded_code k) ≡ u
-        → ReadAs k c (cond s (Is Open) (cond t (Is (Clue (direction_of (c / direction_unit k)) (c % direction_unit k))) (cond u (Is Shaded) NotAllowed)))
+        → ReadAs k c (cond s (Some Open) (cond t (Some (Clue (direction_of (c / direction_unit k)) (c % direction_unit k))) (cond u (Some Shaded) None)))
     by true z t e u f = as_open (eqb-true c 0 z)
     by false z true e u f =
         let (d, m) = and_both (is_direction (c / direction_unit k)) _ e in
@@ -79,30 +76,30 @@ read_as k c = by (eqb c 0) refl (is_clue k c) refl (eqb c (shaded_code k)) refl
     by false z false e true f = as_shaded (eqb-true _ _ f)
     by false z false e false f = as_none
 
-pub shaded-code : (k : Layout) (c : ℕ) → c ≡ shaded_code k → Is Shaded ≡ read_cell k c
+pub shaded-code : (k : Layout) (c : ℕ) → c ≡ shaded_code k → Some Shaded ≡ read_cell k c
 shaded-code Byte c e = rw e
 shaded-code Word c e = rw e
 
 -- what is neither 0 nor the code of a clue or a shaded cell is not allowed:
 no_code : (k : Layout) (c : ℕ) → (c ≡ 0 → ⊥) → ((d n : ℕ) → 1 ≤ d → d ≤ 4 → n ≤ most_number k → c ≡ d * direction_unit k + n → ⊥) → (c ≡ shaded_code k → ⊥)
-    → NotAllowed ≡ read_cell k c
+    → None ≡ read_cell k c
 no_code k c z no_clue not_shaded = by (read_as k c)
   where
-    by : {r : CellCode} → ReadAs k c r → NotAllowed ≡ r
+    by : {r : Option Cell} → ReadAs k c r → None ≡ r
     by (as_open e) = absurd (z e)
     by (as_clue d n low high m e) = absurd (no_clue d n low high m e)
     by (as_shaded e) = absurd (not_shaded e)
     by as_none = refl
 
 -- a number with no direction, one that is too large (with one byte none is), and all after the last clue but a shaded cell's
-pub no_direction : (k : Layout) (c : ℕ) → (c ≡ 0 → ⊥) → c < direction_unit k → NotAllowed ≡ read_cell k c
+pub no_direction : (k : Layout) (c : ℕ) → (c ≡ 0 → ⊥) → c < direction_unit k → None ≡ read_cell k c
 no_direction Byte c z h = no_code Byte c z (λ d n low high m e. omega arith) (λ e. omega arith)
 no_direction Word c z h = no_code Word c z (λ d n low high m e. omega arith) (λ e. omega arith)
 
-pub large_number : (c b : ℕ) → b * 0x1000 + 44 < c → c < (b + 1) * 0x1000 → NotAllowed ≡ read_cell Word c
+pub large_number : (c b : ℕ) → b * 0x1000 + 44 < c → c < (b + 1) * 0x1000 → None ≡ read_cell Word c
 large_number c b over under = no_code Word c (λ z. omega arith) (λ d n low high m e. omega arith) (λ e. omega arith)
 
-pub past_clues : (k : Layout) (c : ℕ) → 4 * direction_unit k + most_number k < c → (c ≡ shaded_code k → ⊥) → NotAllowed ≡ read_cell k c
+pub past_clues : (k : Layout) (c : ℕ) → 4 * direction_unit k + most_number k < c → (c ≡ shaded_code k → ⊥) → None ≡ read_cell k c
 past_clues Byte c h = no_code Byte c (λ z. omega arith) (λ d n low high m e. omega arith)
 past_clues Word c h = no_code Word c (λ z. omega arith) (λ d n low high m e. omega arith)
 
@@ -133,7 +130,7 @@ shaded_not_zero Word e z = omega arith
 pub open_sum : (k : Layout) (s : List ℕ) (x : ℕ) → not_allowed (read_cell k (cell_code k s x)) ≡ false → eqb (ends_sum k s x) 0 ≡ open_cell (cell_at k s x)
 open_sum k s x = by (read_as k (cell_code k s x))
   where
-    by : {r : CellCode} → ReadAs k (cell_code k s x) r → not_allowed r ≡ false → eqb (ends_sum k s x) 0 ≡ open_cell (cell_of r)
+    by : {r : Option Cell} → ReadAs k (cell_code k s x) r → not_allowed r ≡ false → eqb (ends_sum k s x) 0 ≡ open_cell (cell_of r)
     by (as_open e) h = eq-eqb _ 0 ((sum_zero k s x).0 e)
     by (as_clue d n low high m e) h = ne_eqb _ 0 (λ z. clue_not_zero k d n low e ((sum_zero k s x).1 z))
     by (as_shaded e) h = ne_eqb _ 0 (λ z. shaded_not_zero k e ((sum_zero k s x).1 z))
@@ -163,7 +160,7 @@ number_bound Word = omega arith
 code_number : (k : Layout) (c : ℕ) → number_of (cell_of (read_cell k c)) ≤ 44
 code_number k c = by (read_as k c)
   where
-    by : {r : CellCode} → ReadAs k c r → number_of (cell_of r) ≤ 44
+    by : {r : Option Cell} → ReadAs k c r → number_of (cell_of r) ≤ 44
     by (as_open e) = omega arith
     by (as_clue d n low high m e) = omega (arith, number_bound k)
     by (as_shaded e) = omega arith
@@ -242,27 +239,27 @@ module _ (s : List ℕ) (acc : IsAccepted s) where
 -- Rows that come after the reader's: none has its cause, so none of the reader's has, and the record is accepted
 module _ (s : List ℕ) where
   pub clear_parts : (qs : List Row) → Clear (record_rows s ++ qs) → Clear (record_rows s) × Clear qs
-  clear_parts qs c = (all_left (λ (r : Row). r.beside ≡ none) (record_rows s) qs c, all_right (λ (r : Row). r.beside ≡ none) (record_rows s) qs c)
+  clear_parts qs c = (all_left (λ (r : Row). r.beside ≡ None) (record_rows s) qs c, all_right (λ (r : Row). r.beside ≡ None) (record_rows s) qs c)
 
   pub clear_accepted : Clear (record_rows s) → IsAccepted s
   clear_accepted c = ap (λ (t : Outcome). t.number) (clear_answered (record_rows s) _ c)
 
 -- The causes of rows 1 to 5, by the code's tests
 module _ (s : List ℕ) where
-  pub short_record : length s < 6 → some 0 ≡ cause (wrong_length s)
+  pub short_record : length s < 6 → Some 0 ≡ cause (wrong_length s)
   short_record h = ap cause (sym (or_left _ _ (lt-ltb _ _ h)))
 
-  pub other_length : (word s 0 ≡ length s → ⊥) → some 0 ≡ cause (wrong_length s)
+  pub other_length : (word s 0 ≡ length s → ⊥) → Some 0 ≡ cause (wrong_length s)
   other_length h = ap cause (sym (or_right (ltb (length s) 6) _ (ap not (ne_eqb _ _ h))))
 
-  pub right_length : 6 ≤ length s → word s 0 ≡ length s → none ≡ cause (wrong_length s)
+  pub right_length : 6 ≤ length s → word s 0 ≡ length s → None ≡ cause (wrong_length s)
   right_length h e = rw (le-ltb _ _ h, eq-eqb _ _ e)
 
-  pub wrong-kind : NoKind ≡ read_kind (word s 2) → some 0 ≡ cause (wrong_kind s)
+  pub wrong-kind : None ≡ read_kind (word s 2) → Some 0 ≡ cause (wrong_kind s)
   wrong-kind e = ap (λ f. cause (kind_not_allowed f)) e
 
-  module _ {k : Kind} (e : IsKind k ≡ read_kind (word s 2)) where
-    pub right_kind : none ≡ cause (wrong_kind s)
+  module _ {k : Kind} (e : Some k ≡ read_kind (word s 2)) where
+    pub right_kind : None ≡ cause (wrong_kind s)
     right_kind = ap (λ f. cause (kind_not_allowed f)) e
 
     -- the grid of this kind is the record's
@@ -270,19 +267,19 @@ module _ (s : List ℕ) where
     grid_is = λ i. record { kind = kind_of (e i); rows = get_or s 4 0; columns = get_or s 5 0 }
 
 module _ {g h : Grid} (e : g ≡ h) where
-  pub wrong_rows : is_side (layout_of g.kind) g.rows ≡ false → some 0 ≡ cause (wrong_side h)
+  pub wrong_rows : is_side (layout_of g.kind) g.rows ≡ false → Some 0 ≡ cause (wrong_side h)
   wrong_rows f = ap cause (sym (or_left _ _ (ap not f))) ∙ ap (λ g. cause (wrong_side g)) e
 
-  pub wrong_columns : is_side (layout_of g.kind) g.columns ≡ false → some 0 ≡ cause (wrong_side h)
+  pub wrong_columns : is_side (layout_of g.kind) g.columns ≡ false → Some 0 ≡ cause (wrong_side h)
   wrong_columns f = ap cause (sym (or_right (not (is_side (layout_of g.kind) g.rows)) _ (ap not f))) ∙ ap (λ g. cause (wrong_side g)) e
 
-  pub right_sides : is_side (layout_of g.kind) g.rows ≡ true → is_side (layout_of g.kind) g.columns ≡ true → none ≡ cause (wrong_side h)
+  pub right_sides : is_side (layout_of g.kind) g.rows ≡ true → is_side (layout_of g.kind) g.columns ≡ true → None ≡ cause (wrong_side h)
   right_sides f k = rw (f, k) at (ap (λ g. cause (wrong_side g)) e)
 
-  pub other-size : (s : List ℕ) → (length s ≡ 6 + cell_bytes (layout_of g.kind) * size g → ⊥) → some 0 ≡ cause (wrong_size h s)
+  pub other-size : (s : List ℕ) → (length s ≡ 6 + cell_bytes (layout_of g.kind) * size g → ⊥) → Some 0 ≡ cause (wrong_size h s)
   other-size s f = ap (λ t. cause (not t)) (sym (ne_eqb _ _ f)) ∙ ap (λ g. cause (wrong_size g s)) e
 
-  pub right_size : (s : List ℕ) → length s ≡ 6 + cell_bytes (layout_of g.kind) * size g → none ≡ cause (wrong_size h s)
+  pub right_size : (s : List ℕ) → length s ≡ 6 + cell_bytes (layout_of g.kind) * size g → None ≡ cause (wrong_size h s)
   right_size s f = ap (λ t. cause (not t)) (sym (eq-eqb _ _ f)) ∙ ap (λ g. cause (wrong_size g s)) e
 
   pub cells_sought : (s : List ℕ) → first_where (wrong_cell g s) (size g) ≡ first_where (wrong_cell h s) (size h)
@@ -293,22 +290,17 @@ pub refusal-number : (r : RecordRefusal) → (record_refusal_outcome r).number �
 refusal-number r = number-not record_numbers r (omega arith)
 
 -- a refusal is passed up unchanged, whatever rows come after the reader's
-pub passes_up : (s : List ℕ) (qs : List Row) (t : Outcome) {p : Parsed} {r : RecordRefusal} → p ≡ Refused r → parsed_outcome p ≡ record_answer s
+pub passes_up : (s : List ℕ) (qs : List Row) (t : Outcome) (r : RecordRefusal) → record_refusal_outcome r ≡ record_answer s
     → record_refusal_outcome r ≡ first_refusal (record_rows s ++ qs) t
-passes_up s qs t {p} {r} q e =
-    let outcome : record_refusal_outcome r ≡ record_answer s = sym (ap parsed_outcome q) ∙ e in
-    outcome ∙ still_refused (record_rows s) qs _ t refl (λ z. refusal-number r (ap (λ (u : Outcome). u.number) outcome ∙ z))
+passes_up s qs t r e = e ∙ still_refused (record_rows s) qs _ t refl (λ z. refusal-number r (ap (λ (u : Outcome). u.number) e ∙ z))
 
-module _ (s : List ℕ) {p : Parsed} {g : Grid} (q : p ≡ Accepted g) (e : parsed_outcome p ≡ record_answer s) where
-  outcome : parsed_outcome (Accepted g) ≡ record_answer s
-  outcome = sym (ap parsed_outcome q) ∙ e
-
+module _ (s : List ℕ) (g : Grid) (e : grid_answer g ≡ record_answer s) where
   pub is_accepted : IsAccepted s
-  is_accepted = sym (ap (λ (u : Outcome). u.number) outcome)
+  is_accepted = sym (ap (λ (u : Outcome). u.number) e)
 
   pub read_grid : g ≡ grid_of s
   read_grid =
-      let all : grid_answer g ≡ grid_answer (grid_of s) = outcome ∙ clear_answered (record_rows s) _ (accepted_clear s is_accepted) in
+      let all : grid_answer g ≡ grid_answer (grid_of s) = e ∙ clear_answered (record_rows s) _ (accepted_clear s is_accepted) in
       sym (grid-told g) ∙ ap grid_told all ∙ grid-told (grid_of s)
 
   pub read_fits : RecordFits g s
@@ -319,3 +311,18 @@ module _ (s : List ℕ) {p : Parsed} {g : Grid} (q : p ≡ Accepted g) (e : pars
   goes_on rows t =
       ap (λ (g : Grid). first_refusal (rows g) t) read_grid ∙ sym
       (refusals_append (record_rows s) (rows (grid_of s)) t ∙ clear_answered (record_rows s) _ (accepted_clear s is_accepted))
+
+-- The board that was read is the one of the record's rules
+module _ (s : List ℕ) (b : code.Board) (told : grid_answer b.grid ≡ record_answer s) (same : b.record.now ≡ s) where
+  pub same_board : rules_board b ≡ board_of s
+  same_board = λ i. grid_board (read_grid s b.grid told i) (same i)
+
+  pub same_puzzle : puzzle_on b ≡ puzzle (grid_of s) s
+  same_puzzle = λ i. puzzle (read_grid s b.grid told i) (same i)
+
+  -- and the call is left to the rows after the reader's
+  pub board_goes_on : (rows : Board → List Row) (t : Outcome) → first_refusal (rows (rules_board b)) t
+      ≡ first_refusal (record_rows s ++ rows (board_of s)) t
+  board_goes_on rows t =
+      ap (λ (x : Board). first_refusal (rows x) t) same_board ∙ sym
+      (refusals_append (record_rows s) (rows (board_of s)) t ∙ clear_answered (record_rows s) _ (accepted_clear s (is_accepted s b.grid told)))

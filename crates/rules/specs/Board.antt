@@ -1,6 +1,5 @@
 -- The board of a grid: all that the rules (and what stands on them) know of it.
-use Rattle.std.specs.Prelude.{ℕ, zero, suc, ◌+◌, ◌-◌, ◌%◌, leb, ltb, get_or, Bool, true, false, not, ◌&&◌, List, [], ◌∷◌, ◌++◌}
-use Rattle.std.proofs.Math.Option.{Option, none, some}
+use Rattle.std.specs.Prelude.{ℕ, zero, suc, ◌+◌, ◌-◌, ◌%◌, leb, ltb, get_or, Bool, true, false, not, ◌&&◌, List, [], ◌∷◌, ◌++◌, Option, None, Some}
 use Rattle.rules.specs.declared.Direction.{Direction}
 use Rattle.rules.specs.declared.Direction.TheVariants.{North as north, East as east, South as south, West as west}
 use Rattle.rules.specs.declared.Cell.{Cell}
@@ -24,8 +23,8 @@ pub record Board : Type 0 where
   pub clues : List Clue
 
 abbrev pub when : Bool → ℕ → Option ℕ
-when true x = some x
-when false x = none
+when true x = Some x
+when false x = None
 
 -- is there a cell in that direction
 abbrev pub inside : Grid → Direction → ℕ → Bool
@@ -57,8 +56,8 @@ open_at (c ∷ cs) zero = open_cell c
 open_at (c ∷ cs) (suc x) = open_at cs x
 
 abbrev pub beyond : Option ℕ → List ℕ → (ℕ → List ℕ) → List ℕ
-beyond none seen go = seen
-beyond (some y) seen go = go y
+beyond None seen go = seen
+beyond (Some y) seen go = go y
 
 -- the cells met from x on, the last met first; at most `fuel` of them
 unfoldable pub outward : (ℕ → Option ℕ) → ℕ → ℕ → List ℕ → List ℕ
@@ -83,8 +82,8 @@ stops_before p y = stops_before_clues p.grid.kind && clue_cell (get_or p.cells y
 
 -- none where the line stops before it
 abbrev pub unless_stopped : (ℕ → Bool) → Option ℕ → Option ℕ
-unless_stopped stops none = none
-unless_stopped stops (some y) = when (not (stops y)) y
+unless_stopped stops None = None
+unless_stopped stops (Some y) = when (not (stops y)) y
 
 -- the cell after x on a line in a direction, if any: the neighbour, unless the line stops before it
 abbrev pub line_next : Puzzle → Direction → ℕ → Option ℕ

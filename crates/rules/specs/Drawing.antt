@@ -1,6 +1,5 @@
 -- "The drawing and its judge" of document 01: a drawing, its bytes, and what makes it a solution.
-use Rattle.std.specs.Prelude.{ℕ, ◌<◌, ◌+◌, ◌*◌, ◌/◌, ◌%◌, eqb, length, get_or, take, ◌≡◌, Bool, true, false, not, ◌&&◌, ◌⊎◌, List}
-use Rattle.std.proofs.Math.Option.{Option, some}
+use Rattle.std.specs.Prelude.{ℕ, ◌<◌, ◌+◌, ◌*◌, ◌/◌, ◌%◌, eqb, length, get_or, take, ◌≡◌, Bool, true, false, not, ◌&&◌, ◌⊎◌, List, Option, Some}
 use Rattle.rules.specs.declared.Direction.{Direction}
 use Rattle.rules.specs.declared.Direction.TheVariants.{North as north, East as east, South as south, West as west}
 use Rattle.answers.specs.Lists.{how_many, All}
@@ -22,20 +21,20 @@ blacks_nearest black line j = how_many black (take j line)
 
 -- each link is matched by the neighbour's opposite link, and stands at a white cell; each white cell has exactly two links
 pub record Links (size : ℕ) (next : Direction → ℕ → Option ℕ) (white : ℕ → Bool) (link : ℕ → Direction → Bool) : Type 0 where
-  pub matched : (x : ℕ) (d : Direction) → link x d ≡ true → (y : ℕ) × (next d x ≡ some y) × (link y (opposite d) ≡ true)
+  pub matched : (x : ℕ) (d : Direction) → link x d ≡ true → (y : ℕ) × (next d x ≡ Some y) × (link y (opposite d) ≡ true)
   pub at_white : (x : ℕ) (d : Direction) → link x d ≡ true → white x ≡ true
   pub two : (x : ℕ) → x < size → white x ≡ true → degree (link x) ≡ 2
 
 -- links lead from s to a cell
 pub data Reach (next : Direction → ℕ → Option ℕ) (link : ℕ → Direction → Bool) (s : ℕ) : ℕ → Type 0 where
   here : {x : ℕ} → x ≡ s → Reach next link s x
-  along : {x y : ℕ} {d : Direction} → Reach next link s x → link x d ≡ true → next d x ≡ some y → Reach next link s y
+  along : {x y : ℕ} {d : Direction} → Reach next link s x → link x d ≡ true → next d x ≡ Some y → Reach next link s y
 
 pub record Solution (b : Board) (D : Drawing) : Type 0 where
   -- only open cells are black
   pub only_open : (x : ℕ) → D.black x ≡ true → b.is_open x ≡ true
   -- no two black cells share a side
-  pub untouched : (d : Direction) (x y : ℕ) → b.next d x ≡ some y → D.black x ≡ true → D.black y ≡ true → ⊥
+  pub untouched : (d : Direction) (x y : ℕ) → b.next d x ≡ Some y → D.black x ≡ true → D.black y ≡ true → ⊥
   -- each clue's line has exactly its number of black cells
   pub met : All (λ (c : Clue). how_many D.black c.line ≡ c.number) b.clues
   -- each link is matched by the neighbour's opposite link; each white cell has exactly two links

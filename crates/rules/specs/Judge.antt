@@ -1,6 +1,5 @@
 -- What the judge tells: rows 7 and 10 to 15 of "Turned down". Each cause is sought over the whole board before the next.
-use Rattle.std.specs.Prelude.{ℕ, eqb, leb, ltb, length, get_or, Bool, true, false, not, ◌&&◌, ◌||◌, List, [], ◌∷◌, ◌++◌}
-use Rattle.std.proofs.Math.Option.{Option, none, some}
+use Rattle.std.specs.Prelude.{ℕ, eqb, leb, ltb, length, get_or, Bool, true, false, not, ◌&&◌, ◌||◌, List, [], ◌∷◌, ◌++◌, Option, None, Some, Result, Ok, Err}
 use Rattle.answers.specs.declared.Outcome.{Outcome}
 use Rattle.answers.specs.First.{first_where}
 use Rattle.answers.specs.Outcome.{refusal, answer, Row, row, cause, first_refusal}
@@ -10,10 +9,6 @@ use Rattle.rules.specs.declared.JudgeRefusal.{JudgeRefusal}
 use Rattle.rules.specs.declared.JudgeRefusal.TheVariants.{Record, DrawingLength, Rule}
 use Rattle.rules.specs.declared.RuleRefusal.{RuleRefusal}
 use Rattle.rules.specs.declared.RuleRefusal.TheVariants.{DrawingByte, Touching, ClueNotMet, LinkUnmatched, NotTwoLinks, NotOneLoop}
-use Rattle.rules.specs.declared.RuleVerdict.{RuleVerdict}
-use Rattle.rules.specs.declared.RuleVerdict.TheVariants.{Followed, Broken}
-use Rattle.rules.specs.declared.Verdict.{Verdict}
-use Rattle.rules.specs.declared.Verdict.TheVariants.{Yes, No}
 use Rattle.answers.specs.Lists.{how_many}
 use Rattle.rules.specs.Directions.{opposite, degree}
 use Rattle.rules.specs.Record.{record_rows, record_refusal_outcome}
@@ -31,8 +26,8 @@ bad_byte is_open v = ltb 0x20 v || (leb 0x11 v && leb v 0x1F) || not_together is
 
 -- there is a neighbour, and the test holds of it
 abbrev pub there : (ℕ → Bool) → Option ℕ → Bool
-there test none = false
-there test (some y) = test y
+there test None = false
+there test (Some y) = test y
 
 module _ (b : Board) (ds : List ℕ) where
   abbrev pub bad_byte_at : ℕ → Bool
@@ -61,16 +56,16 @@ module _ (b : Board) (ds : List ℕ) where
 
 abbrev pub unless_met : Bool → ℕ → Option ℕ → Option ℕ
 unless_met true x rest = rest
-unless_met false x rest = some x
+unless_met false x rest = Some x
 
 -- the cell of the first clue whose line has not its number of black cells
 abbrev pub unmet_clue : (ℕ → Bool) → List Clue → Option ℕ
-unmet_clue black [] = none
+unmet_clue black [] = None
 unmet_clue black (c ∷ cs) = unless_met (eqb (how_many black c.line) c.number) c.cell (unmet_clue black cs)
 
 abbrev pub from_first : Option ℕ → (ℕ → Option ℕ) → Option ℕ
-from_first none off = some 0
-from_first (some s) off = off s
+from_first None off = Some 0
+from_first (Some s) off = off s
 
 module _ (b : Board) (ds : List ℕ) where
   -- 7: drawing not N bytes
@@ -131,15 +126,15 @@ rule_refusal_outcome (LinkUnmatched x) = refusal 13 x
 rule_refusal_outcome (NotTwoLinks x) = refusal 14 x
 rule_refusal_outcome (NotOneLoop x) = refusal 15 x
 
-abbrev pub rule_verdict_outcome : RuleVerdict → Outcome
-rule_verdict_outcome Followed = says_yes
-rule_verdict_outcome (Broken f) = rule_refusal_outcome f
+abbrev pub rule_verdict_outcome : Result Unit RuleRefusal → Outcome
+rule_verdict_outcome (Ok u) = says_yes
+rule_verdict_outcome (Err f) = rule_refusal_outcome f
 
 abbrev pub judge_refusal_outcome : JudgeRefusal → Outcome
 judge_refusal_outcome (Record r) = record_refusal_outcome r
 judge_refusal_outcome DrawingLength = refusal 7 0
 judge_refusal_outcome (Rule f) = rule_refusal_outcome f
 
-abbrev pub verdict_outcome : Verdict → Outcome
-verdict_outcome Yes = says_yes
-verdict_outcome (No f) = judge_refusal_outcome f
+abbrev pub verdict_outcome : Result Unit JudgeRefusal → Outcome
+verdict_outcome (Ok u) = says_yes
+verdict_outcome (Err f) = judge_refusal_outcome f

@@ -2,6 +2,7 @@
 -- Solutions: how many a grid has.
 pub mod Directions
 pub mod Record
+pub mod Read
 pub mod Board
 pub mod Drawing
 pub mod Walk

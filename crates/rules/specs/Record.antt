@@ -1,5 +1,5 @@
 -- "The grid record" of document 01, with kind 2, shaded cells and kind 3 of document 02's E4, E5 and E12, and rows 1 to 5 of "Turned down".
-use Rattle.std.specs.Prelude.{ℕ, ◌+◌, ◌*◌, ◌/◌, ◌%◌, ◌≤◌, ◌<◌, ◌≡◌, eqb, leb, ltb, length, get_or, Bool, true, false, not, ◌&&◌, ◌||◌, cond, List, [], ◌∷◌, map}
+use Rattle.std.specs.Prelude.{ℕ, ◌+◌, ◌*◌, ◌/◌, ◌%◌, ◌≤◌, ◌<◌, ◌≡◌, eqb, leb, ltb, length, get_or, Bool, false, not, ◌&&◌, ◌||◌, cond, List, [], ◌∷◌, map, Option, Some, None, is_none, Result, Ok, Err}
 use Rattle.answers.specs.declared.Outcome.{Outcome}
 use Rattle.answers.specs.First.{first_where}
 use Rattle.answers.specs.Lists.{up_to}
@@ -8,19 +8,13 @@ use Rattle.rules.specs.declared.Direction.{Direction}
 use Rattle.rules.specs.declared.Direction.TheVariants.{North as north, East as east, South as south, West as west}
 use Rattle.rules.specs.declared.Cell.{Cell}
 use Rattle.rules.specs.declared.Cell.TheVariants.{Open, Clue, Shaded}
-use Rattle.rules.specs.declared.CellCode.{CellCode}
-use Rattle.rules.specs.declared.CellCode.TheVariants.{Is, NotAllowed}
 use Rattle.rules.specs.declared.Layout.{Layout}
 use Rattle.rules.specs.declared.Layout.TheVariants.{Byte, Word}
 use Rattle.rules.specs.declared.Kind.{Kind}
 use Rattle.rules.specs.declared.Kind.TheVariants.{One, Two, Three}
-use Rattle.rules.specs.declared.KindField.{KindField}
-use Rattle.rules.specs.declared.KindField.TheVariants.{Is as IsKind, NotAllowed as NoKind}
 use Rattle.rules.specs.declared.Grid.{Grid}
 use Rattle.rules.specs.declared.RecordRefusal.{RecordRefusal}
 use Rattle.rules.specs.declared.RecordRefusal.TheVariants.{Length, Kind as OtherKind, Side, Size, NotACell}
-use Rattle.rules.specs.declared.Parsed.{Parsed}
-use Rattle.rules.specs.declared.Parsed.TheVariants.{Accepted, Refused}
 
 -- the inner form of a grid: its kind and sides, and its cells row by row from the top left
 pub record Puzzle : Type 0 where
@@ -33,17 +27,16 @@ kind_number One = 1
 kind_number Two = 2
 kind_number Three = 3
 
-abbrev pub read_kind : ℕ → KindField
-read_kind n = cond (eqb n 1) (IsKind One) (cond (eqb n 2) (IsKind Two) (cond (eqb n 3) (IsKind Three) NoKind))
+abbrev pub read_kind : ℕ → Option Kind
+read_kind n = cond (eqb n 1) (Some One) (cond (eqb n 2) (Some Two) (cond (eqb n 3) (Some Three) None))
 
 -- (a kind that is not allowed stands in no accepted record)
-abbrev pub kind_of : KindField → Kind
-kind_of (IsKind k) = k
-kind_of NoKind = One
+abbrev pub kind_of : Option Kind → Kind
+kind_of (Some k) = k
+kind_of None = One
 
-abbrev pub kind_not_allowed : KindField → Bool
-kind_not_allowed (IsKind k) = false
-kind_not_allowed NoKind = true
+abbrev pub kind_not_allowed : Option Kind → Bool
+kind_not_allowed k = is_none k
 
 -- the layout and limits of a kind: kind 3 has kind 1's
 abbrev pub layout_of : Kind → Layout
@@ -88,20 +81,19 @@ shaded_code Byte = 0x50
 shaded_code Word = 0x5000
 
 -- 0 is open; else it is a clue's code, or that of a shaded cell; no other is allowed
-abbrev pub read_cell : Layout → ℕ → CellCode
+abbrev pub read_cell : Layout → ℕ → Option Cell
 read_cell l c =
-    cond (eqb c 0) (Is Open)
-    (cond (is_clue l c) (Is (Clue (direction_of (c / direction_unit l)) (c % direction_unit l)))
-    (cond (eqb c (shaded_code l)) (Is Shaded) NotAllowed))
+    cond (eqb c 0) (Some Open)
+    (cond (is_clue l c) (Some (Clue (direction_of (c / direction_unit l)) (c % direction_unit l)))
+    (cond (eqb c (shaded_code l)) (Some Shaded) None))
 
 -- (a code that is not allowed stands in no accepted record)
-abbrev pub cell_of : CellCode → Cell
-cell_of (Is c) = c
-cell_of NotAllowed = Open
+abbrev pub cell_of : Option Cell → Cell
+cell_of (Some c) = c
+cell_of None = Open
 
-abbrev pub not_allowed : CellCode → Bool
-not_allowed (Is c) = false
-not_allowed NotAllowed = true
+abbrev pub not_allowed : Option Cell → Bool
+not_allowed c = is_none c
 
 -- a number of two bytes, little-endian
 abbrev pub word : List ℕ → ℕ → ℕ
@@ -213,10 +205,6 @@ record_refusal_outcome Side = refusal 3 0
 record_refusal_outcome Size = refusal 4 0
 record_refusal_outcome (NotACell x) = refusal 5 x
 
-abbrev pub parsed_outcome : Parsed → Outcome
-parsed_outcome (Accepted g) = grid_answer g
-parsed_outcome (Refused r) = record_refusal_outcome r
-
--- the record was turned down
-abbrev pub IsRefused : Parsed → Type 0
-IsRefused p = (r : RecordRefusal) × (p ≡ Refused r)
+abbrev pub parsed_outcome : Result Grid RecordRefusal → Outcome
+parsed_outcome (Ok g) = grid_answer g
+parsed_outcome (Err r) = record_refusal_outcome r

@@ -1,6 +1,5 @@
 -- The walk along the links: the cells that it passes until it is where it began.
-use Rattle.std.specs.Prelude.{ℕ, zero, suc, eqb, Bool, true, false, ◌||◌, List, [], ◌∷◌}
-use Rattle.std.proofs.Math.Option.{Option, get_or}
+use Rattle.std.specs.Prelude.{ℕ, zero, suc, eqb, Bool, true, false, ◌||◌, List, [], ◌∷◌, Option, unwrap_or}
 use Rattle.rules.specs.declared.Direction.{Direction}
 use Rattle.rules.specs.declared.Direction.TheVariants.{East as east}
 use Rattle.rules.specs.Directions.{opposite, other}
@@ -12,7 +11,7 @@ pub record State : Type 0 where
 
 -- the neighbour, or the cell itself where there is none
 abbrev pub go : (Direction → ℕ → Option ℕ) → Direction → ℕ → ℕ
-go next d x = get_or (next d x) x
+go next d x = unwrap_or (next d x) x
 
 -- the link by which a walk leaves that came by the link d
 abbrev pub onto : (ℕ → Direction → Bool) → ℕ → Direction → Direction

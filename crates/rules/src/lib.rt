@@ -2,7 +2,7 @@
 // E5 and E12.
 #![tactic(auto)]
 
-#[derive(Clone, Copy)]
+#[derive(Clone, Copy, Debug, PartialEq, Eq)]
 pub enum Direction {
     North,
     East,
@@ -11,47 +11,33 @@ pub enum Direction {
 }
 
 // A cell is open, or a clue that carries a direction and a number, or shaded: neither black nor on the loop, and it says nothing.
-#[derive(Clone, Copy)]
+#[derive(Clone, Copy, Debug, PartialEq, Eq)]
 pub enum Cell {
     Open,
     Clue(Direction, u8),
     Shaded,
 }
 
-// What a cell's code is.
-#[derive(Clone, Copy)]
-pub enum CellCode {
-    Is(Cell),
-    NotAllowed,
-}
-
 // How the cells stand in a record, with the limits of sides and numbers: a byte a cell, or a word of two bytes.
-#[derive(Clone, Copy)]
+#[derive(Clone, Copy, Debug, PartialEq, Eq)]
 pub enum Layout {
     Byte,
     Word,
 }
 
 // A record's kind: 1; 2, with larger sides and numbers; 3, as 1 with lines that stop before clue cells.
-#[derive(Clone, Copy)]
+#[derive(Clone, Copy, Debug, PartialEq, Eq)]
 pub enum Kind {
     One,
     Two,
     Three,
 }
 
-// What the kind field of a record is.
-#[derive(Clone, Copy)]
-pub enum KindField {
-    Is(Kind),
-    NotAllowed,
-}
-
 // The most cells that a grid has: 45 times 45.
 pub const MOST_CELLS: usize = 2025;
 
 // The parsed grid: its kind, which code above this crate does not see, and its sides. The cells stay in the record.
-#[derive(Clone, Copy)]
+#[derive(Clone, Copy, Debug, PartialEq, Eq)]
 pub struct Grid {
     kind: Kind,
     pub rows: usize,
@@ -59,7 +45,7 @@ pub struct Grid {
 }
 
 // Why a record is refused: 1 to 5 of document 01's table.
-#[derive(Clone, Copy)]
+#[derive(Clone, Copy, Debug, PartialEq, Eq)]
 pub enum RecordRefusal {
     Length,
     Kind,
@@ -68,14 +54,8 @@ pub enum RecordRefusal {
     NotACell(usize),
 }
 
-#[derive(Clone, Copy)]
-pub enum Parsed {
-    Accepted(Grid),
-    Refused(RecordRefusal),
-}
-
 // The rule that a drawing of N bytes breaks: 10 to 15 of document 01's table, with the cell.
-#[derive(Clone, Copy)]
+#[derive(Clone, Copy, Debug, PartialEq, Eq)]
 pub enum RuleRefusal {
     DrawingByte(usize),
     Touching(usize),
@@ -86,26 +66,14 @@ pub enum RuleRefusal {
     NotOneLoop(usize),
 }
 
-// What the rules say of a drawing of N bytes.
-#[derive(Clone, Copy)]
-pub enum RuleVerdict {
-    Followed,
-    Broken(RuleRefusal),
-}
-
 // Why a drawing is turned down: the record's refusal, else 7 of document 01's table, else the rule that is broken.
-#[derive(Clone, Copy)]
+#[derive(Clone, Copy, Debug, PartialEq, Eq)]
 pub enum JudgeRefusal {
     Record(RecordRefusal),
     DrawingLength,
     Rule(RuleRefusal),
 }
 
-#[derive(Clone, Copy)]
-pub enum Verdict {
-    Yes,
-    No(JudgeRefusal),
-}
-
+pub mod board; // a grid with its record
 pub mod record; // the reader of a grid record
 pub mod outcome; // the outcomes in document 01's numbers

@@ -1,17 +1,18 @@
-// What the answers tell, in document 01's numbers.
+// What the refusals tell, in document 01's numbers, and how one is part of another.
 ghost use Rattle.std.specs.Prelude.{◌≡◌};
+ghost use Rattle.rules.specs.declared.JudgeRefusal.TheVariants.{Record, Rule};
 ghost use Rattle.rules.specs.Record.{record_refusal_outcome};
-ghost use Rattle.rules.specs.Judge.{rule_refusal_outcome, judge_refusal_outcome, verdict_outcome};
+ghost use Rattle.rules.specs.Judge.{rule_refusal_outcome, judge_refusal_outcome};
 
-use super::{JudgeRefusal, RecordRefusal, RuleRefusal, Verdict};
-use answers::{Outcome, answered, refused};
+use super::{JudgeRefusal, RecordRefusal, RuleRefusal};
+use answers::{Outcome, refused};
 
-impl RecordRefusal {
-    // Document 01's number, and the value beside it.
-    pub fn outcome(self) -> Outcome
-        ensures { result ≡ record_refusal_outcome self }
-    {
-        match self {
+// Document 01's number, and the value beside it.
+impl From<RecordRefusal> for Outcome {
+    ghost from_gives = { λ r t. t ≡ record_refusal_outcome r };
+
+    fn from(refusal: RecordRefusal) -> Outcome {
+        match refusal {
             RecordRefusal::Length => refused(1, 0),
             RecordRefusal::Kind => refused(2, 0),
             RecordRefusal::Side => refused(3, 0),
@@ -21,11 +22,11 @@ impl RecordRefusal {
     }
 }
 
-impl RuleRefusal {
-    pub fn outcome(self) -> Outcome
-        ensures { result ≡ rule_refusal_outcome self }
-    {
-        match self {
+impl From<RuleRefusal> for Outcome {
+    ghost from_gives = { λ r t. t ≡ rule_refusal_outcome r };
+
+    fn from(refusal: RuleRefusal) -> Outcome {
+        match refusal {
             RuleRefusal::DrawingByte(x) => refused(10, x as u64),
             RuleRefusal::Touching(x) => refused(11, x as u64),
             RuleRefusal::ClueNotMet(x) => refused(12, x as u64),
@@ -36,25 +37,30 @@ impl RuleRefusal {
     }
 }
 
-impl JudgeRefusal {
-    pub fn outcome(self) -> Outcome
-        ensures { result ≡ judge_refusal_outcome self }
-    {
-        match self {
-            JudgeRefusal::Record(r) => r.outcome(),
+impl From<JudgeRefusal> for Outcome {
+    ghost from_gives = { λ r t. t ≡ judge_refusal_outcome r };
+
+    fn from(refusal: JudgeRefusal) -> Outcome {
+        match refusal {
+            JudgeRefusal::Record(r) => r.into(),
             JudgeRefusal::DrawingLength => refused(7, 0),
-            JudgeRefusal::Rule(f) => f.outcome(),
+            JudgeRefusal::Rule(r) => r.into(),
         }
     }
 }
 
-impl Verdict {
-    pub fn outcome(self) -> Outcome
-        ensures { result ≡ verdict_outcome self }
-    {
-        match self {
-            Verdict::Yes => answered(0, 0, 0),
-            Verdict::No(f) => f.outcome(),
-        }
+impl From<RecordRefusal> for JudgeRefusal {
+    ghost from_gives = { λ r j. j ≡ Record r };
+
+    fn from(refusal: RecordRefusal) -> JudgeRefusal {
+        JudgeRefusal::Record(refusal)
+    }
+}
+
+impl From<RuleRefusal> for JudgeRefusal {
+    ghost from_gives = { λ r j. j ≡ Rule r };
+
+    fn from(refusal: RuleRefusal) -> JudgeRefusal {
+        JudgeRefusal::Rule(refusal)
     }
 }

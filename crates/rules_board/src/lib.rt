@@ -2,13 +2,13 @@
 #![tactic(auto)]
 
 ghost use Rattle.std.specs.Prelude.{◌≡◌, ◌<◌, length, get_or};
-ghost use Rattle.answers.specs.First.{placed};
 ghost use Rattle.rules.specs.Directions.{opposite};
-ghost use Rattle.rules.specs.Record.{size, OnBoard, RecordFits, puzzle};
-ghost use Rattle.rules.specs.Board.{neighbour, stops_before, line};
+ghost use Rattle.rules.specs.Record.{size, OnBoard};
+ghost use Rattle.rules.specs.Read.{puzzle_on};
+ghost use Rattle.rules.specs.Board.{neighbour, stops_before, line_next, line};
 ghost use Rattle.rules.specs.Walk.{go};
 
-use answers::Place;
+use rules::board::Board;
 use rules::{Cell, Direction, Grid};
 
 pub fn opposite(d: Direction) -> Direction
@@ -23,37 +23,16 @@ pub fn opposite(d: Direction) -> Direction
 }
 
 // The neighbour of a cell, if there is one.
-pub fn neighbour(g: Grid, x: usize, d: Direction) -> Place
+pub fn neighbour(g: Grid, x: usize, d: Direction) -> Option<usize>
     requires { OnBoard g x }
-    ensures { placed result ≡ neighbour g d x }
+    ensures { result ≡ neighbour g d x }
 {
-    let rows = g.rows;
     let columns = g.columns;
     match d {
-        Direction::North => {
-            if x < columns {
-                return Place::Nowhere;
-            }
-            Place::At(x - columns)
-        }
-        Direction::East => {
-            if x % columns + 1 >= columns {
-                return Place::Nowhere;
-            }
-            Place::At(x + 1)
-        }
-        Direction::South => {
-            if x + columns >= rows * columns {
-                return Place::Nowhere;
-            }
-            Place::At(x + columns)
-        }
-        Direction::West => {
-            if x % columns == 0 {
-                return Place::Nowhere;
-            }
-            Place::At(x - 1)
-        }
+        Direction::North => x.checked_sub(columns),
+        Direction::East => (x % columns + 1 < columns).then_some(x + 1),
+        Direction::South => (x + columns < g.rows * columns).then_some(x + columns),
+        Direction::West => (x % columns != 0).then(|| x - 1),
     }
 }
 
@@ -62,32 +41,28 @@ pub fn go(g: Grid, x: usize, d: Direction) -> usize
     requires { OnBoard g x }
     ensures { result ≡ go (neighbour g) d x }
 {
-    let p = neighbour(g, x, d);
-    let Place::At(y) = p else {
-        return x;
-    };
-    y
+    neighbour(g, x, d).unwrap_or(x)
 }
 
 // Does a line stop before the cell?
-fn stops_before(g: Grid, record: &[u8], x: usize) -> bool
-    requires record_fits { RecordFits g «record».now }
-    requires x_bound { x < size g }
-    ensures { result ≡ stops_before (puzzle g «record».now) x }
+fn stops_before(board: &Board, x: usize) -> bool
+    requires { x < size board.now.grid }
+    ensures { result ≡ stops_before (puzzle_on board.now) x }
 {
-    let stops = g.stops_before_clues();
-    if !stops {
-        return false;
-    }
-    let c = g.cell(record, x);
-    let Cell::Clue(_, _) = c else {
-        return false;
-    };
-    true
+    board.grid.stops_before_clues() && matches!(board.cell(x), Cell::Clue(_, _))
+}
+
+// The cell that follows y on a line in a direction, if the line does not end at y.
+fn line_next(board: &Board, y: usize, d: Direction) -> Option<usize>
+    requires { y < size board.now.grid }
+    ensures { result ≡ line_next (puzzle_on board.now) d y }
+{
+    let next = neighbour(board.grid, y, d)?;
+    (!stops_before(board, next)).then_some(next)
 }
 
 // Where a line ends.
-#[derive(Clone, Copy)]
+#[derive(Clone, Copy, Debug, PartialEq, Eq)]
 pub struct End {
     // Its far end; the clue's own cell where the line is empty.
     pub cell: usize,
@@ -96,25 +71,16 @@ pub struct End {
 }
 
 // The end of the line that leaves x in a direction.
-pub fn line_end(g: Grid, record: &[u8], x: usize, d: Direction) -> End
-    requires record_fits { RecordFits g «record».now }
-    requires x_bound { x < size g }
-    ensures cell_value { result.cell ≡ get_or (line (puzzle g «record».now) d x) 0 x }
-    ensures cells_value { result.cells ≡ length (line (puzzle g «record».now) d x) }
+pub fn line_end(board: &Board, x: usize, d: Direction) -> End
+    requires { x < size board.now.grid }
+    ensures cell_value { result.cell ≡ get_or (line (puzzle_on board.now) d x) 0 x }
+    ensures cells_value { result.cells ≡ length (line (puzzle_on board.now) d x) }
 {
-    let mut y = x;
+    let mut cell = x;
     let mut cells = 0;
-    loop {
-        let here = End { cell: y, cells };
-        let p = neighbour(g, y, d);
-        let Place::At(z) = p else {
-            return here;
-        };
-        let stops = stops_before(g, record, z);
-        if stops {
-            return here;
-        }
-        y = z;
+    while let Some(next) = line_next(board, cell, d) {
+        cell = next;
         cells += 1;
     }
+    End { cell, cells }
 }

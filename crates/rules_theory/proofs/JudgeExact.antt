@@ -8,7 +8,8 @@ use borrow.Author.Tests.{eqb-true, eq-eqb, not-false}
 use mathlib.Core.Path.{◌≡◌, refl, sym, ◌∙◌, ap}
 use mathlib.Core.Bool.{Bool, true, false, not, ◌||◌}
 use mathlib.Core.Logic.{◌↔◌}
-use mathlib.Core.Option.{Option, none, some, some-ne-none}
+use Rattle.std.specs.Prelude.{Option, None, Some}
+use Rattle.answers.proofs.Options.{some-none}
 use mathlib.Core.List.{List, [], ◌∷◌}
 use Rattle.answers.specs.Outcome.{cause}
 use Rattle.answers.specs.First.{first_where}
@@ -29,31 +30,31 @@ use Rattle.rules_theory.proofs.Whole.{lead, lead_reaches, reaches}
 use Rattle.answers.proofs.Rows.{Clear, no-cause}
 use Rattle.rules_theory.proofs.Bytes.{allowed_byte, no_links_0, no_links_10, no_links_20}
 
-there_is : (test : ℕ → Bool) (o : Option ℕ) → there test o ≡ true → (y : ℕ) × (o ≡ some y) × (test y ≡ true)
-there_is test none h = clash h refl
-there_is test (some y) h = (y, refl, h)
+there_is : (test : ℕ → Bool) (o : Option ℕ) → there test o ≡ true → (y : ℕ) × (o ≡ Some y) × (test y ≡ true)
+there_is test None h = clash h refl
+there_is test (Some y) h = (y, refl, h)
 
 module _ (ds : List ℕ) where
-  clues_met : (cs : List Clue) → unmet_clue (black_at ds) cs ≡ none → All (Met ds) cs
+  clues_met : (cs : List Clue) → unmet_clue (black_at ds) cs ≡ None → All (Met ds) cs
   clues_met [] e = tt
   clues_met (c ∷ cs) e = by (eqb (how_many (black_at ds) c.line) c.number) refl e (clues_met cs)
     where
-      by : (t : Bool) → eqb (how_many (black_at ds) c.line) c.number ≡ t → unless_met t c.cell (unmet_clue (black_at ds) cs) ≡ none
-          → (unmet_clue (black_at ds) cs ≡ none → All (Met ds) cs) → All (Met ds) (c ∷ cs)
+      by : (t : Bool) → eqb (how_many (black_at ds) c.line) c.number ≡ t → unless_met t c.cell (unmet_clue (black_at ds) cs) ≡ None
+          → (unmet_clue (black_at ds) cs ≡ None → All (Met ds) cs) → All (Met ds) (c ∷ cs)
       by true q e go = (eqb-true _ _ q, go e)
-      by false q e go = absurd (some-ne-none c.cell e)
+      by false q e go = absurd (some-none c.cell e)
 
-  met_clues : (cs : List Clue) → All (Met ds) cs → unmet_clue (black_at ds) cs ≡ none
+  met_clues : (cs : List Clue) → All (Met ds) cs → unmet_clue (black_at ds) cs ≡ None
   met_clues [] h = refl
   met_clues (c ∷ cs) h = ap (λ t. unless_met t c.cell (unmet_clue (black_at ds) cs)) (eq-eqb _ _ h.0) ∙ met_clues cs h.1
 
 module _ {b : Board} (law : Laws b) (ds : List ℕ) where
   -- 7: drawing not N bytes
-  length_right : wrong_drawing b ds ≡ none ↔ length ds ≡ b.size
+  length_right : wrong_drawing b ds ≡ None ↔ length ds ≡ b.size
   length_right = (λ e. eqb-true _ _ (not-false _ (no-cause _ e)), λ h. ap cause (true_not _ (eq-eqb _ _ h)))
 
   -- 10: drawing byte
-  bytes_right : wrong_byte b ds ≡ none ↔ ((x : ℕ) → x < b.size → Allowed (b.is_open x) (get_or ds x 0))
+  bytes_right : wrong_byte b ds ≡ None ↔ ((x : ℕ) → x < b.size → Allowed (b.is_open x) (get_or ds x 0))
   bytes_right = (
     λ e x h. (allowed_byte (b.is_open x) (get_or ds x 0)).0 (first_none _ _ e x h),
     λ a. none_first _ _
@@ -62,9 +63,9 @@ module _ {b : Board} (law : Laws b) (ds : List ℕ) where
 
   -- 11: black beside black. East and south of each cell cover north and west too
   abbrev Untouched : Type 0
-  Untouched = (d : Direction) (x y : ℕ) → b.next d x ≡ some y → black_at ds x ≡ true → black_at ds y ≡ true → ⊥
+  Untouched = (d : Direction) (x y : ℕ) → b.next d x ≡ Some y → black_at ds x ≡ true → black_at ds y ≡ true → ⊥
 
-  touching_right : touching b ds ≡ none ↔ Untouched
+  touching_right : touching b ds ≡ None ↔ Untouched
   touching_right = (
     λ e. untouched (first_none _ _ e),
     λ u. none_first _ _
@@ -73,13 +74,13 @@ module _ {b : Board} (law : Laws b) (ds : List ℕ) where
   )
     where
       -- neither to the east nor to the south of a black cell is a black one
-      sides : ((x : ℕ) → x < b.size → touches_at b ds x ≡ false) → (d : Direction) (x y : ℕ) → b.next d x ≡ some y → black_at ds x ≡ true
+      sides : ((x : ℕ) → x < b.size → touches_at b ds x ≡ false) → (d : Direction) (x y : ℕ) → b.next d x ≡ Some y → black_at ds x ≡ true
           → (there (black_at ds) (b.next east x) ≡ false) × (there (black_at ds) (b.next south x) ≡ false)
       sides c d x y e p =
           or_neither (there (black_at ds) (b.next east x)) (there (black_at ds) (b.next south x))
           (other_half (black_at ds x) _ (c x (law.wired.inside d x y e).0) p)
 
-      beside : (o : Option ℕ) (y : ℕ) → o ≡ some y → there (black_at ds) o ≡ false → black_at ds y ≡ true → ⊥
+      beside : (o : Option ℕ) (y : ℕ) → o ≡ Some y → there (black_at ds) o ≡ false → black_at ds y ≡ true → ⊥
       beside o y e n q = clash q (sym (ap (there (black_at ds)) e) ∙ n)
 
       untouched : ((x : ℕ) → x < b.size → touches_at b ds x ≡ false) → Untouched
@@ -92,7 +93,7 @@ module _ {b : Board} (law : Laws b) (ds : List ℕ) where
       not_there u d x p = off _ (λ q. let w = there_is (black_at ds) (b.next d x) q in u d x w.0 w.1 p w.2)
 
   -- 12: clue not met
-  clues_right : clue_not_met b ds ≡ none ↔ All (Met ds) b.clues
+  clues_right : clue_not_met b ds ≡ None ↔ All (Met ds) b.clues
   clues_right = (clues_met ds b.clues, met_clues ds b.clues)
 
   module _ (long : length ds ≡ b.size) (allowed : (x : ℕ) → x < b.size → Allowed (b.is_open x) (get_or ds x 0)) where
@@ -115,9 +116,9 @@ module _ {b : Board} (law : Laws b) (ds : List ℕ) where
 
     -- 13: link unmatched or off the board
     abbrev Matched : Type 0
-    Matched = (x : ℕ) (d : Direction) → link_at ds x d ≡ true → (y : ℕ) × (b.next d x ≡ some y) × (link_at ds y (opposite d) ≡ true)
+    Matched = (x : ℕ) (d : Direction) → link_at ds x d ≡ true → (y : ℕ) × (b.next d x ≡ Some y) × (link_at ds y (opposite d) ≡ true)
 
-    matched_right : link_unmatched b ds ≡ none ↔ Matched
+    matched_right : link_unmatched b ds ≡ None ↔ Matched
     matched_right = (matched, λ m. none_first _ _ (λ x h. rw (tied m x north, tied m x east, tied m x south, tied m x west)))
       where
         each_way : (x : ℕ) → unmatched_link_at b ds x ≡ false → (d : Direction) → unmatched_link b ds x d ≡ false
@@ -127,7 +128,7 @@ module _ {b : Board} (law : Laws b) (ds : List ℕ) where
             let (n, e) = or_neither (unmatched_link b ds x north) (unmatched_link b ds x east) ne in
             all_four (λ d. unmatched_link b ds x d ≡ false) n e s w
 
-        matched : link_unmatched b ds ≡ none → Matched
+        matched : link_unmatched b ds ≡ None → Matched
         matched e x d h =
             let inside = law.open_stays x (and_both _ _ (link_white x d h)).0 in
             there_is (λ y. link_at ds y (opposite d)) (b.next d x) (not-false _ (other_half (link_at ds x d) _ (each_way x (first_none _ _ e x inside) d) h))
@@ -136,7 +137,7 @@ module _ {b : Board} (law : Laws b) (ds : List ℕ) where
         tied m x d = and_off (link_at ds x d) _ (λ h. let w = m x d h in true_not _ (ap (there (λ y. link_at ds y (opposite d))) w.1 ∙ w.2))
 
   -- 14: white cell without exactly two links
-  two_right : not_two_links b ds ≡ none ↔ ((x : ℕ) → x < b.size → white_at b ds x ≡ true → degree (link_at ds x) ≡ 2)
+  two_right : not_two_links b ds ≡ None ↔ ((x : ℕ) → x < b.size → white_at b ds x ≡ true → degree (link_at ds x) ≡ 2)
   two_right = (
     λ e x h w. eqb-true _ _ (not-false _ (other_half _ _ (first_none _ _ e x h) w)),
     λ t. none_first _ _
@@ -147,16 +148,16 @@ module _ {b : Board} (law : Laws b) (ds : List ℕ) where
   abbrev Whole : Type 0
   Whole = (t : ℕ) × (t < b.size) × (white_at b ds t ≡ true) × ((x : ℕ) → x < b.size → white_at b ds x ≡ true → Reach b.next (link_at ds) t x)
 
-  loop_right : Links b.size b.next (white_at b ds) (link_at ds) → not_one_loop b ds ≡ none ↔ Whole
+  loop_right : Links b.size b.next (white_at b ds) (link_at ds) → not_one_loop b ds ≡ None ↔ Whole
   loop_right L = (by (first_where (white_at b ds) b.size) refl, back)
     where
-      by : (o : Option ℕ) → first_where (white_at b ds) b.size ≡ o → from_first o (λ s. first_where (off_loop_at b ds s) b.size) ≡ none → Whole
-      by none e h = absurd (some-ne-none 0 h)
-      by (some s) e h =
+      by : (o : Option ℕ) → first_where (white_at b ds) b.size ≡ o → from_first o (λ s. first_where (off_loop_at b ds s) b.size) ≡ None → Whole
+      by None e h = absurd (some-none 0 h)
+      by (Some s) e h =
           let F = first_some (white_at b ds) b.size s e in
           (s, F.below, F.holds, λ x l w. (reaches law.wired L F x).1 (not-false _ (other_half (white_at b ds x) _ (first_none _ _ h x l) w)))
 
-      back : Whole → not_one_loop b ds ≡ none
+      back : Whole → not_one_loop b ds ≡ None
       back w =
           let (s, F) = lead law.wired L w in
           ap (λ (o : Option ℕ). from_first o (λ s. first_where (off_loop_at b ds s) b.size)) (some_first (white_at b ds) b.size F)
@@ -164,7 +165,7 @@ module _ {b : Board} (law : Laws b) (ds : List ℕ) where
           (λ p. true_not _ ((reaches law.wired L F x).0 (lead_reaches law.wired L w F x l p))))
 
   -- 10, 13 and 14 make the links
-  pub clear_links : length ds ≡ b.size → wrong_byte b ds ≡ none → link_unmatched b ds ≡ none → not_two_links b ds ≡ none
+  pub clear_links : length ds ≡ b.size → wrong_byte b ds ≡ None → link_unmatched b ds ≡ None → not_two_links b ds ≡ None
       → Links b.size b.next (white_at b ds) (link_at ds)
   clear_links long c10 c13 c14 =
       let allowed = bytes_right.0 c10 in

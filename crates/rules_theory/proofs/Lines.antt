@@ -5,7 +5,9 @@ use lib.ListN.{length, get_or}
 use mathlib.Core.Path.{◌≡◌, refl, sym, ◌∙◌, ap, subst}
 use mathlib.Core.Bool.{Bool, true, false, not, ◌&&◌}
 use mathlib.Core.Logic.{◌⊎◌, inl, inr}
-use mathlib.Core.Option.{Option, none, some, some-ne-none, some-injective}
+use Rattle.std.specs.Prelude.{Option, None, Some}
+use Rattle.std.proofs.lemmas.Option.{same_Some}
+use Rattle.answers.proofs.Options.{some-none}
 use mathlib.Core.List.Memᴰ
 use mathlib.Core.List.{List, [], ◌∷◌, ◌++◌, append_assoc}
 use Rattle.answers.specs.Lists.{All, ◌∈◌}
@@ -30,8 +32,8 @@ outward_more next (suc fuel) x seen = by (next x) (λ y. outward_more next fuel 
   where
     by : (o : Option ℕ) → ((y : ℕ) → (more : List ℕ) × (outward next fuel y (y ∷ seen) ≡ more ++ (y ∷ seen)))
         → (more : List ℕ) × (beyond o seen (λ y. outward next fuel y (y ∷ seen)) ≡ more ++ seen)
-    by none go = ([], refl)
-    by (some y) go = let (more, e) = go y in (more ++ (y ∷ []), e ∙ sym (append_assoc more (y ∷ []) seen))
+    by None go = ([], refl)
+    by (Some y) go = let (more, e) = go y in (more ++ (y ∷ []), e ∙ sym (append_assoc more (y ∷ []) seen))
 
 module _ (stops : ℕ → Bool) (next : ℕ → Option ℕ) where
   abbrev stopped : ℕ → Option ℕ
@@ -61,8 +63,8 @@ module _ (stops : ℕ → Bool) (next : ℕ → Option ℕ) where
       by : (o : Option ℕ) → ((y : ℕ) → (more : List ℕ) × (outward next fuel y (y ∷ seen) ≡ more ++ (y ∷ seen)))
           → ((y : ℕ) → stops y ≡ false → Before (outward next fuel y (y ∷ seen)) (outward stopped fuel y (y ∷ seen)))
           → Before (beyond o seen (λ y. outward next fuel y (y ∷ seen))) (beyond (unless_stopped stops o) seen (λ y. outward stopped fuel y (y ∷ seen)))
-      by none more go = all_before k
-      by (some y) more go = at (stops y) refl
+      by None more go = all_before k
+      by (Some y) more go = at (stops y) refl
         where
           at : (t : Bool) → stops y ≡ t
               → Before (outward next fuel y (y ∷ seen)) (beyond (when (not t) y) seen (λ y. outward stopped fuel y (y ∷ seen)))
@@ -94,8 +96,8 @@ module _ (p : Puzzle) where
         (λ i. unless_stopped (λ y. k i && clue_cell (get_or p.cells y Open)) (neighbour p.grid d x)) ∙ by (neighbour p.grid d x)
       where
         by : (o : Option ℕ) → unless_stopped (λ y. false) o ≡ o
-        by none = refl
-        by (some y) = refl
+        by None = refl
+        by (Some y) = refl
 
     pub line_to_edge : (d : Direction) (x : ℕ) → line p d x ≡ to_edge p.grid d x
     line_to_edge d x = λ i. outward (λ y. next_to_edge d y i) (size p.grid) x []
@@ -115,7 +117,7 @@ module _ (p : Puzzle) where
         by (inr (far, y, e, s)) = inr (far, y, e, (stopped_by y s).1)
 
     -- next to a clue a line has no cell
-    pub line_empty : (d : Direction) (x y : ℕ) → neighbour p.grid d x ≡ some y → HasClue p y → line p d x ≡ []
+    pub line_empty : (d : Direction) (x y : ℕ) → neighbour p.grid d x ≡ Some y → HasClue p y → line p d x ≡ []
     unfolding outward
     line_empty d x y e c = by (size p.grid)
       where
@@ -124,18 +126,18 @@ module _ (p : Puzzle) where
         by (suc n) = ap (λ o. beyond o [] (λ z. outward (line_next p d) n z (z ∷ []))) (next_by p d x e (clue_stops y c))
 
   -- beyond the far end is the edge, or, in kind 3, a clue cell
-  pub beyond_far_end : (d : Direction) (x : ℕ) → x < size p.grid → (y : ℕ) → neighbour p.grid d (get_or (line p d x) 0 x) ≡ some y
+  pub beyond_far_end : (d : Direction) (x : ℕ) → x < size p.grid → (y : ℕ) → neighbour p.grid d (get_or (line p d x) 0 x) ≡ Some y
       → (stops_before_clues p.grid.kind ≡ true) × HasClue p y
   beyond_far_end d x h y e = by (stops_before p y) refl
     where
       by : (t : Bool) → stops_before p y ≡ t → (stops_before_clues p.grid.kind ≡ true) × HasClue p y
       by true s = stopped_by y s
-      by false s = absurd (some-ne-none y (sym (next_by p d (get_or (line p d x) 0 x) e s) ∙ line-ends p d x h))
+      by false s = absurd (some-none y (sym (next_by p d (get_or (line p d x) 0 x) e s) ∙ line-ends p d x h))
 
   -- from a cell of the line, or from the clue's own, it goes on to any neighbour that is no clue
   pub goes_on_past : (d : Direction) (x : ℕ) → x < size p.grid → (j y : ℕ) → j ≤ length (line p d x)
-      → neighbour p.grid d (get_or (line p d x) j x) ≡ some y → (HasClue p y → ⊥) → y ∈ line p d x
+      → neighbour p.grid d (get_or (line p d x) j x) ≡ Some y → (HasClue p y → ⊥) → y ∈ line p d x
   goes_on_past d x h zero y l e n = absurd (n (beyond_far_end d x h y e).1)
   goes_on_past d x h (suc j) y l e n =
       let next = outward-next p d x {j = j} (omega arith) in
-      subst (λ z. z ∈ line p d x) (some-injective (get_or (line p d x) j x) y (sym next ∙ e)) (element (line p d x) j x (omega arith))
+      subst (λ z. z ∈ line p d x) (same_Some (get_or (line p d x) j x) y (sym next ∙ e)) (element (line p d x) j x (omega arith))

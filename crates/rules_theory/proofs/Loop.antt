@@ -3,7 +3,7 @@ use Prim.Native.Nat.{ℕ, zero, suc, ◌+◌, ◌<◌}
 use native.Mathlib.Omega.{arith}
 use mathlib.Core.Path.{◌≡◌, refl, sym, ◌∙◌, ap}
 use mathlib.Core.Bool.{Bool, true, false}
-use mathlib.Core.Option.{Option, some, get_or}
+use Rattle.std.specs.Prelude.{Option, Some, unwrap_or}
 use Rattle.answers.specs.First.{Least}
 use Rattle.answers.proofs.Bools.{clash, off}
 use Rattle.rules.specs.declared.Direction.{Direction}
@@ -18,8 +18,8 @@ use Rattle.rules_theory.proofs.Ring.{Ring, walk_good, other-other}
 use Rattle.rules_theory.proofs.Round.{Round, round}
 use Rattle.rules_theory.proofs.Around.{OnRound, stays}
 
-pub go_is : (next : Direction → ℕ → Option ℕ) (d : Direction) (x y : ℕ) → next d x ≡ some y → go next d x ≡ y
-go_is next d x y e = ap (λ (o : Option ℕ). get_or o x) e
+pub go_is : (next : Direction → ℕ → Option ℕ) (d : Direction) (x y : ℕ) → next d x ≡ Some y → go next d x ≡ y
+go_is next d x y e = ap (λ (o : Option ℕ). unwrap_or o x) e
 
 not-ahead : (d : Direction) (x y : ℕ) → Ahead d x y → y ≡ x → ⊥
 not-ahead north x y h e = omega arith
@@ -37,8 +37,8 @@ two_left false false h p q = absurd (omega (arith, ap bit p, ap bit q))
 module _ {size : ℕ} {next : Direction → ℕ → Option ℕ} {white : ℕ → Bool} {link : ℕ → Direction → Bool} (B : Wired size next)
     (L : Links size next white link) where
   -- where a link leads
-  pub far : (x : ℕ) (d : Direction) → link x d ≡ true → next d x ≡ some (go next d x)
-  far x d h = let w = L.matched x d h in w.1 ∙ ap some (sym (go_is next d x w.0 w.1))
+  pub far : (x : ℕ) (d : Direction) → link x d ≡ true → next d x ≡ Some (go next d x)
+  far x d h = let w = L.matched x d h in w.1 ∙ ap Some (sym (go_is next d x w.0 w.1))
 
   met : (x : ℕ) (d : Direction) → link x d ≡ true → link (go next d x) (opposite d) ≡ true
   met x d h = let w = L.matched x d h in rw (go_is next d x w.0 w.1) w.2
@@ -89,7 +89,7 @@ module _ {size : ℕ} {next : Direction → ℕ → Option ℕ} {white : ℕ →
     pub pass_linked : (k : ℕ) → link (pass next link s k).cell (pass next link s k).way ≡ true
     pass_linked k = walk_good ring (start s) first_east k
 
-    pub pass_steps : (k : ℕ) → next (pass next link s k).way (pass next link s k).cell ≡ some (pass next link s (suc k)).cell
+    pub pass_steps : (k : ℕ) → next (pass next link s k).way (pass next link s k).cell ≡ Some (pass next link s (suc k)).cell
     unfolding walk
     pass_steps k = far _ _ (pass_linked k)
 
@@ -104,7 +104,7 @@ module _ {size : ℕ} {next : Direction → ℕ → Option ℕ} {white : ℕ →
     unfolding walk
     pass_last k e = opposite_injective _ _ (sym (other-other ring _ _ (met _ _ (pass_linked k))) ∙ (λ t. other (link (e t).cell) (e t).way) ∙ east_other)
 
-    pub pass_last_step : (k : ℕ) → pass next link s (suc k) ≡ start s → next south s ≡ some (pass next link s k).cell
+    pub pass_last_step : (k : ℕ) → pass next link s (suc k) ≡ start s → next south s ≡ Some (pass next link s k).cell
     pass_last_step k e = B.back north _ s (rw (pass_last k e, ap (λ (v : State). v.cell) e) at (pass_steps k))
 
     -- links lead from s to the cells of the walk, and to no others

@@ -6,7 +6,9 @@ use borrow.Author.Tests.{eqb-true, eqb-false, eq-eqb, ne_eqb}
 use mathlib.Core.Path.{◌≡◌, refl, sym, ◌∙◌, ap, subst}
 use mathlib.Core.Bool.{Bool, true, false, not}
 use mathlib.Core.Logic.{◌⊎◌, inl, inr, ◌↔◌}
-use mathlib.Core.Option.{Option, none, some, some-injective, some-ne-none}
+use Rattle.std.specs.Prelude.{Option, None, Some}
+use Rattle.std.proofs.lemmas.Option.{same_Some}
+use Rattle.answers.proofs.Options.{some-none}
 use mathlib.Core.List.Memᴰ
 use mathlib.Core.List.{List, [], ◌∷◌}
 use Rattle.answers.specs.First.{first_where, Least}
@@ -29,11 +31,11 @@ module _ (ds : List ℕ) where
   test c = eqb (how_many (black_at ds) c.line) c.number
 
   -- 12: clues in cell order, so that the first in the list is the one with the lowest cell
-  first_unmet : (cs : List Clue) → InOrder cs → (x : ℕ) → unmet cs ≡ some x → FirstUnmet cs ds x
-  first_unmet [] o x e = absurd (some-ne-none x (sym e))
+  first_unmet : (cs : List Clue) → InOrder cs → (x : ℕ) → unmet cs ≡ Some x → FirstUnmet cs ds x
+  first_unmet [] o x e = absurd (some-none x (sym e))
   first_unmet (c ∷ cs) (h, o) x e = by (test c) refl e (first_unmet cs o x)
     where
-      by : (t : Bool) → test c ≡ t → unless_met t c.cell (unmet cs) ≡ some x → (unmet cs ≡ some x → FirstUnmet cs ds x) → FirstUnmet (c ∷ cs) ds x
+      by : (t : Bool) → test c ≡ t → unless_met t c.cell (unmet cs) ≡ Some x → (unmet cs ≡ Some x → FirstUnmet cs ds x) → FirstUnmet (c ∷ cs) ds x
       by true q e go =
           let u = go e in
           record {
@@ -48,7 +50,7 @@ module _ (ds : List ℕ) where
           at k l (inl p) = subst (Met ds) (sym p) (eqb-true _ _ q)
           at k l (inr m) = (go e).first k m l
       by false q e go =
-          let here : c.cell ≡ x = some-injective c.cell x e in
+          let here : c.cell ≡ x = same_Some c.cell x e in
           record {
             clue = c;
             among_clues = Memᴰ.head refl;
@@ -61,14 +63,14 @@ module _ (ds : List ℕ) where
           low k l (inl p) = let q : k.cell ≡ c.cell = ap (λ (c : Clue). c.cell) p in omega arith
           low k l (inr m) = let q = h k m in omega arith
 
-  unmet_first : (cs : List Clue) → InOrder cs → (x : ℕ) → FirstUnmet cs ds x → unmet cs ≡ some x
+  unmet_first : (cs : List Clue) → InOrder cs → (x : ℕ) → FirstUnmet cs ds x → unmet cs ≡ Some x
   unmet_first [] o x u = absurd (Memᴰ.not-nil u.among_clues)
   unmet_first (c ∷ cs) (h, o) x u = by (Memᴰ.cases_cons u.among_clues) (unmet_first cs o x)
     where
-      by : (u.clue ≡ c) ⊎ (u.clue ∈ cs) → (FirstUnmet cs ds x → unmet cs ≡ some x) → unless_met (test c) c.cell (unmet cs) ≡ some x
+      by : (u.clue ≡ c) ⊎ (u.clue ∈ cs) → (FirstUnmet cs ds x → unmet cs ≡ Some x) → unless_met (test c) c.cell (unmet cs) ≡ Some x
       by (inl p) go =
           ap (λ t. unless_met t c.cell (unmet cs)) (ne_eqb _ _ (subst (λ (c : Clue). Met ds c → ⊥) p u.unmet))
-          ∙ ap some (ap (λ (c : Clue). c.cell) (sym p) ∙ u.in_cell)
+          ∙ ap Some (ap (λ (c : Clue). c.cell) (sym p) ∙ u.in_cell)
       by (inr m) go =
           ap (λ t. unless_met t c.cell (unmet cs)) (eq-eqb _ _ (u.first c (Memᴰ.head refl) (rw (← u.in_cell) (h u.clue m))))
           ∙ go (record {
@@ -79,7 +81,7 @@ module _ (ds : List ℕ) where
             first = λ k n l. u.first k (Memᴰ.tail n) l;
           })
 
-pub unmet_place : (b : Board) → InOrder b.clues → (ds : List ℕ) (x : ℕ) → clue_not_met b ds ≡ some x ↔ FirstUnmet b.clues ds x
+pub unmet_place : (b : Board) → InOrder b.clues → (ds : List ℕ) (x : ℕ) → clue_not_met b ds ≡ Some x ↔ FirstUnmet b.clues ds x
 unmet_place b o ds x = (first_unmet ds b.clues o x, unmet_first ds b.clues o x)
 
 -- 15: the walk's cells are those to which links lead
@@ -99,18 +101,18 @@ module _ {b : Board} (law : Laws b) (ds : List ℕ) (L : Links b.size b.next (wh
   abbrev from : Option ℕ → Option ℕ
   from o = from_first o (λ s. first_where (off_loop_at b ds s) b.size)
 
-  pub unreached_place : (x : ℕ) → not_one_loop b ds ≡ some x ↔ FirstUnreached b ds x
+  pub unreached_place : (x : ℕ) → not_one_loop b ds ≡ Some x ↔ FirstUnreached b ds x
   unreached_place x = (by (first_where (white_at b ds) b.size) refl, back)
     where
-      by : (o : Option ℕ) → first_where (white_at b ds) b.size ≡ o → from o ≡ some x → FirstUnreached b ds x
-      by none e h = no-white (first_none _ _ e) (sym (some-injective 0 x h))
-      by (some s) e h =
+      by : (o : Option ℕ) → first_where (white_at b ds) b.size ≡ o → from o ≡ Some x → FirstUnreached b ds x
+      by None e h = no-white (first_none _ _ e) (sym (same_Some 0 x h))
+      by (Some s) e h =
           let F = first_some (white_at b ds) b.size s e in
           let l = first_some (off_loop_at b ds s) b.size x h in
           off_loop F (unreached F x l.below l.holds) (λ y m u. clash (off-loop-at F y u) (l.first y m))
 
-      back : FirstUnreached b ds x → not_one_loop b ds ≡ some x
-      back (no-white n e) = ap from (none_first (white_at b ds) b.size n) ∙ ap some (sym e)
+      back : FirstUnreached b ds x → not_one_loop b ds ≡ Some x
+      back (no-white n e) = ap from (none_first (white_at b ds) b.size n) ∙ ap Some (sym e)
       back (off_loop {s = s} F u first) =
           ap from (some_first (white_at b ds) b.size F)
           ∙ some_first (off_loop_at b ds s) b.size (record {

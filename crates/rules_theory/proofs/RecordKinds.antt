@@ -8,7 +8,7 @@ use borrow.Author.Tests.{eqb-true, eqb-false, ltb-false, leb-true, le-ltb, le-le
 use mathlib.Core.Path.{◌≡◌, refl, sym, ◌∙◌, ap, subst}
 use mathlib.Core.Bool.{Bool, true, false, not, ◌&&◌, cond}
 use mathlib.Core.Logic.{◌↔◌, ◌⊎◌, inl, inr}
-use mathlib.Core.Option.{Option, none, some}
+use Rattle.std.specs.Prelude.{Option, None, Some}
 use mathlib.Core.List.{List, [], ◌∷◌, ◌++◌}
 use Rattle.answers.specs.declared.Outcome.{Outcome}
 use Rattle.answers.specs.First.{first_where, LeastWith}
@@ -22,11 +22,8 @@ use Rattle.rules.specs.declared.Layout.{Layout}
 use Rattle.rules.specs.declared.Layout.TheVariants.{Byte, Word}
 use Rattle.rules.specs.declared.Kind.{Kind}
 use Rattle.rules.specs.declared.Kind.TheVariants.{One, Two, Three}
-use Rattle.rules.specs.declared.KindField.TheVariants.{Is as IsKind, NotAllowed as NoKind}
 use Rattle.rules.specs.declared.Cell.{Cell}
 use Rattle.rules.specs.declared.Cell.TheVariants.{Open, Clue, Shaded}
-use Rattle.rules.specs.declared.CellCode.{CellCode}
-use Rattle.rules.specs.declared.CellCode.TheVariants.{Is}
 use Rattle.rules.specs.declared.Grid.{Grid}
 use Rattle.rules.specs.Board.{Board, neighbour, open_at, clue_cell, stops_before_clues, unless_stopped, outward, line_next, clue_of, clues_from, board, board_of}
 use Rattle.rules.specs.Record.{Puzzle, layout_of, kind_number, read_kind, kind_not_allowed, most_side, cell_bytes, most_number, direction_unit, shaded_code, read_cell}
@@ -76,7 +73,7 @@ code-at k s x = by (layout_of k)
     by Byte = byte_at s (6 + 1 * x) ∙ ap (λ j. get_or s j 0) (omega arith)
     by Word = word_at s (6 + 2 * x)
 
-pub code_read : (k : Kind) {c : ℕ} {e : Cell} → CodeIs (record_kind k) c e → read_cell (layout_of k) c ≡ Is e
+pub code_read : (k : Kind) {c : ℕ} {e : Cell} → CodeIs (record_kind k) c e → read_cell (layout_of k) c ≡ Some e
 code_read k (codes_open z) = rw z
 code_read k (codes_clue d n low high m e) = sym (clue_code (layout_of k) _ d n low high m e)
 code_read k (codes_shaded e) = sym (shaded-code (layout_of k) _ e)
@@ -84,7 +81,7 @@ code_read k (codes_shaded e) = sym (shaded-code (layout_of k) _ e)
 read_code : (k : Kind) (c : ℕ) → not_allowed (read_cell (layout_of k) c) ≡ false → CodeIs (record_kind k) c (cell_of (read_cell (layout_of k) c))
 read_code k c = by (read_as (layout_of k) c)
   where
-    by : {r : CellCode} → ReadAs (layout_of k) c r → not_allowed r ≡ false → CodeIs (record_kind k) c (cell_of r)
+    by : {r : Option Cell} → ReadAs (layout_of k) c r → not_allowed r ≡ false → CodeIs (record_kind k) c (cell_of r)
     by (as_open z) h = codes_open z
     by (as_clue d n low high m e) h = codes_clue d n low high m e
     by (as_shaded e) h = codes_shaded e
@@ -106,32 +103,32 @@ module _ (t : Outcome) (z : t.number ≡ 0) where
   three : (a b : Bool) (o : Option ℕ) → told a b o t ≡ refusal 3 0 ↔ (a ≡ true)
   three true b o = (λ e. refl, λ e. refl)
   three false true o = (λ e. other-number e (λ n. omega arith), λ e. clash e refl)
-  three false false (some x) = (λ e. other-number e (λ n. omega arith), λ e. clash e refl)
-  three false false none = (λ e. other-number e (λ n. omega arith), λ e. clash e refl)
+  three false false (Some x) = (λ e. other-number e (λ n. omega arith), λ e. clash e refl)
+  three false false None = (λ e. other-number e (λ n. omega arith), λ e. clash e refl)
 
   four : (a b : Bool) (o : Option ℕ) → told a b o t ≡ refusal 4 0 ↔ (a ≡ false) × (b ≡ true)
   four true b o = (λ e. other-number e (λ n. omega arith), λ e. clash refl e.0)
   four false true o = (λ e. (refl, refl), λ e. refl)
-  four false false (some x) = (λ e. other-number e (λ n. omega arith), λ e. clash e.1 refl)
-  four false false none = (λ e. other-number e (λ n. omega arith), λ e. clash e.1 refl)
+  four false false (Some x) = (λ e. other-number e (λ n. omega arith), λ e. clash e.1 refl)
+  four false false None = (λ e. other-number e (λ n. omega arith), λ e. clash e.1 refl)
 
-  five : (a b : Bool) (o : Option ℕ) (x : ℕ) → told a b o t ≡ refusal 5 x ↔ (a ≡ false) × (b ≡ false) × (o ≡ some x)
+  five : (a b : Bool) (o : Option ℕ) (x : ℕ) → told a b o t ≡ refusal 5 x ↔ (a ≡ false) × (b ≡ false) × (o ≡ Some x)
   five true b o x = (λ e. other-number e (λ n. omega arith), λ e. clash refl e.0)
   five false true o x = (λ e. other-number e (λ n. omega arith), λ e. clash refl e.1)
-  five false false (some y) x = (λ e. (refl, refl, ap (λ (t : Outcome). some t.first) e), λ e. ap (λ o. told false false o t) e.2)
-  five false false none x = (λ e. other-number e (λ n. omega arith), λ e. other-number (ap (λ o. told false false o t) e.2) (λ n. omega arith))
+  five false false (Some y) x = (λ e. (refl, refl, ap (λ (t : Outcome). Some t.first) e), λ e. ap (λ o. told false false o t) e.2)
+  five false false None x = (λ e. other-number e (λ n. omega arith), λ e. other-number (ap (λ o. told false false o t) e.2) (λ n. omega arith))
 
-  answered : (a b : Bool) (o : Option ℕ) → (told a b o t).number ≡ 0 ↔ (a ≡ false) × (b ≡ false) × (o ≡ none)
+  answered : (a b : Bool) (o : Option ℕ) → (told a b o t).number ≡ 0 ↔ (a ≡ false) × (b ≡ false) × (o ≡ None)
   answered true b o = (λ e. absurd (omega arith), λ e. clash refl e.0)
   answered false true o = (λ e. absurd (omega arith), λ e. clash refl e.1)
-  answered false false (some x) = (λ e. absurd (omega arith), λ e. ap (λ o. (told false false o t).number) e.2 ∙ z)
-  answered false false none = (λ e. (refl, refl, refl), λ e. z)
+  answered false false (Some x) = (λ e. absurd (omega arith), λ e. ap (λ o. (told false false o t).number) e.2 ∙ z)
+  answered false false None = (λ e. (refl, refl, refl), λ e. z)
 
   not_two : (a b : Bool) (o : Option ℕ) → (told a b o t).number ≡ 2 → ⊥
   not_two true b o e = omega arith
   not_two false true o e = omega arith
-  not_two false false (some x) e = omega arith
-  not_two false false none e = omega arith
+  not_two false false (Some x) e = omega arith
+  not_two false false None e = omega arith
 
 -- 4. Rows 1 and 2
 
@@ -149,7 +146,7 @@ module _ (s : List ℕ) where
   no_kind = rw (word_at s 2) (by (word s 2) (eqb (word s 2) 1) refl (eqb (word s 2) 2) refl (eqb (word s 2) 3) refl)
     where
       by : (n : ℕ) (a : Bool) → eqb n 1 ≡ a → (b : Bool) → eqb n 2 ≡ b → (c : Bool) → eqb n 3 ≡ c
-          → kind_not_allowed (cond a (IsKind One) (cond b (IsKind Two) (cond c (IsKind Three) NoKind))) ≡ true
+          → kind_not_allowed (cond a (Some One) (cond b (Some Two) (cond c (Some Three) None))) ≡ true
           ↔ (n ≡ 1 → ⊥) × (n ≡ 2 → ⊥) × (n ≡ 3 → ⊥)
       by n true e b f c g = (λ q. clash q refl, λ p. absurd (p.0 (eqb-true n 1 e)))
       by n false e true f c g = (λ q. clash q refl, λ p. absurd (p.1 (eqb-true n 2 f)))
@@ -190,10 +187,10 @@ module _ (s : List ℕ) where
 -- 5. A record of a kind
 
 module _ (k : Kind) (s : List ℕ) (h : OfKind (record_kind k) s) where
-  kind_field : IsKind k ≡ read_kind (word s 2)
+  kind_field : Some k ≡ read_kind (word s 2)
   kind_field = by k ∙ ap read_kind (sym h.kind ∙ word_at s 2)
     where
-      by : (k : Kind) → IsKind k ≡ read_kind (kind_number k)
+      by : (k : Kind) → Some k ≡ read_kind (kind_number k)
       by One = refl
       by Two = refl
       by Three = refl
@@ -247,13 +244,13 @@ module _ (k : Kind) (s : List ℕ) (h : OfKind (record_kind k) s) where
   no_cell : (x : ℕ) → x < cell_count s → wrong_cell grid s x ≡ true ↔ NoCell (record_kind k) s x
   no_cell x l = (λ e c i. clash e (not_wrong x i), λ n. on _ (λ e. n _ (is_cell x e)))
 
-  all_cells : wrong ≡ none ↔ ((x : ℕ) → x < cell_count s → (c : Cell) × CodeIs (record_kind k) (code_at (record_kind k) s x) c)
+  all_cells : wrong ≡ None ↔ ((x : ℕ) → x < cell_count s → (c : Cell) × CodeIs (record_kind k) (code_at (record_kind k) s x) c)
   all_cells = (
     λ e x l. (cell_at (layout_of k) s x, is_cell x (first_none _ _ e x l)),
     λ f. none_first _ _ (λ x l. not_wrong x (f x l).1),
   )
 
-  parts : IsAccepted s ↔ (wrong_side grid ≡ false) × (wrong_size grid s ≡ false) × (wrong ≡ none)
+  parts : IsAccepted s ↔ (wrong_side grid ≡ false) × (wrong_size grid s ≡ false) × (wrong ≡ None)
   parts =
       let w = answered (grid_answer grid) refl (wrong_side grid) (wrong_size grid s) wrong in
       let e = ap (λ (t : Outcome). t.number) answer_is in

@@ -7,7 +7,7 @@ use borrow.Author.Tests.{eqb-true, eqb-false}
 use mathlib.Core.Path.{◌≡◌, refl, sym, ◌∙◌, ap, subst}
 use mathlib.Core.Bool.{Bool, true, false}
 use mathlib.Core.Logic.{◌↔◌, ◌⊎◌, inl, inr}
-use mathlib.Core.Option.{some-injective}
+use Rattle.std.proofs.lemmas.Option.{same_Some}
 use mathlib.Core.List.{List, [], ◌∷◌}
 use Rattle.answers.specs.Lists.{how_many, All, ◌∈◌}
 use Rattle.answers.proofs.Bools.{clash, off, and_both}
@@ -94,7 +94,7 @@ module _ (s : List ℕ) (x : ℕ) (h : ShadedAt s x) where
     off_loop t (here e) = sym e
     off_loop t (along {x = y} {d = d} r l n) =
         let (z, next, back) = S.solution.links.matched y d l in
-        let same : z ≡ x = some-injective z x (sym next ∙ n) in
+        let same : z ≡ x = same_Some z x (sym next ∙ n) in
         clash (ap (λ y. link_at ds y (opposite d)) (sym same) ∙ back) (no_link (opposite d))
 
     pub solution_byte : get_or ds x 0 ≡ 0x20

@@ -5,18 +5,19 @@ use mathlib.Core.Path.{◌≡◌, refl, sym, ◌∙◌, ap}
 use mathlib.Core.Bool.{Bool, true, false}
 use mathlib.Core.Logic.{◌↔◌, ◌⊎◌}
 use lib.ListN.{length}
-use mathlib.Core.Option.{Option, none, some}
+use Rattle.std.specs.Prelude.{Option, None, Some, Result}
 use mathlib.Core.List.{List}
 use Rattle.answers.specs.declared.Outcome.{Outcome}
 use Rattle.answers.specs.First.{Least}
 use Rattle.answers.specs.Outcome.{refusal, first_refusal}
 use Rattle.answers.proofs.Rows.{refusals_append, answered_clear, clear_answered}
+use Rattle.rules.specs.declared.Grid.{Grid}
+use Rattle.rules.specs.declared.RecordRefusal.{RecordRefusal}
+use Rattle.rules.specs.declared.JudgeRefusal.{JudgeRefusal}
 use Rattle.rules.specs.declared.Direction.{Direction}
 use Rattle.rules.specs.declared.Direction.TheVariants.{North as north, East as east, South as south, West as west}
 use Rattle.rules.specs.declared.Kind.{Kind}
 use Rattle.rules.specs.declared.Kind.TheVariants.{One, Two, Three}
-use Rattle.rules.specs.declared.Parsed.{Parsed}
-use Rattle.rules.specs.declared.Verdict.{Verdict}
 use Rattle.rules.specs.Record.{grid_of, puzzle, record_rows, record_answer, IsAccepted, parsed_outcome}
 use Rattle.rules.specs.Board.{Board, board_of, stops_before_clues}
 use Rattle.rules.specs.Drawing.{Drawing, white, Links, Solution, SolutionBytes}
@@ -57,14 +58,14 @@ judge_right s a ds = (λ e. right.0 (sym passed ∙ e), λ S. passed ∙ right.1
     passed = refusals_append (record_rows s) (judge_rows (board_of s) ds) says_yes ∙ clear_answered (record_rows s) _ (records.accepted_clear s a)
 
 -- What stands beside 12: the cell of the first clue, in cell order, that is not met.
-pub clue_place : (s ds : List ℕ) (x : ℕ) → clue_not_met (board_of s) ds ≡ some x ↔ FirstUnmet (board_of s).clues ds x
+pub clue_place : (s ds : List ℕ) (x : ℕ) → clue_not_met (board_of s) ds ≡ Some x ↔ FirstUnmet (board_of s).clues ds x
 clue_place s = unmet_place (board_of s) (clues_in_order (puzzle (grid_of s) s))
 
 -- What stands beside 15, where the drawing has N bytes and 10, 13 and 14 are not the cause: 0 if no cell is white, else the first white cell to which
 -- links do not lead from the first white cell.
 pub loop_place : (s : List ℕ) → IsAccepted s → (ds : List ℕ) → length ds ≡ (board_of s).size
-    → wrong_byte (board_of s) ds ≡ none → link_unmatched (board_of s) ds ≡ none → not_two_links (board_of s) ds ≡ none
-    → (x : ℕ) → not_one_loop (board_of s) ds ≡ some x ↔ FirstUnreached (board_of s) ds x
+    → wrong_byte (board_of s) ds ≡ None → link_unmatched (board_of s) ds ≡ None → not_two_links (board_of s) ds ≡ None
+    → (x : ℕ) → not_one_loop (board_of s) ds ≡ Some x ↔ FirstUnreached (board_of s) ds x
 loop_place s a ds long c10 c13 c14 = let law = accepted_laws s a in unreached_place law ds (clear_links law ds long c10 c13 c14)
 
 -- The first white cell has its links to the east and the south, and none to the north or west.
@@ -89,7 +90,8 @@ module _ {b : Board} (law : Laws b) {D : Drawing} (sol : Solution b D) where
     walk_steps = whole.looped law.wired sol.links first
 
 -- Document 01's numbers and values tell the answers apart: two verdicts with the same outcome are the same, and so are two readings of a record.
-pub outcome_one_to_one : ((v w : Verdict) → verdict_outcome v ≡ verdict_outcome w → v ≡ w) × ((p q : Parsed) → parsed_outcome p ≡ parsed_outcome q → p ≡ q)
+pub outcome_one_to_one : ((v w : Result Unit JudgeRefusal) → verdict_outcome v ≡ verdict_outcome w → v ≡ w)
+    × ((p q : Result Grid RecordRefusal) → parsed_outcome p ≡ parsed_outcome q → p ≡ q)
 outcome_one_to_one = (one_to_one verdicts, one_to_one readings)
 
 -- What the reader tells of a record, in the documents' words (document 02, E4 and E12). Of a record of each kind: when it is accepted, and refusals 3 to 5;

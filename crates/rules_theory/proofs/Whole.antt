@@ -4,7 +4,8 @@ use native.Mathlib.Omega.{arith}
 use lib.ListN.{length, get_or}
 use mathlib.Core.Path.{◌≡◌, refl, sym, ◌∙◌, ap, subst}
 use mathlib.Core.Bool.{Bool, true, false}
-use mathlib.Core.Option.{Option, some-injective}
+use Rattle.std.specs.Prelude.{Option}
+use Rattle.std.proofs.lemmas.Option.{same_Some}
 use mathlib.Core.Logic.{◌⊎◌, inl, inr, ◌↔◌}
 use Rattle.answers.specs.First.{Least}
 use Rattle.answers.proofs.First.{least}
@@ -30,7 +31,7 @@ module _ {size : ℕ} {next : Direction → ℕ → Option ℕ} {white : ℕ →
   backward (here e) = here (sym e)
   backward (along {x = x} {y = y} {d = d} r h e) =
       let m = L.matched x d h in
-      let q : m.0 ≡ y = some-injective m.0 y (sym m.1 ∙ e) in
+      let q : m.0 ≡ y = same_Some m.0 y (sym m.1 ∙ e) in
       further (along (here refl) (rw q at m.2) (B.back d x y e)) (backward r)
 
   -- some white cell from which links lead to every white cell: then there is a first white cell, and they do so from it

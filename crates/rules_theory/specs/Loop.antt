@@ -1,6 +1,5 @@
 -- The walk along the links by the number of its steps, and when its cells are one whole loop.
-use Rattle.std.specs.Prelude.{ℕ, zero, suc, ◌≤◌, ◌<◌, length, get_or, ◌≡◌, Bool, true, ◌↔◌, List, [], ◌∷◌}
-use Rattle.std.proofs.Math.Option.{Option, some}
+use Rattle.std.specs.Prelude.{ℕ, zero, suc, ◌≤◌, ◌<◌, length, get_or, ◌≡◌, Bool, true, ◌↔◌, List, [], ◌∷◌, Option, Some}
 use Rattle.rules.specs.declared.Direction.{Direction}
 use Rattle.rules.specs.declared.Direction.TheVariants.{North as north, South as south}
 use Rattle.answers.specs.Lists.{◌∈◌, Apart}
@@ -18,7 +17,7 @@ pass next link s k = walk (go next) (onto link) (start s) k
 
 -- a link leads from x to y
 abbrev pub Linked : (Direction → ℕ → Option ℕ) → (ℕ → Direction → Bool) → ℕ → ℕ → Type 0
-Linked next link x y = (d : Direction) × (link x d ≡ true) × (next d x ≡ some y)
+Linked next link x y = (d : Direction) × (link x d ≡ true) × (next d x ≡ Some y)
 
 -- of x, the elements of the list, and z at its end, each is related to the next one
 abbrev pub Chain : (ℕ → ℕ → Type 0) → ℕ → List ℕ → ℕ → Type 0
@@ -43,6 +42,6 @@ pub record Looped (size : ℕ) (next : Direction → ℕ → Option ℕ) (link :
   pub passes : (x : ℕ) → Reach next link s x → (k : ℕ) × (k < m) × ((pass next link s k).cell ≡ x)
   pub differ : (i j : ℕ) → i < j → j < m → (pass next link s i).cell ≡ (pass next link s j).cell → ⊥
   pub linked : (k : ℕ) → link (pass next link s k).cell (pass next link s k).way ≡ true
-  pub steps : (k : ℕ) → next (pass next link s k).way (pass next link s k).cell ≡ some (pass next link s (suc k)).cell
+  pub steps : (k : ℕ) → next (pass next link s k).way (pass next link s k).cell ≡ Some (pass next link s (suc k)).cell
   pub returns : pass next link s m ≡ start s
-  pub from_south : (k : ℕ) → suc k ≡ m → ((pass next link s k).way ≡ north) × (next south s ≡ some (pass next link s k).cell)
+  pub from_south : (k : ℕ) → suc k ≡ m → ((pass next link s k).way ≡ north) × (next south s ≡ Some (pass next link s k).cell)

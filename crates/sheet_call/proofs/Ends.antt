@@ -5,27 +5,22 @@ use borrow.Author.Tests.{eqb-true, not-false}
 use lib.Ieee.Positive.{first_pos}
 use lib.ListN.{length}
 use mathlib.Core.Path.{◌≡◌, refl, sym, ◌∙◌, ap, subst}
-use mathlib.Core.Option.{none, some-ne-none}
+use Rattle.std.specs.Prelude.{None}
+use Rattle.answers.proofs.Options.{some-none}
 use mathlib.Core.List.{List, [], ◌∷◌}
 use Rattle.answers.specs.declared.Outcome.{Outcome}
 use Rattle.answers.specs.First.{first_where, first_from}
 use Rattle.answers.specs.Outcome.{Row, row, refusal, answer, first_refusal}
 use Rattle.answers.specs.Lent.{Wrote, too_short, filled, unless_refused}
 use Rattle.answers.proofs.Lent.{wrote_filled}
-use Rattle.answers.proofs.OneToOne.{number-not}
-use Rattle.answers.proofs.Rows.{RowsGive, answers, refuses, passes, rows_give, refusals_append, Clear, answered_clear, clear_answered, no-cause, still_refused}
+use Rattle.answers.proofs.Rows.{RowsGive, answers, refuses, passes, rows_give, refusals_append, Clear, answered_clear, clear_answered, no-cause}
 use Rattle.answers.proofs.Settled.{short_by, long_enough, untouched, settles}
 use Rattle.rules.specs.declared.Grid.{Grid}
-use Rattle.rules.specs.declared.Parsed.{Parsed}
-use Rattle.rules.specs.declared.Parsed.TheVariants.{Accepted, Refused}
+use Rattle.rules.specs.declared.board.Board as code
 use Rattle.rules.specs.declared.RecordRefusal.{RecordRefusal}
-use Rattle.rules.specs.declared.JudgeRefusal.{JudgeRefusal}
-use Rattle.rules.specs.declared.Verdict.{Verdict}
-use Rattle.rules.specs.declared.Verdict.TheVariants.{Yes, No}
-use Rattle.rules.specs.Record.{puzzle, grid_of, size, Sides, record_answer, record_refusal_outcome, parsed_outcome}
+use Rattle.rules.specs.Record.{puzzle, grid_of, size, Sides, record_answer, record_refusal_outcome, grid_answer}
 use Rattle.rules.specs.Board.{Board, grid_board}
-use Rattle.rules.specs.Judge.{white_at, off_loop_at, from_first, not_one_loop, judge_rows, says_yes, judge_refusal_outcome, verdict_outcome}
-use Rattle.rules.proofs.Outcomes.{judge_numbers}
+use Rattle.rules.specs.Judge.{white_at, off_loop_at, from_first, not_one_loop, judge_rows, says_yes}
 use Rattle.rules.proofs.Records.{refusal-number, passes_up, read_grid, goes_on}
 use Rattle.sheet.specs.Sheet.{sheet_text, sheet_bytes, sheet_of}
 use Rattle.sheet.specs.SheetCall.{sheet_grid_rows, sheet_answer, sheet_leaves}
@@ -35,12 +30,12 @@ use Rattle.sheet_call.proofs.LineParts.{sheet_small}
 -- 1. A drawing that the judge agrees with
 
 -- a board with one loop has a cell, so it has a row
-some_cell : (b : Board) (ds : List ℕ) → not_one_loop b ds ≡ none → 0 < b.size
+some_cell : (b : Board) (ds : List ℕ) → not_one_loop b ds ≡ None → 0 < b.size
 unfolding first_from
 some_cell b ds e = by b.size e
   where
-    by : (n : ℕ) → from_first (first_where (white_at b ds) n) (λ s. first_where (off_loop_at b ds s) n) ≡ none → 0 < n
-    by zero e = absurd (some-ne-none 0 e)
+    by : (n : ℕ) → from_first (first_where (white_at b ds) n) (λ s. first_where (off_loop_at b ds s) n) ≡ None → 0 < n
+    by zero e = absurd (some-none 0 e)
     by (suc n) e = omega arith
 
 pub record Agreed (g : Grid) (s ds : List ℕ) : Type 0 where
@@ -48,9 +43,9 @@ pub record Agreed (g : Grid) (s ds : List ℕ) : Type 0 where
   pub drawn : length ds ≡ size g
   pub tall : 0 < g.rows
 
-pub agreed : (g : Grid) (s ds : List ℕ) {v : Verdict} → verdict_outcome v ≡ first_refusal (judge_rows (grid_board g s) ds) says_yes → v ≡ Yes → Agreed g s ds
-agreed g s ds e q =
-    let c = answered_clear (judge_rows (grid_board g s) ds) says_yes refl (ap (λ (t : Outcome). t.number) (sym e ∙ ap verdict_outcome q)) in
+pub agreed : (g : Grid) (s ds : List ℕ) → says_yes ≡ first_refusal (judge_rows (grid_board g s) ds) says_yes → Agreed g s ds
+agreed g s ds e =
+    let c = answered_clear (judge_rows (grid_board g s) ds) says_yes refl (ap (λ (t : Outcome). t.number) (sym e)) in
     let (c7, (c10, (c11, (c12, (c13, (c14, (c15, z))))))) = c in
     record {
       clear = c;
@@ -73,15 +68,6 @@ module _ (g : Grid) (s ds out : List ℕ) where
 
   abbrev pub GridEnds : Outcome → List ℕ → Type 0
   GridEnds u new = (u ≡ told) × (new ≡ unless_refused told out (filled out text))
-
-  pub ends-no : {v : Verdict} {f : JudgeRefusal} → verdict_outcome v ≡ first_refusal (judge_rows (grid_board g s) ds) says_yes → v ≡ No f
-      → GridEnds (judge_refusal_outcome f) out
-  ends-no {f = f} e q =
-      let judged : judge_refusal_outcome f ≡ first_refusal (judge_rows (grid_board g s) ds) says_yes = sym (ap verdict_outcome q) ∙ e in
-      let number : (judge_refusal_outcome f).number ≡ 0 → ⊥ = number-not judge_numbers f (omega arith) in
-      settles out (filled out text)
-      (judged ∙ still_refused (judge_rows (grid_board g s) ds) room says_yes _ refl (λ z. number (ap (λ (t : Outcome). t.number) judged ∙ z)))
-      (sym (untouched (judge_refusal_outcome f) out (filled out text) number))
 
   -- the judge agrees: it is left to row 6
   module _ (a : Agreed g s ds) (h : Sides g) {n : ℕ} (e : n ≡ sheet_bytes g) where
@@ -108,14 +94,14 @@ module _ (s ds out : List ℕ) where
   abbrev Ends : Outcome → List ℕ → Type 0
   Ends u new = (u ≡ sheet_answer s ds out) × (new ≡ sheet_leaves s ds out)
 
-  pub ends-refused : {p : Parsed} {r : RecordRefusal} → p ≡ Refused r → parsed_outcome p ≡ record_answer s → Ends (record_refusal_outcome r) out
-  ends-refused {r = r} q e =
-      settles out (filled out (sheet_of s ds)) (passes_up s (sheet_grid_rows (grid_of s) s ds out) _ q e)
+  pub ends-refused : (r : RecordRefusal) → record_refusal_outcome r ≡ record_answer s → Ends (record_refusal_outcome r) out
+  ends-refused r e =
+      settles out (filled out (sheet_of s ds)) (passes_up s (sheet_grid_rows (grid_of s) s ds out) _ r e)
       (sym (untouched (record_refusal_outcome r) out (filled out (sheet_of s ds)) (refusal-number r)))
 
-  pub ends_read : {p : Parsed} {g : Grid} → p ≡ Accepted g → parsed_outcome p ≡ record_answer s → {u : Outcome} {new : List ℕ}
-      → GridEnds g s ds out u new → Ends u new
-  ends_read q e {u} {new} w =
-      let (a, b) = subst (λ g. GridEnds g s ds out u new) (read_grid s q e) w in
-      let t = goes_on s q e (λ g. sheet_grid_rows (grid_of s) s ds out) (answer (length (sheet_of s ds)) 0 0) in
-      (a ∙ t, b ∙ ap (λ u. unless_refused u out (filled out (sheet_of s ds))) t)
+  pub ends_read : (b : code.Board) → grid_answer b.grid ≡ record_answer s → b.record.now ≡ s → {u : Outcome} {new : List ℕ}
+      → GridEnds b.grid b.record.now ds out u new → Ends u new
+  ends_read b e same {u} {new} w =
+      let (a, l) = subst (λ g. GridEnds g s ds out u new) (read_grid s b.grid e) (subst (λ r. GridEnds b.grid r ds out u new) same w) in
+      let t = goes_on s b.grid e (λ g. sheet_grid_rows (grid_of s) s ds out) (answer (length (sheet_of s ds)) 0 0) in
+      (a ∙ t, l ∙ ap (λ u. unless_refused u out (filled out (sheet_of s ds))) t)

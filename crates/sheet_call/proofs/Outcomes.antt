@@ -1,10 +1,11 @@
 -- Document 01's number and value tell every answer of the sheet from every other. Assumes nothing.
-use Prim.Native.Nat.{◌≤◌}
+use Prim.Native.Nat.{ℕ, ◌≤◌}
 use native.Mathlib.Omega.{arith}
 use lib.Dec.{eqb}
 use mathlib.Core.Path.{◌≡◌, refl, ap}
 use borrow.Author.Tests.{ne_eqb}
 use mathlib.Core.Bool.{false, cond}
+use Rattle.std.specs.Prelude.{Result, Ok, Err}
 use Rattle.answers.specs.declared.Outcome.{Outcome}
 use Rattle.answers.proofs.OneToOne.{OneToOne, one_to_one, Between, number-not, number-eqb}
 use Rattle.rules.specs.declared.JudgeRefusal.{JudgeRefusal}
@@ -13,8 +14,6 @@ use Rattle.rules.specs.Judge.{judge_refusal_outcome}
 use Rattle.rules.proofs.Outcomes.{record_numbers, rule_numbers, judge_numbers, judge_refusals}
 use Rattle.sheet_call.specs.declared.SheetRefusal.{SheetRefusal}
 use Rattle.sheet_call.specs.declared.SheetRefusal.TheVariants.{Judge, TooShort}
-use Rattle.sheet_call.specs.declared.SheetAnswer.{SheetAnswer}
-use Rattle.sheet_call.specs.declared.SheetAnswer.TheVariants.{Bytes, Refused}
 use Rattle.sheet_call.specs.Answer.{sheet_refusal_outcome, sheet_answer_outcome}
 
 -- the refusals are the judge's, and 6
@@ -47,12 +46,12 @@ sheet_refusals = record { from = from; back = back }
 pub sheet_answers : OneToOne sheet_answer_outcome
 sheet_answers = record { from = from; back = back }
   where
-    from : Outcome → SheetAnswer
-    from t = cond (eqb t.number 0) (Bytes t.first) (Refused (sheet_refusals.from t))
+    from : Outcome → Result ℕ SheetRefusal
+    from t = cond (eqb t.number 0) (Ok t.first) (Err (sheet_refusals.from t))
 
-    back : (a : SheetAnswer) → from (sheet_answer_outcome a) ≡ a
-    back (Bytes n) = refl
-    back (Refused r) = rw (number-eqb sheet_numbers r {n = 0} (omega arith)) (ap Refused (sheet_refusals.back r))
+    back : (a : Result ℕ SheetRefusal) → from (sheet_answer_outcome a) ≡ a
+    back (Ok n) = refl
+    back (Err r) = rw (number-eqb sheet_numbers r {n = 0} (omega arith)) (ap Err (sheet_refusals.back r))
 
-pub sheet_outcome_one_to_one : (a b : SheetAnswer) → sheet_answer_outcome a ≡ sheet_answer_outcome b → a ≡ b
+pub sheet_outcome_one_to_one : (a b : Result ℕ SheetRefusal) → sheet_answer_outcome a ≡ sheet_answer_outcome b → a ≡ b
 sheet_outcome_one_to_one = one_to_one sheet_answers

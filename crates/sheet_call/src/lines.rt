@@ -1,56 +1,53 @@
 // The lines of a sheet, put into a lent buffer. What is beyond its end is left out and counted all the same.
-ghost use Rattle.std.specs.Prelude.{◌≡◌, ◌+◌, ◌*◌, ◌<◌, ◌^◌};
+ghost use Rattle.std.specs.Prelude.{◌≡◌, ◌+◌, ◌*◌, ◌<◌, ◌^◌, length};
 ghost use Rattle.answers.specs.Lent.{Wrote};
-ghost use Rattle.rules.specs.Record.{puzzle, Sides, DrawingFits};
+ghost use Rattle.answers.specs.Writer.{Puts};
+ghost use Rattle.rules.specs.Record.{Sides};
+ghost use Rattle.rules.specs.Read.{puzzle_on};
 ghost use Rattle.sheet.specs.Sheet.{line_text, with_line_feed, sheet_text, sheet_bytes};
-ghost use Rattle.sheet_call.specs.Characters.{characters_of, LineFits};
+ghost use Rattle.sheet_call.specs.Characters.{characters_of};
 
 use super::Characters;
 use super::shown::shown_at;
+use answers::Writer;
 use rules::Grid;
-use text::put_byte;
+use rules::board::Drawn;
 
-fn put_characters(text: &mut [u8], at: usize, c: Characters) -> usize
-    requires { at + 3 < 2 ^ 64 }
-    ensures { Wrote text.old at (characters_of c) text.new result }
+fn put_characters(out: &mut Writer<u8>, c: Characters)
+    requires { out.old.place + 3 < 2 ^ 64 }
+    ensures { Puts out.old (characters_of c) out.new }
 {
-    let left = put_byte(text, at, c.left);
-    let middle = put_byte(text, left, c.middle);
-    put_byte(text, middle, c.right)
+    out.put_slice(&[c.left, c.middle, c.right]);
 }
 
 // Line i, counted from 0, and its LF.
-fn put_line(text: &mut [u8], at: usize, g: Grid, record: &[u8], drawing: &[u8], i: usize) -> usize
-    requires line_fits { LineFits g «record».now drawing.now i }
-    requires columns_bound { at + (3 * g.columns + 1) < 2 ^ 64 }
-    ensures { let line = line_text (puzzle g «record».now) drawing.now i in
-        Wrote text.old at (with_line_feed line) text.new result }
+#[tactic(auto, using(crate::proofs::LineParts::cells))]
+fn put_line(out: &mut Writer<u8>, drawn: &Drawn, i: usize)
+    requires i_bound { i + 1 < 2 * drawn.now.board.grid.rows }
+    requires place_bound { let line = line_text (puzzle_on drawn.now.board) drawn.now.drawing.now i in
+        out.old.place + length (with_line_feed line) < 2 ^ 64 }
+    ensures { let line = line_text (puzzle_on drawn.now.board) drawn.now.drawing.now i in
+        Puts out.old (with_line_feed line) out.new }
 {
-    let columns = g.columns;
+    let columns = drawn.board.grid.columns;
     let first = i / 2 * columns;
-    let mut p = at;
-    let mut c = 0;
-    while c < columns {
-        let shown = shown_at(g, record, drawing, i, first + c);
-        p = put_characters(text, p, shown);
-        c += 1;
+    for x in first..first + columns {
+        put_characters(out, shown_at(drawn, i, x));
     }
-    put_byte(text, p, 10)
+    out.put(b'\n');
 }
 
 // The whole sheet. A line between rows follows every cell row but the last.
-pub fn put_sheet(text: &mut [u8], g: Grid, record: &[u8], drawing: &[u8]) -> usize
-    requires { DrawingFits g «record».now drawing.now }
-    ensures { Wrote text.old 0 (sheet_text (puzzle g «record».now) drawing.now) text.new result }
+#[tactic(auto, using(crate::proofs::LineParts::sheet_lines))]
+pub fn put_sheet(text: &mut [u8], drawn: &Drawn) -> usize
+    ensures { Wrote text.old 0 (sheet_text (puzzle_on drawn.now.board) drawn.now.drawing.now) text.new result }
 {
-    let rows = g.rows;
-    let mut p = 0;
-    let mut i = 0;
-    while i + 1 < 2 * rows {
-        p = put_line(text, p, g, record, drawing, i);
-        i += 1;
+    let mut out = Writer::new(text);
+    let lines = (2 * drawn.board.grid.rows).saturating_sub(1);
+    for i in 0..lines {
+        put_line(&mut out, drawn, i);
     }
-    p
+    out.place()
 }
 
 // The bytes of a sheet.
@@ -59,7 +56,5 @@ pub fn sheet_length(g: Grid) -> usize
     requires rows_nonzero { 0 < g.rows }
     ensures { result ≡ sheet_bytes g }
 {
-    let rows = g.rows;
-    let columns = g.columns;
-    (2 * rows - 1) * (3 * columns + 1)
+    (2 * g.rows - 1) * (3 * g.columns + 1)
 }

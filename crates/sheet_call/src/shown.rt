@@ -1,12 +1,14 @@
 // What a line of a sheet shows at a cell: three characters.
 ghost use Rattle.std.specs.Prelude.{◌≡◌, ◌<◌};
-ghost use Rattle.rules.specs.Record.{size, puzzle, DrawingFits};
+ghost use Rattle.rules.specs.Record.{size};
+ghost use Rattle.rules.specs.Read.{puzzle_on};
 ghost use Rattle.sheet.specs.Sheet.{letter, side, clue_text, open_text, TwoDigits, cell_text, under_text, shown_at};
 ghost use Rattle.sheet_call.specs.Characters.{characters_of};
 
 use super::Characters;
 use judge_cells::drawing::linked;
-use rules::{Cell, Direction, Grid};
+use rules::board::Drawn;
+use rules::{Cell, Direction};
 
 fn letter(d: Direction) -> u8
     ensures { result ≡ letter d }
@@ -23,29 +25,18 @@ fn letter(d: Direction) -> u8
 fn side(v: u8, d: Direction) -> u8
     ensures { result ≡ side v d }
 {
-    let link = linked(v, d);
-    if link {
-        return b'-';
-    }
-    b' '
+    if linked(v, d) { b'-' } else { b' ' }
 }
 
 // A clue: its letter, and the number right-aligned in two.
+#[tactic(auto, using(sheet::proofs::Widths::narrow_number, sheet::proofs::Widths::wide_number))]
 fn clue_text(d: Direction, n: u8) -> Characters
     requires { n < 100 }
     ensures { characters_of result ≡ clue_text d n }
 {
-    let left = letter(d);
-    if n < 10 {
-        return Characters {
-            left,
-            middle: b' ',
-            right: b'0' + n,
-        };
-    }
     Characters {
-        left,
-        middle: b'0' + n / 10,
+        left: letter(d),
+        middle: if n < 10 { b' ' } else { b'0' + n / 10 },
         right: b'0' + n % 10,
     }
 }
@@ -61,12 +52,10 @@ fn open_text(v: u8) -> Characters
             right: b' ',
         };
     }
-    let west = side(v, Direction::West);
-    let east = side(v, Direction::East);
     Characters {
-        left: west,
+        left: side(v, Direction::West),
         middle: b'+',
-        right: east,
+        right: side(v, Direction::East),
     }
 }
 
@@ -89,29 +78,25 @@ fn cell_text(cell: Cell, v: u8) -> Characters
 fn under_text(v: u8) -> Characters
     ensures { characters_of result ≡ under_text v }
 {
-    let south = linked(v, Direction::South);
-    if south {
-        return Characters {
-            left: b' ',
-            middle: b'|',
-            right: b' ',
-        };
-    }
     Characters {
         left: b' ',
-        middle: b' ',
+        middle: if linked(v, Direction::South) {
+            b'|'
+        } else {
+            b' '
+        },
         right: b' ',
     }
 }
 
 // What line i shows at cell x: the even lines are the cell rows, the odd ones the lines between rows.
-pub fn shown_at(g: Grid, record: &[u8], drawing: &[u8], i: usize, x: usize) -> Characters
-    requires drawing_fits { DrawingFits g «record».now drawing.now }
-    requires x_bound { x < size g }
-    ensures { characters_of result ≡ shown_at (puzzle g «record».now) drawing.now i x }
+pub fn shown_at(drawn: &Drawn, i: usize, x: usize) -> Characters
+    requires { x < size drawn.now.board.grid }
+    ensures { characters_of result ≡ shown_at (puzzle_on drawn.now.board) drawn.now.drawing.now i x }
 {
     if i % 2 == 0 {
-        return cell_text(g.cell(record, x), drawing[x]);
+        cell_text(drawn.board.cell(x), drawn.drawing[x])
+    } else {
+        under_text(drawn.drawing[x])
     }
-    under_text(drawing[x])
 }

@@ -1,7 +1,6 @@
 -- `judge_cells::cells::black_there` meets its contract. Assumes nothing.
-use Rattle.answers.proofs.First.{found_at}
-use Rattle.judge_cells.proofs.Checks.{beside}
+use Rattle.judge_cells.proofs.Checks.{on_drawn, beside}
 use Rattle.judge_cells.proofs.cells.black_there.Goals as goal
 
-pub bounds-drawing-y : goal.bounds-drawing-y
-bounds-drawing-y c = beside c.requires.on_board c.requires.drawing_len c.args.d (found_at c.in-At.is c.neighbour-p.ensures)
+pub bounds-drawn-y : goal.bounds-drawn-y
+bounds-drawn-y c = beside (on_drawn c.args.drawn.now c.requires) c.args.drawn.now.drawn c.args.d c.in-Some.ensures

@@ -4,4 +4,4 @@ use Rattle.judge_cells.proofs.Checks.{is_opened}
 use Rattle.judge_cells.proofs.cells.is_open.Goals as goal
 
 pub returns : goal.returns
-returns c = c.is_open.ensures ∙ is_opened c.requires.record_fits c.requires.x_bound refl
+returns c = c.is_open.ensures ∙ is_opened c.args.board.now.fits c.requires refl

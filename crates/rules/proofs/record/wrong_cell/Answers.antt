@@ -1,13 +1,21 @@
 -- `rules::record::wrong_cell` meets its contract: a loop that seeks the first cell. Assumes nothing.
-use mathlib.Core.Path.{◌≡◌, sym, ◌∙◌}
-use Rattle.answers.proofs.First.{seek_found, seek_none}
-use Rattle.rules.specs.Record.{read_cell, not_allowed, wrong_cell}
+use native.Mathlib.Omega.{arith}
+use mathlib.Core.Path.{refl, sym, ◌∙◌, ap}
+use mathlib.Core.Bool.{not}
+use Rattle.std.specs.Prelude.{is_none}
+use Rattle.answers.proofs.First.{seek_found, seek_on, seek_none}
+use Rattle.rules.specs.Record.{layout_of, read_cell}
 use Rattle.rules.proofs.record.wrong_cell.Goals as goal
 
-pub returns-then-bad : goal.returns-then-bad
-returns-then-bad c =
-    let is-wrong : wrong_cell c.args.g c.args.«record».now c.loop-x.x ≡ c.not_allowed-bad.result = sym (c.not_allowed-bad.ensures ∙ (λ i. not_allowed (read_cell (c.layout-layout.ensures i) (c.code.ensures i)))) in
-    seek_found c.loop-x.invariant c.loop-x-test.true (is-wrong ∙ c.if-bad.true) c.size-n.ensures
+pub returns-then-is_none : goal.returns-then-is_none
+returns-then-is_none c =
+    let read = c.read_cell.ensures ∙ ap (λ l. read_cell l c.code.result) c.layout-layout.ensures ∙ ap (read_cell (layout_of c.args.g.kind)) c.code.ensures in
+    seek_found c.loop-x.invariant (omega arith) (ap is_none (sym read) ∙ ap not c.if-is_none.ensures) refl
+
+pub loop-x-preserved : goal.loop-x-preserved
+loop-x-preserved c =
+    let read = c.read_cell.ensures ∙ ap (λ l. read_cell l c.code.result) c.layout-layout.ensures ∙ ap (read_cell (layout_of c.args.g.kind)) c.code.ensures in
+    seek_on c.loop-x.invariant (omega arith) (ap is_none (sym read) ∙ ap not c.if-is_none.ensures)
 
 pub returns : goal.returns
-returns c = seek_none c.loop-x.invariant c.loop-x-test.false c.size-n.ensures
+returns c = seek_none c.loop-x.invariant (omega arith) refl

@@ -1,10 +1,11 @@
--- `sheet_call::lines::put_line` meets its contract: cell by cell, then the LF. Assumes nothing.
-use Prim.Native.Nat.{◌-◌}
-use Rattle.sheet_call.proofs.LineParts.{LinePut}
+-- `sheet_call::lines::put_line` meets its contract: the cells from one on are still to be put, and the LF. Assumes nothing.
+use Rattle.std.proofs.Common.{◌+◌}
+use Rattle.answers.proofs.Putting.{Putting}
+use Rattle.sheet_call.proofs.LineParts.{cells_left, line_of}
 use Rattle.sheet_call.proofs.lines.put_line.Given as goal
 
-abbrev pub invariant-loop-c : goal.invariant-loop-c
-invariant-loop-c l = LinePut l.g l.record l.drawing l.i l.initial.text l.at l.text l.p l.c
-
-abbrev pub decreases-loop-c : goal.decreases-loop-c
-decreases-loop-c l = l.g.columns - l.c
+abbrev pub invariant-loop-x : goal.invariant-loop-x
+invariant-loop-x l =
+    let b = l.drawn.board in
+    let ds = l.drawn.drawing.now in
+    Putting l.initial.out (line_of b.grid b.record.now ds l.i) l.out (cells_left b.grid b.record.now ds l.i (l.first + l.columns) l.x)
