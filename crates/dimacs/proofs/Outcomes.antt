@@ -1,19 +1,17 @@
 -- Document 01's number and values tell every answer of the writer and the text reader from every other. Assumes nothing.
-use Prim.Native.Nat.{◌≤◌}
+use Prim.Native.Nat.{ℕ, ◌≤◌}
 use native.Mathlib.Omega.{arith}
 use lib.Dec.{eqb}
 use mathlib.Core.Path.{◌≡◌, refl, ap}
 use mathlib.Core.Bool.{cond}
+use Rattle.std.specs.Prelude.{Result, Ok, Err}
 use Rattle.answers.specs.declared.Outcome.{Outcome}
 use Rattle.answers.proofs.OneToOne.{OneToOne, Between, number-eqb}
 use Rattle.dimacs.specs.declared.WriteRefusal.{WriteRefusal}
+use Rattle.dimacs.specs.declared.ListRead.{ListRead}
 use Rattle.dimacs.specs.declared.WriteRefusal.TheVariants.{Variables, List as WrongList, Room as WriteRoom}
-use Rattle.dimacs.specs.declared.Written.{Written}
-use Rattle.dimacs.specs.declared.Written.TheVariants.{Bytes, Refused as NotWritten}
 use Rattle.dimacs.specs.declared.ReadRefusal.{ReadRefusal}
 use Rattle.dimacs.specs.declared.ReadRefusal.TheVariants.{Text as WrongText, Room as ReadRoom}
-use Rattle.dimacs.specs.declared.Reading.{Reading}
-use Rattle.dimacs.specs.declared.Reading.TheVariants.{List as Read, Refused as NotRead}
 use Rattle.dimacs.specs.Answers.{write_refusal_outcome, written_outcome, read_refusal_outcome, reading_outcome}
 
 -- the writer's refusals are 17, 16 and 6
@@ -39,12 +37,12 @@ write_refusals = record { from = from; back = back }
 pub writings : OneToOne written_outcome
 writings = record { from = from; back = back }
   where
-    from : Outcome → Written
-    from t = cond (eqb t.number 0) (Bytes t.first) (NotWritten (write_refusals.from t))
+    from : Outcome → Result ℕ WriteRefusal
+    from t = cond (eqb t.number 0) (Ok t.first) (Err (write_refusals.from t))
 
-    back : (w : Written) → from (written_outcome w) ≡ w
-    back (Bytes n) = refl
-    back (NotWritten r) = rw (number-eqb write_numbers r {n = 0} (omega arith)) (ap NotWritten (write_refusals.back r))
+    back : (w : Result ℕ WriteRefusal) → from (written_outcome w) ≡ w
+    back (Ok n) = refl
+    back (Err r) = rw (number-eqb write_numbers r {n = 0} (omega arith)) (ap Err (write_refusals.back r))
 
 -- the text reader's are 19 and 6
 pub read_numbers : Between read_refusal_outcome 6 19
@@ -67,9 +65,9 @@ read_refusals = record { from = from; back = back }
 pub readings : OneToOne reading_outcome
 readings = record { from = from; back = back }
   where
-    from : Outcome → Reading
-    from t = cond (eqb t.number 0) (Read t.first t.second t.third) (NotRead (read_refusals.from t))
+    from : Outcome → Result ListRead ReadRefusal
+    from t = cond (eqb t.number 0) (Ok (record { elements = t.first; variables = t.second; clauses = t.third })) (Err (read_refusals.from t))
 
-    back : (r : Reading) → from (reading_outcome r) ≡ r
-    back (Read elements variables clauses) = refl
-    back (NotRead r) = rw (number-eqb read_numbers r {n = 0} (omega arith)) (ap NotRead (read_refusals.back r))
+    back : (r : Result ListRead ReadRefusal) → from (reading_outcome r) ≡ r
+    back (Ok r) = refl
+    back (Err r) = rw (number-eqb read_numbers r {n = 0} (omega arith)) (ap Err (read_refusals.back r))

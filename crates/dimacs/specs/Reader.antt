@@ -1,6 +1,5 @@
 -- The text reader: the accepted texts byte by byte, and row 19 of "Turned down".
-use Rattle.std.specs.Prelude.{ℕ, suc, ◌+◌, ◌*◌, ◌-◌, ◌^◌, eqb, leb, ltb, ℤ, pos, neg_ℤ, Bool, true, false, not, ◌&&◌, ◌||◌, cond, List, [], ◌∷◌, ◌++◌}
-use Rattle.std.proofs.Math.Option.{Option, none, some}
+use Rattle.std.specs.Prelude.{ℕ, suc, ◌+◌, ◌*◌, ◌-◌, ◌^◌, eqb, leb, ltb, ℤ, pos, neg_ℤ, Bool, true, false, not, ◌&&◌, ◌||◌, cond, List, [], ◌∷◌, ◌++◌, Option, None, Some}
 use Rattle.answers.specs.Lists.{tally}
 use Rattle.cnf.specs.Literals.{most_variables}
 use Rattle.text.specs.Decimal.{line_feed, space, minus}
@@ -34,8 +33,8 @@ pub data State : Type 0 where
   clause : Header → ℕ → Bool → Bool → State
 
 abbrev pub when : Bool → State → Option State
-when true s = some s
-when false s = none
+when true s = Some s
+when false s = None
 
 -- V is at most 16,777,216, C below 2^64, no literal is beyond V
 abbrev pub most : Number → ℕ
@@ -82,7 +81,7 @@ after_word [] = first of_variables
 after_word (w ∷ ws) = word (w ∷ ws)
 
 abbrev pub word_step : List ℕ → ℕ → Option State
-word_step [] b = none
+word_step [] b = None
 word_step (w ∷ ws) b = when (eqb b w) (after_word ws)
 
 -- the `c` of a comment line: a line begins, and no clause is begun
@@ -92,20 +91,20 @@ starts_comment begun at_line b = eqb b 99 && at_line && not begun
 -- the first byte of an element: none after the C-th clause; a minus only if there is a variable
 abbrev pub element_step : Header → ℕ → ℕ → Option State
 element_step h k b =
-    cond (eqb k h.clauses) none
+    cond (eqb k h.clauses) None
     (cond (eqb b minus) (when (not (eqb h.variables 0)) (first (element h k true)))
     (first_digit (element h k false) b))
 
 -- a byte that is not right after a number: a blank, the `c` of a comment line, or an element's first
 abbrev pub clause_step : Header → ℕ → Bool → Bool → ℕ → Option State
 clause_step h k begun at_line b =
-    cond (is_blank b) (some (clause h k begun (eqb b line_feed)))
-    (cond (starts_comment begun at_line b) (some (comment (clause h k begun true)))
+    cond (is_blank b) (Some (clause h k begun (eqb b line_feed)))
+    (cond (starts_comment begun at_line b) (Some (comment (clause h k begun true)))
     (element_step h k b))
 
 abbrev pub step_byte : State → ℕ → Option State
-step_byte line b = cond (eqb b 99) (some (comment line)) (word_step preamble b)
-step_byte (comment s) b = cond (eqb b line_feed) (some s) (when (ltb b 256) (comment s))
+step_byte line b = cond (eqb b 99) (Some (comment line)) (word_step preamble b)
+step_byte (comment s) b = cond (eqb b line_feed) (Some s) (when (ltb b 256) (comment s))
 step_byte (word ws) b = word_step ws b
 step_byte (first n) b = first_digit n b
 step_byte (digits n x) b = cond (is_digit b) (next_digit n x b) (after_number n x b)

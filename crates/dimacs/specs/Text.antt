@@ -1,6 +1,5 @@
 -- "DIMACS text": the text of V and a list, which is the narrow form, and comment lines.
-use Rattle.std.specs.Prelude.{ℕ, suc, ◌≤◌, ◌<◌, ◌^◌, ℤ, pos, negsuc, ◌≡◌, cond, List, [], ◌∷◌, ◌++◌}
-use Rattle.std.proofs.Math.Option.{none}
+use Rattle.std.specs.Prelude.{ℕ, suc, ◌≤◌, ◌<◌, ◌^◌, ℤ, pos, negsuc, ◌≡◌, cond, List, [], ◌∷◌, ◌++◌, None}
 use Rattle.text.specs.Decimal.{line_feed, space, minus, decimal}
 use Rattle.cnf.specs.Literals.{closes, most_variables, wrong_list}
 use Rattle.cnf.specs.Clauses.{clause_count}
@@ -46,7 +45,7 @@ comment_lines (bs ∷ rest) = comment_line bs ++ comment_lines rest
 -- V at most 16,777,216, no literal beyond V and the last clause closed, fewer than 2^64 clauses
 pub record HasText (v : ℕ) (ls : List ℤ) : Type 0 where
   pub few : v ≤ most_variables
-  pub right : wrong_list v ls ≡ none
+  pub right : wrong_list v ls ≡ None
   pub counted : clause_count ls < 2 ^ 64
 
 -- the narrow form: the text of some V and list

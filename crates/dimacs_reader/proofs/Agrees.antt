@@ -7,8 +7,8 @@ use borrow.Author.Tests.{eqb-true, ne_eqb, lt-ltb, le-ltb, le-leb, leb-true}
 use lib.Dec.{eqb, leb, ltb}
 use lib.ListN.{length, get_or, drop}
 use mathlib.Core.Path.{◌≡◌, refl, ◌∙◌, subst}
-use mathlib.Core.Bool.{Bool, true, false, not, ◌&&◌, cond}
-use mathlib.Core.Option.{none}
+use mathlib.Core.Bool.{Bool, true, false, not, ◌&&◌, ◌||◌, cond}
+use Rattle.std.specs.Prelude.{None}
 use mathlib.Core.List.{List, [], ◌∷◌}
 use Rattle.answers.specs.Lists.{tally}
 use Rattle.answers.proofs.Bools.{clash, off, and_both}
@@ -23,7 +23,6 @@ use Rattle.dimacs.specs.Tokens.{TokenAt, stands, refused, and_then, followed_by,
 use Rattle.dimacs.specs.Tokens.{unsigned_at, element_at, blank_or_end, element_and_blank_at, may_begin_number, line_begins, line_end_at, blank_or_comment_at}
 use Rattle.dimacs.proofs.Tokens.{digits_step, digits_none, number_step, number_none, comments_step, comments_none, line_end_step, line_end_none, line_after}
 use Rattle.dimacs.proofs.Tokens.{next_small}
-use Rattle.dimacs_cursor.proofs.Tests.{first_small}
 use Rattle.dimacs_reader.specs.Lists.{closed_after}
 use Rattle.dimacs_reader.proofs.Runs.{Run, Dead, run_stay, run_then, run_dead, run_step, dead_step, run_alike, dead_end, run_end, every_place}
 
@@ -85,6 +84,9 @@ pub record NumberRead (text : List ℕ) (n : Number) (s : State) (a x b : ℕ) :
   pub small : x ≤ most n
   pub low : a < b
   pub over : b < length text → is_digit (get_or text b 0) ≡ false
+
+first_small : (b bound : ℕ) (zero : Bool) → is_first b bound zero ≡ true → b - 48 ≤ bound
+first_small b bound zero t = leb-true (b - 48) bound (and_both (is_digit b && (zero || not (eqb b 48))) (leb (b - 48) bound) t).1
 
 number-after : {text : List ℕ} {n : Number} {s t : State} {a b : ℕ} → Run text s a [] t b → a ≤ b → {x c : ℕ} → NumberRead text n t b x c
     → NumberRead text n s a x c
@@ -211,7 +213,7 @@ clause_step h k begun at_line b t =
     let u = leb-true b 57 r.1 in
     rw (ne_eqb b 32 (λ e. omega arith), ne_eqb b 9 (λ e. omega arith), ne_eqb b 10 (λ e. omega arith), ne_eqb b 99 (λ e. omega arith))
 
-no_element : (h : Header) (k b : ℕ) → may_begin_number b ≡ false → element_step h k b ≡ none
+no_element : (h : Header) (k b : ℕ) → may_begin_number b ≡ false → element_step h k b ≡ None
 no_element h k b e = by (eqb k h.clauses)
   where
     no_minus : eqb b minus ≡ false
@@ -226,7 +228,7 @@ no_element h k b e = by (eqb k h.clauses)
         clash (rw (le-leb 45 b m) r.1) e)
 
     by : (t : Bool)
-        → cond t none (cond (eqb b minus) (when (not (eqb h.variables 0)) (first (element h k true))) (first_digit (element h k false) b)) ≡ none
+        → cond t None (cond (eqb b minus) (when (not (eqb h.variables 0)) (first (element h k true))) (first_digit (element h k false) b)) ≡ None
     by true = refl
     by false = rw (no_minus, no_digit)
 

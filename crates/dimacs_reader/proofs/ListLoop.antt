@@ -1,8 +1,7 @@
 -- The loop that reads the list, and the header that a body tells at its end. Assumes nothing.
-use Prim.Native.Nat.{ℕ, ◌+◌, ◌≤◌, ◌<◌}
+use Prim.Native.Nat.{ℕ, ◌≤◌, ◌<◌}
 use native.Mathlib.Omega.{arith}
 use native.Mathlib.Decide.{ℕ_discrete}
-use native.Mathlib.Numerals.{add-one}
 use borrow.Author.Tests.{eq-eqb, ne_eqb}
 use lib.Dec.{eqb}
 use lib.IntN.{ℤ}
@@ -10,28 +9,22 @@ use lib.ListN.{length, get_or, drop, drop_of_length-le}
 use lib.Seq.{sets}
 use mathlib.Core.Path.{◌≡◌, refl, sym, ◌∙◌, ap}
 use mathlib.Core.Bool.{Bool, true, false, not}
-use mathlib.Core.Option.{none, some-ne-none}
+use mathlib.Core.Logic.{◌⊎◌, inl, inr}
+use Rattle.std.specs.Prelude.{None}
+use Rattle.answers.proofs.Options.{some-none}
 use mathlib.Core.List.{List, [], ◌∷◌, ◌++◌, append-nil}
+use Rattle.std.specs.Prelude.{Result, Ok, Err}
 use Rattle.answers.specs.Lists.{tally}
 use Rattle.answers.specs.Lent.{Wrote}
-use Rattle.answers.proofs.Lent.{wrote_nothing, wrote_after}
+use Rattle.answers.proofs.Lent.{wrote_after}
 use Rattle.dimacs.specs.Automaton.{end_from, refused_from}
 use Rattle.dimacs.specs.Reader.{Header, header_with, State, clause, literal_of, step_byte, accepts, list_from}
 use Rattle.dimacs.specs.Tokens.{TokenAt, stands, refused, may_begin_number, line_begins, element_and_blank_at, blank_or_comment_at}
-use Rattle.dimacs_reader.specs.declared.Listed.{Listed}
-use Rattle.dimacs_reader.specs.declared.Listed.TheVariants.{Elements, Refused as NoList}
+use Rattle.dimacs_cursor.specs.declared.BadByte.{BadByte}
 use Rattle.dimacs_reader.specs.Lists.{list_at, listed, closed_after}
-use Rattle.dimacs_reader.proofs.Runs.{header_after, Run, Dead, run_stay, run_then, run_dead, dead_step, dead_end, every_place}
+use Rattle.dimacs_reader.proofs.Runs.{header_after, Run, Dead, run_then, run_dead, dead_step, dead_end, every_place}
 use Rattle.dimacs_reader.proofs.Agrees.{Agrees, there, nowhere, agrees_there, agrees_nowhere, clause_step, BlankOrCommentRead, blank_or_comment_agrees}
 use Rattle.dimacs_reader.proofs.Agrees.{ElementRead, element_and_blank_agrees}
-
--- the clauses that an element leaves closed
-module _ (x : ℕ) where
-  pub closed_zero : (k : ℕ) → x ≡ 0 → k + 1 ≡ closed_after k x
-  closed_zero k e = rw (eq-eqb x 0 e) (add-one k)
-
-  pub closed-other : (k : ℕ) → (x ≡ 0 → ⊥) → k ≡ closed_after k x
-  closed-other k n = rw (ne_eqb x 0 n)
 
 -- k clauses are closed, n elements read and written
 pub record AtList (text : List ℕ) (v c a : ℕ) (before after : List ℤ) (at n k : ℕ) (begun : Bool) : Type 0 where
@@ -41,31 +34,21 @@ pub record AtList (text : List ℕ) (v c a : ℕ) (before after : List ℤ) (at 
   pub few : n ≤ at
   pub most : k ≤ c
 
-pub list_start : (text : List ℕ) (v c a : ℕ) (before : List ℤ) → line_begins text a ≡ true → AtList text v c a before before a 0 0 false
-list_start text v c a before e =
-    record {
-      done = [];
-      run = rw e (run_stay text (clause (header_with v c) 0 false true) a);
-      wrote = wrote_nothing before 0;
-      few = omega arith;
-      most = omega arith;
-    }
-
 -- the answer, and the buffer at the end
-abbrev Lists : List ℕ → Header → ℕ → List ℤ → List ℤ → Listed → Type 0
-Lists text h a before after r = (r ≡ listed text h a) × (after ≡ sets before 0 (list_at text h a))
+abbrev Lists : List ℕ → Header → ℕ → List ℤ → List ℤ → Result ℕ BadByte → Type 0
+Lists text h a before after r = record { value : r ≡ listed text h a; out_after : after ≡ sets before 0 (list_at text h a) }
 
 module _ {text : List ℕ} {v c a : ℕ} {before after : List ℤ} {at n k : ℕ} {begun : Bool} (g : AtList text v c a before after at n k begun) where
   abbrev state : State
   state = clause (header_with v c) k begun (line_begins text at)
 
-  pub list_refused : {p : ℕ} → Dead text state at [] p → Lists text (header_with v c) a before after (NoList p)
+  pub list_refused : {p : ℕ} → Dead text state at [] p → Lists text (header_with v c) a before after (Err (record { at = p }))
   list_refused d =
       let e = run_dead g.run d in
-      (rw e.place, g.wrote.holds ∙ ap (sets before 0) (sym (e.list ∙ append-nil g.done)))
+      record { value = rw e.place; out_after = g.wrote.holds ∙ ap (sets before 0) (sym (e.list ∙ append-nil g.done)) }
 
-  pub list_over : at < length text → may_begin_number (get_or text at 0) ≡ true → k ≡ c → Lists text (header_with v c) a before after (NoList at)
-  list_over h t e = list_refused (dead_step h (clause_step (header_with v c) k begun (line_begins text at) (get_or text at 0) t ∙ rw (eq-eqb k c e)))
+  pub list_over : at < length text → true ≡ may_begin_number (get_or text at 0) → k ≡ c → Lists text (header_with v c) a before after (Err (record { at = at }))
+  list_over h t e = list_refused (dead_step h (clause_step (header_with v c) k begun (line_begins text at) (get_or text at 0) (sym t) ∙ rw (eq-eqb k c e)))
 
   pub list_more : {e : Bool × ℕ} {b r j : ℕ} {new : List ℤ} → ElementRead text (header_with v c) k state at e b → (k ≡ c → ⊥)
       → Wrote after n (literal_of e.0 e.1 ∷ []) new r → j ≡ closed_after k e.1 → AtList text v c a before new b r j (not (eqb e.1 0))
@@ -94,44 +77,41 @@ module _ {text : List ℕ} {v c a : ℕ} {before after : List ℤ} {at n k : ℕ
       }
 
   -- a blank or a comment line
-  module _ (h : at < length text) (o : may_begin_number (get_or text at 0) ≡ false) where
+  module _ (h : at < length text) (o : false ≡ may_begin_number (get_or text at 0)) where
     piece : Agrees text state at (λ _ b. BlankOrCommentRead text (header_with v c) k begun state at b) (blank_or_comment_at text begun at)
-    piece = blank_or_comment_agrees text (header_with v c) k begun h o
+    piece = blank_or_comment_agrees text (header_with v c) k begun h (sym o)
 
-    pub piece_read : {b : ℕ} → blank_or_comment_at text begun at ≡ stands tt b → BlankOrCommentRead text (header_with v c) k begun state at b
-    piece_read e = agrees_there piece e
+    pub piece_read : {b : ℕ} → stands tt b ≡ blank_or_comment_at text begun at → BlankOrCommentRead text (header_with v c) k begun state at b
+    piece_read e = agrees_there piece (sym e)
 
-    pub piece_refused : {p : ℕ} → blank_or_comment_at text begun at ≡ refused p → Lists text (header_with v c) a before after (NoList p)
-    piece_refused e = list_refused (agrees_nowhere piece e)
+    pub piece_refused : {p : ℕ} → refused p ≡ blank_or_comment_at text begun at → Lists text (header_with v c) a before after (Err (record { at = p }))
+    piece_refused e = list_refused (agrees_nowhere piece (sym e))
 
   -- an element
-  module _ (h : at < length text) (o : may_begin_number (get_or text at 0) ≡ true) (another : k ≡ c → ⊥) where
+  module _ (h : at < length text) (o : true ≡ may_begin_number (get_or text at 0)) (another : k ≡ c → ⊥) where
     element_there : Agrees text state at (ElementRead text (header_with v c) k state at) (element_and_blank_at text v at)
-    element_there = element_and_blank_agrees text (header_with v c) k h begun o another
+    element_there = element_and_blank_agrees text (header_with v c) k h begun (sym o) another
 
-    pub element_read : {e : Bool × ℕ} {b : ℕ} → element_and_blank_at text v at ≡ stands e b → ElementRead text (header_with v c) k state at e b
-    element_read e = agrees_there element_there e
+    pub element_read : {e : Bool × ℕ} {b : ℕ} → stands e b ≡ element_and_blank_at text v at → ElementRead text (header_with v c) k state at e b
+    element_read e = agrees_there element_there (sym e)
 
-    pub element_refused : {p : ℕ} → element_and_blank_at text v at ≡ refused p → Lists text (header_with v c) a before after (NoList p)
-    element_refused e = list_refused (agrees_nowhere element_there e)
+    pub element_refused : {p : ℕ} → refused p ≡ element_and_blank_at text v at → Lists text (header_with v c) a before after (Err (record { at = p }))
+    element_refused e = list_refused (agrees_nowhere element_there (sym e))
 
   -- at the text's end
   module _ (h : length text ≤ at) where
-    pub list_begun : begun ≡ true → Lists text (header_with v c) a before after (NoList at)
-    list_begun t = list_refused (dead_end h (rw t) refl)
+    pub list_unfinished : (begun ≡ true) ⊎ ((begun ≡ false) × (k ≡ c → ⊥)) → Lists text (header_with v c) a before after (Err (record { at = at }))
+    list_unfinished (inl t) = list_refused (dead_end h (rw t) refl)
+    list_unfinished (inr n) = list_refused (dead_end h (rw (n.0, ne_eqb k c n.1)) refl)
 
-    module _ (t : begun ≡ false) where
-      pub list_few : (k ≡ c → ⊥) → Lists text (header_with v c) a before after (NoList at)
-      list_few n = list_refused (dead_end h (rw (t, ne_eqb k c n)) refl)
-
-      pub list_end : k ≡ c → Lists text (header_with v c) a before after (Elements n)
-      unfolding refused_from list_from
-      list_end e =
-          let accepted : refused_from step_byte accepts (clause (header_with v c) 0 false true) (drop a text) a ≡ none = g.run.refused
-          ∙ rw (drop_of_length-le text h, t, eq-eqb k c e) in
-          let all : list_at text (header_with v c) a ≡ g.done = g.run.list
-          ∙ ap (λ (rest : List ℕ). g.done ++ list_from state rest) (drop_of_length-le text h) ∙ append-nil g.done in
-          (rw (accepted, all) (ap Elements (omega (arith, g.wrote.place))), g.wrote.holds ∙ ap (sets before 0) (sym all))
+    pub list_end : begun ≡ false → k ≡ c → Lists text (header_with v c) a before after (Ok n)
+    unfolding refused_from list_from
+    list_end t e =
+        let accepted : refused_from step_byte accepts (clause (header_with v c) 0 false true) (drop a text) a ≡ None = g.run.refused
+        ∙ rw (drop_of_length-le text h, t, eq-eqb k c e) in
+        let all : list_at text (header_with v c) a ≡ g.done = g.run.list
+        ∙ ap (λ (rest : List ℕ). g.done ++ list_from state rest) (drop_of_length-le text h) ∙ append-nil g.done in
+        record { value = rw (accepted, all) (ap Ok (omega (arith, g.wrote.place))); out_after = g.wrote.holds ∙ ap (sets before 0) (sym all) }
 
 -- a body that is not refused tells its header
 module _ (text : List ℕ) (h : Header) where
@@ -139,10 +119,10 @@ module _ (text : List ℕ) (h : Header) where
   state_at k begun a = clause h k begun (line_begins text a)
 
   abbrev Tells : ℕ → Bool → ℕ → Type 0
-  Tells k begun a = refused_from step_byte accepts (state_at k begun a) (drop a text) a ≡ none → header_after text (state_at k begun a) a ≡ h
+  Tells k begun a = refused_from step_byte accepts (state_at k begun a) (drop a text) a ≡ None → header_after text (state_at k begun a) a ≡ h
 
-  not-refused : {B : Type 0} {s : State} {a p : ℕ} {ls : List ℤ} → Dead text s a ls p → refused_from step_byte accepts s (drop a text) a ≡ none → B
-  not-refused {p = p} d e = absurd (some-ne-none p (sym d.place ∙ e))
+  not-refused : {B : Type 0} {s : State} {a p : ℕ} {ls : List ℤ} → Dead text s a ls p → refused_from step_byte accepts s (drop a text) a ≡ None → B
+  not-refused {p = p} d e = absurd (some-none p (sym d.place ∙ e))
 
   tells_here : {a : ℕ} → length text ≤ a → (k : ℕ) (begun : Bool) → Tells k begun a
   unfolding end_from

@@ -8,7 +8,7 @@ use lib.ListN.{length, get_or, drop, drop_of_length-le}
 use lib.Seq.{drop-cons}
 use mathlib.Core.Path.{◌≡◌, refl, sym, ◌∙◌, ap}
 use mathlib.Core.Bool.{false}
-use mathlib.Core.Option.{none, some}
+use Rattle.std.specs.Prelude.{None, Some}
 use mathlib.Core.List.{List, [], ◌++◌, append_assoc}
 use Rattle.dimacs.specs.Automaton.{next, end_from, refused_from}
 use Rattle.dimacs.specs.Reader.{Header, State, step_byte, accepts, ended, ended_last, list_from, no_header, header_in}
@@ -25,7 +25,7 @@ pub record Run (text : List ℕ) (s : State) (a : ℕ) (ls : List ℤ) (t : Stat
 
 -- from state s at place a the text is refused at place p, with these elements before it
 pub record Dead (text : List ℕ) (s : State) (a : ℕ) (ls : List ℤ) (p : ℕ) : Type 0 where
-  pub place : refused_from step_byte accepts s (drop a text) a ≡ some p
+  pub place : refused_from step_byte accepts s (drop a text) a ≡ Some p
   pub list : list_from s (drop a text) ≡ ls
 
 pub run_stay : (text : List ℕ) (s : State) (a : ℕ) → Run text s a [] s a
@@ -44,7 +44,7 @@ run_dead {ls = ls} r d = record { place = r.refused ∙ d.place; list = r.list �
 
 module _ {text : List ℕ} {a : ℕ} (h : a < length text) where
   -- the byte at a place takes the automaton on
-  pub run_step : {s t : State} {es : List ℤ} → step_byte s (get_or text a 0) ≡ some t → ended s (get_or text a 0) ≡ es → Run text s a es t (suc a)
+  pub run_step : {s t : State} {es : List ℤ} → step_byte s (get_or text a 0) ≡ Some t → ended s (get_or text a 0) ≡ es → Run text s a es t (suc a)
   unfolding refused_from list_from end_from
   run_step e f =
       record {
@@ -54,7 +54,7 @@ module _ {text : List ℕ} {a : ℕ} (h : a < length text) where
       }
 
   -- the byte is refused there
-  pub dead_step : {s : State} → step_byte s (get_or text a 0) ≡ none → Dead text s a [] a
+  pub dead_step : {s : State} → step_byte s (get_or text a 0) ≡ None → Dead text s a [] a
   unfolding refused_from list_from
   dead_step e = record { place = rw (drop-cons text a 0 h, e); list = rw (drop-cons text a 0 h, e) }
 

@@ -1,11 +1,9 @@
 -- The list after the header: its elements, or the place of the refusal; and the clauses that an element leaves closed.
-use Rattle.std.specs.Prelude.{ℕ, eqb, ℤ, length, drop, true, false, List}
-use Rattle.std.proofs.Math.Option.{Option, none, some}
+use Rattle.std.specs.Prelude.{ℕ, eqb, ℤ, length, drop, true, false, List, Result, Ok, Err, Option, None, Some}
 use Rattle.answers.specs.Lists.{tally}
 use Rattle.dimacs.specs.Automaton.{refused_from}
 use Rattle.dimacs.specs.Reader.{Header, clause, step_byte, accepts, list_from}
-use Rattle.dimacs_reader.specs.declared.Listed.{Listed}
-use Rattle.dimacs_reader.specs.declared.Listed.TheVariants.{Elements, Refused as NoList}
+use Rattle.dimacs_cursor.specs.declared.BadByte.{BadByte}
 
 -- the elements from a place on, up to the refusal if there is one
 abbrev pub list_at : List ℕ → Header → ℕ → List ℤ
@@ -14,12 +12,12 @@ list_at text h at = list_from (clause h 0 false true) (drop at text)
 abbrev pub body_refused_at : List ℕ → Header → ℕ → Option ℕ
 body_refused_at text h at = refused_from step_byte accepts (clause h 0 false true) (drop at text) at
 
-abbrev pub listed_or : Option ℕ → ℕ → Listed
-listed_or none n = Elements n
-listed_or (some p) n = NoList p
+abbrev pub listed_or : Option ℕ → ℕ → Result ℕ BadByte
+listed_or None n = Ok n
+listed_or (Some p) n = Err (record { at = p })
 
 -- the count of the elements, or the place of the refusal
-abbrev pub listed : List ℕ → Header → ℕ → Listed
+abbrev pub listed : List ℕ → Header → ℕ → Result ℕ BadByte
 listed text h at = listed_or (body_refused_at text h at) (length (list_at text h at))
 
 abbrev pub closed_after : ℕ → ℕ → ℕ

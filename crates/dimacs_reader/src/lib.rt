@@ -11,124 +11,101 @@ ghost use Rattle.dimacs.specs.Calls.{reader_answer, reader_leaves};
 ghost use Rattle.dimacs.specs.Answers.{reading_outcome};
 ghost use Rattle.dimacs_reader.specs.Lists.{list_at, listed, closed_after};
 
-use dimacs::{ReadRefusal, Reading};
-use dimacs_cursor::{Cursor, Element, Head, Passed};
-
-// The list: the count of its elements, or the place of the refusal.
-#[derive(Clone, Copy)]
-pub enum Listed {
-    Elements(usize),
-    Refused(usize),
-}
+use dimacs::{ListRead, ReadRefusal};
+use dimacs_cursor::{BadByte, Cursor};
 
 // The clauses that are closed after an element.
 fn closed_after(k: usize, number: usize) -> usize
     requires { k < 2 ^ 64 - 1 }
     ensures { result ≡ closed_after k number }
 {
-    if number == 0 {
-        return k + 1;
-    }
-    k
+    if number == 0 { k + 1 } else { k }
 }
 
 fn put_literal(out: &mut [i32], at: usize, negative: bool, x: usize) -> usize
     requires { (x ≤ most_variables) × (at < 2 ^ 64 - 1) }
     ensures { Wrote out.old at (literal_of negative x ∷ []) out.new result }
 {
-    if negative {
-        return cnf::put_not(out, at, x);
+    if at < out.len() {
+        let number = x as i32;
+        out[at] = if negative { -number } else { number };
     }
-    cnf::put(out, at, x)
+    at + 1
 }
 
-// The list after the header, piece by piece. Elements beyond the end of the buffer are counted and left out.
-fn read_list(text: &[u8], from: usize, variables: usize, clauses: usize, out: &mut [i32]) -> Listed
+// The list after the header, piece by piece: the count of its elements. Elements beyond the end of the buffer are counted and left out.
+fn read_list(
+    text: &[u8],
+    from: usize,
+    variables: usize,
+    clauses: usize,
+    out: &mut [i32],
+) -> Result<usize, BadByte>
     requires { (variables ≤ most_variables) × (line_begins text.now from ≡ true) }
     ensures value { result ≡ listed text.now (header_with variables clauses) from }
     ensures out_after { out.new ≡ sets out.old 0 (list_at text.now (header_with variables clauses) from) }
 {
-    let mut at = from;
-    let mut n: usize = 0;
-    let mut k: usize = 0;
+    let mut here = Cursor { at: from };
+    let mut elements = 0;
+    let mut closed = 0;
     let mut begun = false;
-    while at < text.len() {
-        let here = Cursor { at };
+    // a `while`: a piece has any number of bytes
+    while here.at < text.len() {
         if !here.may_be_number(text) {
-            match here.blank_or_comment(text, begun) {
-                Passed::To(next) => {
-                    at = next.at;
-                }
-                Passed::Refused(p) => {
-                    return Listed::Refused(p);
-                }
-            }
-        } else {
-            if k == clauses {
-                return Listed::Refused(at);
-            }
-            match here.element_and_blank(text, variables) {
-                Element::Is(negative, x, next) => {
-                    n = put_literal(out, n, negative, x);
-                    k = closed_after(k, x);
-                    begun = x != 0;
-                    at = next.at;
-                }
-                Element::Refused(p) => {
-                    return Listed::Refused(p);
-                }
-            }
+            here = here.blank_or_comment(text, begun)?;
+            continue;
         }
+        if closed == clauses {
+            return Err(BadByte { at: here.at });
+        }
+        let element = here.element_and_blank(text, variables)?;
+        elements = put_literal(out, elements, element.negative, element.number);
+        closed = closed_after(closed, element.number);
+        begun = element.number != 0;
+        here = element.after;
     }
-    if begun {
-        return Listed::Refused(at);
+    if begun || closed != clauses {
+        return Err(BadByte { at: here.at });
     }
-    if k != clauses {
-        return Listed::Refused(at);
-    }
-    Listed::Elements(n)
+    Ok(elements)
 }
 
-// What comes after the header. The text is read first with a buffer of its own: nothing is written before all refusals are settled.
+// What comes after the header. The text is read first with an empty buffer: nothing is written before all refusals are settled.
 fn read_body(
     text: &[u8],
     from: usize,
     variables: usize,
     clauses: usize,
     list: &mut [i32],
-) -> Reading
+) -> Result<ListRead, ReadRefusal>
     requires { header_at text.now 0 ≡ stands (header_with variables clauses) from }
     ensures result_value { reading_outcome result ≡ reader_answer text.now list.old }
     ensures list_after { list.new ≡ reader_leaves text.now list.old }
 {
-    let mut nothing = [0i32; 1];
-    match read_list(text, from, variables, clauses, &mut nothing) {
-        Listed::Refused(at) => Reading::Refused(ReadRefusal::Text(at)),
-        Listed::Elements(elements) => {
-            if list.len() < elements {
-                return Reading::Refused(ReadRefusal::Room(elements));
-            }
-            read_list(text, from, variables, clauses, list);
-            Reading::List {
-                elements,
-                variables,
-                clauses,
-            }
-        }
+    let elements = read_list(text, from, variables, clauses, &mut [])?;
+    if list.len() < elements {
+        return Err(ReadRefusal::Room(elements));
     }
+    let _ = read_list(text, from, variables, clauses, list); // the same answer as before
+    Ok(ListRead {
+        elements,
+        variables,
+        clauses,
+    })
 }
 
 // Refusals 19 and 6 in order, before anything is written.
-pub fn read(text: &[u8], list: &mut [i32]) -> Reading
+pub fn read(text: &[u8], list: &mut [i32]) -> Result<ListRead, ReadRefusal>
     ensures result_value { reading_outcome result ≡ reader_answer text.now list.old }
     ensures list_after { list.new ≡ reader_leaves text.now list.old }
 {
     let start = Cursor { at: 0 };
-    match start.header(text) {
-        Head::Is(variables, clauses, next) => {
-            let from = next.at;
-            read_body(text, from, variables, clauses, list)
-        }
-        Head::Refused(at) => Reading::Refused(ReadRefusal::Text(at)),
-    }
+    let header = start.header(text)?;
+    read_body(
+        text,
+        header.after.at,
+        header.variables,
+        header.clauses,
+        list,
+    )
 }

@@ -8,7 +8,9 @@ use lib.Seq.{take-append_seam}
 use mathlib.Core.Path.{◌≡◌, refl, ◌∙◌, ap}
 use mathlib.Core.Logic.{◌↔◌}
 use mathlib.Core.Bool.{Bool, true, false}
-use mathlib.Core.Option.{Option, none, some, some-injective, some-ne-none, none-ne-some}
+use Rattle.std.specs.Prelude.{Option, None, Some}
+use Rattle.std.proofs.lemmas.Option.{same_Some, none-some}
+use Rattle.answers.proofs.Options.{some-none}
 use mathlib.Core.List.{List, [], ◌∷◌}
 use Rattle.answers.specs.declared.Outcome.{Outcome}
 use Rattle.answers.specs.Outcome.{refusal, answer, cause, unless}
@@ -24,9 +26,9 @@ use Rattle.dimacs.specs.Calls.{writer_answer, reader_answer}
 use Rattle.dimacs_theory.specs.Reading.{ReadAs, Writes, Reads, written, elements_read}
 
 -- a row that did not refuse the call
-past : (n : ℕ) (o : Option ℕ) (t : Outcome) → (n ≡ 0 → ⊥) → (unless n o t).number ≡ 0 → (o ≡ none) × (t.number ≡ 0)
-past n none t z e = (refl, e)
-past n (some v) t z e = absurd (z e)
+past : (n : ℕ) (o : Option ℕ) (t : Outcome) → (n ≡ 0 → ⊥) → (unless n o t).number ≡ 0 → (o ≡ None) × (t.number ≡ 0)
+past n None t z e = (refl, e)
+past n (Some v) t z e = absurd (z e)
 
 -- the first of two rows: its number tells whether it refuses the call
 module _ (m n : ℕ) (o : Option ℕ) (t : Outcome) (apart : n ≡ m → ⊥) (refuses : t.number ≡ m → ⊥) where
@@ -34,19 +36,19 @@ module _ (m n : ℕ) (o : Option ℕ) (t : Outcome) (apart : n ≡ m → ⊥) (r
   other_row e = by o e
     where
       by : (o : Option ℕ) → (unless n o t).number ≡ m → ⊥
-      by none e = refuses e
-      by (some v) e = apart e
+      by None e = refuses e
+      by (Some v) e = apart e
 
-  pub row_refuses : (p : Option ℕ) (k : ℕ) → unless m p (unless n o t) ≡ refusal m k ↔ p ≡ some k
-  row_refuses none k = (λ e. absurd (other_row (ap (λ (u : Outcome). u.number) e)), λ e. absurd (none-ne-some k e))
-  row_refuses (some v) k = (λ e. ap (λ (u : Outcome). some u.first) e, λ e. ap (refusal m) (some-injective v k e))
+  pub row_refuses : (p : Option ℕ) (k : ℕ) → unless m p (unless n o t) ≡ refusal m k ↔ p ≡ Some k
+  row_refuses None k = (λ e. absurd (other_row (ap (λ (u : Outcome). u.number) e)), λ e. absurd (none-some k e))
+  row_refuses (Some v) k = (λ e. ap (λ (u : Outcome). Some u.first) e, λ e. ap (refusal m) (same_Some v k e))
 
-  pub row-passes : (p : Option ℕ) → ((unless m p (unless n o t)).number ≡ m → ⊥) ↔ p ≡ none
-  row-passes none = (λ _. refl, λ _. other_row)
-  row-passes (some v) = (λ e. absurd (e refl), λ e. absurd (some-ne-none v e))
+  pub row-passes : (p : Option ℕ) → ((unless m p (unless n o t)).number ≡ m → ⊥) ↔ p ≡ None
+  row-passes None = (λ _. refl, λ _. other_row)
+  row-passes (Some v) = (λ e. absurd (e refl), λ e. absurd (some-none v e))
 
 module _ (v : ℕ) (ls : List ℤ) (buf : List ℕ) where
-  pub writer_right : (writer_answer v ls buf).number ≡ 0 → wrong_list v ls ≡ none
+  pub writer_right : (writer_answer v ls buf).number ≡ 0 → wrong_list v ls ≡ None
   writer_right e = (past 16 (wrong_list v ls) _ (omega arith) (past 17 (cause (too_many_variables v)) _ (omega arith) e).1).0
 
   pub writer_passed : clause_count ls < 2 ^ 64 → (writer_answer v ls buf).number ≡ 0 → HasText v ls × (length (text_of v ls) ≤ length buf)
@@ -67,13 +69,13 @@ module _ (v : ℕ) (ls : List ℤ) (buf : List ℕ) where
     writer_hands = let a = writer_answers in (λ i. take (a.outcome i).first (a.left i)) ∙ take-append_seam (text_of v ls) _
 
 module _ (text : List ℕ) (buf : List ℤ) where
-  pub reader_refused : (k : ℕ) → reader_answer text buf ≡ refusal 19 k ↔ refused_at text ≡ some k
+  pub reader_refused : (k : ℕ) → reader_answer text buf ≡ refusal 19 k ↔ refused_at text ≡ Some k
   reader_refused = row_refuses 19 6 (too_short (length buf) (length (list_read text))) _ (omega arith) (omega arith) (refused_at text)
 
-  pub reader_taken : ((reader_answer text buf).number ≡ 19 → ⊥) ↔ refused_at text ≡ none
+  pub reader_taken : ((reader_answer text buf).number ≡ 19 → ⊥) ↔ refused_at text ≡ None
   reader_taken = row-passes 19 6 (too_short (length buf) (length (list_read text))) _ (omega arith) (omega arith) (refused_at text)
 
-  pub reader_passed : (reader_answer text buf).number ≡ 0 → (refused_at text ≡ none) × (length (list_read text) ≤ length buf)
+  pub reader_passed : (reader_answer text buf).number ≡ 0 → (refused_at text ≡ None) × (length (list_read text) ≤ length buf)
   reader_passed e =
       let a = past 19 (refused_at text) _ (omega arith) e in
       let b = past 6 (too_short (length buf) (length (list_read text))) _ (omega arith) a.1 in

@@ -6,7 +6,8 @@ use lib.IntN.{ℤ, nat_abs}
 use lib.ListN.{length}
 use mathlib.Core.Path.{◌≡◌, refl, sym, ◌∙◌}
 use mathlib.Core.Bool.{Bool, true, false, not}
-use mathlib.Core.Option.{Option, none, some, some-ne-none}
+use Rattle.std.specs.Prelude.{Option, None, Some}
+use Rattle.answers.proofs.Options.{some-none}
 use mathlib.Core.List.{List, [], ◌∷◌}
 use Rattle.answers.specs.First.{found, or_else, first_where}
 use Rattle.answers.specs.Lists.{tally}
@@ -40,9 +41,9 @@ closing_closed done = refl
 closing_closed (more {l = l} {ls = []} w c) = closing_end c
 closing_closed (more {l = l} {ls = m ∷ ls} w c) = unclosed_tail l m ls ∙ closing_closed c
 
-neither : (first second : Option ℕ) → or_else first second ≡ none → (first ≡ none) × (second ≡ none)
-neither none second e = (refl, e)
-neither (some i) second e = absurd (some-ne-none i e)
+neither : (first second : Option ℕ) → or_else first second ≡ None → (first ≡ None) × (second ≡ None)
+neither None second e = (refl, e)
+neither (Some i) second e = absurd (some-none i e)
 
 -- a list that passes ..
 module _ (v : ℕ) where
@@ -52,10 +53,10 @@ module _ (v : ℕ) where
   closing_on l (m ∷ ls) h e =
       more (ltb-false v (nat_abs l) (h 0 (omega arith))) (closing_on m ls (λ i k. h (suc i) (omega arith)) (sym (unclosed_tail l m ls) ∙ e))
 
-  pub closing : (ls : List ℤ) → wrong_list v ls ≡ none → Closing v false ls
+  pub closing : (ls : List ℤ) → wrong_list v ls ≡ None → Closing v false ls
   closing [] e = done
   closing (l ∷ ls) e =
-      let n = neither (first_where (beyond_at v (l ∷ ls)) (length (l ∷ ls))) (found (unclosed (l ∷ ls)) (length (l ∷ ls)) none) e in
+      let n = neither (first_where (beyond_at v (l ∷ ls)) (length (l ∷ ls))) (found (unclosed (l ∷ ls)) (length (l ∷ ls)) None) e in
       closing_on l ls (first_none (beyond_at v (l ∷ ls)) (length (l ∷ ls)) n.0) (not_found (unclosed (l ∷ ls)) (length (l ∷ ls)) n.1)
 
   -- .. and back
@@ -64,5 +65,5 @@ module _ (v : ℕ) where
   within (more {l = l} w c) zero h = le-ltb v (nat_abs l) w
   within (more w c) (suc i) h = within c i (omega arith)
 
-  pub closing_right : (ls : List ℤ) → Closing v false ls → wrong_list v ls ≡ none
+  pub closing_right : (ls : List ℤ) → Closing v false ls → wrong_list v ls ≡ None
   closing_right ls c = rw (none_first (beyond_at v ls) (length ls) (within c), closing_closed c)

@@ -7,7 +7,7 @@ use lib.IntN.{ℤ}
 use lib.ListN.{drop}
 use mathlib.Core.Path.{◌≡◌, refl}
 use mathlib.Core.Bool.{Bool, true, false}
-use mathlib.Core.Option.{some}
+use Rattle.std.specs.Prelude.{Some}
 use mathlib.Core.List.{List, [], ◌∷◌}
 use Rattle.answers.specs.Lists.{tally}
 use Rattle.text.specs.Decimal.{line_feed, space, digit}
@@ -24,7 +24,7 @@ pub record Completion (s : State) : Type 0 where
   pub run : Runs s rest end elements
   pub accepted : accepts end ≡ true
 
-by_byte : {s t : State} (b : ℕ) → step_byte s b ≡ some t → Completion t → Completion s
+by_byte : {s t : State} (b : ℕ) → step_byte s b ≡ Some t → Completion t → Completion s
 by_byte {s} b e c = record { rest = b ∷ c.rest; end = c.end; elements = _; run = byte e refl c.run; accepted = c.accepted }
 
 -- a line `0` for each clause that is still to come

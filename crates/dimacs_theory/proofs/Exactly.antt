@@ -6,7 +6,7 @@ use lib.ListN.{length, drop}
 use lib.Seq.{drop-append_seam}
 use mathlib.Core.Path.{◌≡◌, sym, ◌∙◌, ap, subst, subst₂}
 use mathlib.Core.Logic.{◌↔◌}
-use mathlib.Core.Option.{none, some}
+use Rattle.std.specs.Prelude.{None, Some}
 use mathlib.Core.List.{List, [], ◌++◌, append_assoc, map}
 use Rattle.answers.specs.Lists.{All}
 use Rattle.cnf.specs.Clauses.{clause_count}
@@ -38,7 +38,7 @@ reader =
       completes = λ {s} l. let c = completion l.2.shape in (c.rest, ends_accepted step_byte accepts s c.rest 0 (c.end, ends c.run, c.accepted));
     }
 
-pub taken_accepted : (text : List ℕ) → refused_at text ≡ none → Accepted text
+pub taken_accepted : (text : List ℕ) → refused_at text ≡ None → Accepted text
 taken_accepted text e = let r = accepted_ends step_byte accepts line text 0 e in run_accepted (ran line text r.1).1 r.2
 
 pub accepted_read : {text : List ℕ} (a : Accepted text) → ReadAs text a.variables (numbers_of a.pieces)
@@ -72,10 +72,10 @@ accepted_header {text} a =
       },
     )
 
-pub exactly : (text : List ℕ) → refused_at text ≡ none ↔ Accepted text
+pub exactly : (text : List ℕ) → refused_at text ≡ None ↔ Accepted text
 exactly text = (taken_accepted text, λ a. (accepted_read a).taken)
 
-pub place_19 : (text : List ℕ) (k : ℕ) → refused_at text ≡ some k ↔ Refused Accepted text k
+pub place_19 : (text : List ℕ) (k : ℕ) → refused_at text ≡ Some k ↔ Refused Accepted text k
 unfolding reader
 place_19 text k = place reader Accepted exactly text k
 

@@ -6,7 +6,8 @@ use lib.Dec.{eqb, ltb}
 use lib.IntN.{ℤ}
 use mathlib.Core.Path.{◌≡◌, refl, sym, ◌∙◌, ap, subst}
 use mathlib.Core.Bool.{Bool, true, false, not, ◌&&◌, cond}
-use mathlib.Core.Option.{none, some, some-injective, none-ne-some}
+use Rattle.std.specs.Prelude.{None, Some}
+use Rattle.std.proofs.lemmas.Option.{same_Some, none-some}
 use mathlib.Core.List.{List, [], ◌∷◌, ◌++◌, append_assoc, append-nil}
 use Rattle.answers.specs.Lists.{tally, All}
 use Rattle.answers.proofs.Bools.{clash, and_both}
@@ -25,9 +26,9 @@ use Rattle.dimacs_theory.proofs.Shapes.{Opened, Part, ListPart, part_number, par
 use Rattle.dimacs_theory.proofs.Shapes.{Shape, nothing, in_comment, letters, before, inside, list, in_list_comment, Before}
 
 -- a byte that is taken where a test holds
-taken : (P : State → Type 0) (c : Bool) (s : State) {t : State} → when c s ≡ some t → (c ≡ true → P s) → P t
-taken P true s {t} e f = subst P (some-injective s t e) (f refl)
-taken P false s {t} e f = absurd (none-ne-some t e)
+taken : (P : State → Type 0) (c : Bool) (s : State) {t : State} → when c s ≡ Some t → (c ≡ true → P s) → P t
+taken P true s {t} e f = subst P (same_Some s t e) (f refl)
+taken P false s {t} e f = absurd (none-some t e)
 
 header_joined : (p v c : List ℕ) → p ++ (v ++ (space ∷ [])) ++ c ++ (line_feed ∷ []) ≡ p ++ (v ++ (space ∷ c ++ (line_feed ∷ []))) ++ []
 header_joined p v c = simp (append_assoc, append-nil)
@@ -42,8 +43,8 @@ comment_kept b false true p c = rw (eqb-true b 99 (and_both (eqb b 99) true (and
 -- a byte more, where it is no end of a comment line
 module _ (b : ℕ) {t : State} where
   -- the bytes of `p cnf `
-  word_kept : (ws part : List ℕ) → part ++ ws ≡ preamble → word_step ws b ≡ some t → Shape t (part ++ (b ∷ [])) []
-  word_kept [] part p e = absurd (none-ne-some t e)
+  word_kept : (ws part : List ℕ) → part ++ ws ≡ preamble → word_step ws b ≡ Some t → Shape t (part ++ (b ∷ [])) []
+  word_kept [] part p e = absurd (none-some t e)
   word_kept (w ∷ ws) part p e =
       taken (λ t. Shape t (part ++ (b ∷ [])) []) (eqb b w) (after_word ws) e
       (λ c. on ws (append_assoc part (b ∷ []) ws ∙ ap (λ x. part ++ x ∷ ws) (eqb-true b w c) ∙ p))
@@ -53,15 +54,15 @@ module _ (b : ℕ) {t : State} where
       on (v ∷ vs) q = letters q
 
   -- the first byte of a line
-  line_kept : step_byte line b ≡ some t → Shape t (b ∷ []) []
+  line_kept : step_byte line b ≡ Some t → Shape t (b ∷ []) []
   line_kept e = by (eqb b 99) refl e
     where
-      by : (c : Bool) → eqb b 99 ≡ c → cond c (some (comment line)) (word_step preamble b) ≡ some t → Shape t (b ∷ []) []
-      by true q e = subst (λ t. Shape t (b ∷ []) []) (some-injective (comment line) t e) (rw (eqb-true b 99 q) (in_comment tt))
+      by : (c : Bool) → eqb b 99 ≡ c → cond c (Some (comment line)) (word_step preamble b) ≡ Some t → Shape t (b ∷ []) []
+      by true q e = subst (λ t. Shape t (b ∷ []) []) (same_Some (comment line) t e) (rw (eqb-true b 99 q) (in_comment tt))
       by false q e = word_kept preamble [] refl e
 
   -- a number's first digit
-  first_kept : {n : Number} {part : List ℕ} {ls : List ℤ} → Head n part ls → first_digit n b ≡ some t → Shape t (part ++ (b ∷ [])) ls
+  first_kept : {n : Number} {part : List ℕ} {ls : List ℤ} → Head n part ls → first_digit n b ≡ Some t → Shape t (part ++ (b ∷ [])) ls
   first_kept {n} {part} {ls} p e =
       taken (λ t. Shape t (part ++ (b ∷ [])) ls) (is_first b (most n) (zero_allowed n)) (digits n (b - 48)) e
       (λ c.
@@ -69,7 +70,7 @@ module _ (b : ℕ) {t : State} where
       subst (λ ds. Shape (digits n (b - 48)) (part ++ ds) ls) (sym s.spelt) (inside p (record { few = s.few; nonzero = s.allowed })))
 
   -- a digit more
-  next_kept : {n : Number} (x : ℕ) {part : List ℕ} {ls : List ℤ} → Head n part ls → is_digit b ≡ true → next_digit n x b ≡ some t
+  next_kept : {n : Number} (x : ℕ) {part : List ℕ} {ls : List ℤ} → Head n part ls → is_digit b ≡ true → next_digit n x b ≡ Some t
       → Shape t (part ++ decimal x ++ (b ∷ [])) ls
   next_kept {n} x {part} {ls} p i e =
       taken (λ t. Shape t (part ++ decimal x ++ (b ∷ [])) ls) (is_next x (b - 48) (most n)) (digits n (x * 10 + (b - 48))) e
@@ -79,7 +80,7 @@ module _ (b : ℕ) {t : State} where
       (inside p (record { few = s.few; nonzero = s.allowed })))
 
   -- the byte behind a number
-  after_kept : {n : Number} {x : ℕ} {part : List ℕ} {ls : List ℤ} → Head n part ls → Fits n x → after_number n x b ≡ some t
+  after_kept : {n : Number} {x : ℕ} {part : List ℕ} {ls : List ℤ} → Head n part ls → Fits n x → after_number n x b ≡ Some t
       → Shape t (part ++ decimal x ++ (b ∷ [])) (ls ++ read_element n x)
   after_kept {x = x} {part = part} (variables p) f e =
       taken (λ t. Shape t (part ++ decimal x ++ (b ∷ [])) []) (eqb b space) (first (of_clauses x)) e
@@ -112,7 +113,7 @@ module _ (b : ℕ) {t : State} where
       (λ c. rw (← s.zero, text) (list (part_blank (part_number l p room (omega arith)) b c)))
 
   -- the first byte of an element
-  element_kept : {h : Header} {k : ℕ} {begun at_line : Bool} {part : List ℕ} {ls : List ℤ} → ListPart h k begun at_line part ls → element_step h k b ≡ some t
+  element_kept : {h : Header} {k : ℕ} {begun at_line : Bool} {part : List ℕ} {ls : List ℤ} → ListPart h k begun at_line part ls → element_step h k b ≡ Some t
       → Shape t (part ++ (b ∷ [])) ls
   element_kept {h} {k} {begun} {part = part} {ls = ls} p e = by (eqb k h.clauses) refl (eqb b minus) refl e
     where
@@ -121,9 +122,9 @@ module _ (b : ℕ) {t : State} where
       room false l z = omega arith
 
       by : (full : Bool) → eqb k h.clauses ≡ full → (dash : Bool) → eqb b minus ≡ dash
-          → cond full none (cond dash (when (not (eqb h.variables 0)) (first (element h k true))) (first_digit (element h k false) b)) ≡ some t
+          → cond full None (cond dash (when (not (eqb h.variables 0)) (first (element h k true))) (first_digit (element h k false) b)) ≡ Some t
           → Shape t (part ++ (b ∷ [])) ls
-      by true q dash r e = absurd (none-ne-some t e)
+      by true q dash r e = absurd (none-some t e)
       by false q true r e =
           taken (λ t. Shape t (part ++ (b ∷ [])) ls) (not (eqb h.variables 0)) (first (element h k true)) e
           (λ c. rw (eqb-true b minus r) (before (literal p (room begun p.whole.room (eqb-false k h.clauses q))
@@ -133,14 +134,14 @@ module _ (b : ℕ) {t : State} where
 
   -- a byte that does not stand right after a number
   clause_kept : {h : Header} {k : ℕ} {begun at_line : Bool} {part : List ℕ} {ls : List ℤ} → ListPart h k begun at_line part ls
-      → clause_step h k begun at_line b ≡ some t → Shape t (part ++ (b ∷ [])) ls
+      → clause_step h k begun at_line b ≡ Some t → Shape t (part ++ (b ∷ [])) ls
   clause_kept {h} {k} {begun} {at_line} {part} {ls} p e = by (is_blank b) refl (starts_comment begun at_line b) refl e
     where
       by : (p : Bool) → is_blank b ≡ p → (starts : Bool) → starts_comment begun at_line b ≡ starts
-          → cond p (some (clause h k begun (eqb b line_feed))) (cond starts (some (comment (clause h k begun true))) (element_step h k b)) ≡ some t
+          → cond p (Some (clause h k begun (eqb b line_feed))) (cond starts (Some (comment (clause h k begun true))) (element_step h k b)) ≡ Some t
           → Shape t (part ++ (b ∷ [])) ls
-      by true q starts r e = subst (λ t. Shape t (part ++ (b ∷ [])) ls) (some-injective _ t e) (list (part_blank p.whole b q))
-      by false q true r e = subst (λ t. Shape t (part ++ (b ∷ [])) ls) (some-injective _ t e) (comment_kept b begun at_line p r)
+      by true q starts r e = subst (λ t. Shape t (part ++ (b ∷ [])) ls) (same_Some _ t e) (list (part_blank p.whole b q))
+      by false q true r e = subst (λ t. Shape t (part ++ (b ∷ [])) ls) (same_Some _ t e) (comment_kept b begun at_line p r)
       by false q false r e = element_kept p e
 
 -- a comment line more
@@ -162,7 +163,7 @@ module _ {text : List ℕ} (b : ℕ) {t : State} where
         shape = p;
       }
 
-  shape_kept : {s : State} {part : List ℕ} {ls : List ℤ} → Opened text part → Shape s part ls → step_byte s b ≡ some t
+  shape_kept : {s : State} {part : List ℕ} {ls : List ℤ} → Opened text part → Shape s part ls → step_byte s b ≡ Some t
       → Before t (text ++ (b ∷ [])) (ls ++ ended s b)
   shape_kept o nothing e = with_byte o (line_kept b e)
   shape_kept o (in_comment {bs = bs} a) e = by (eqb b line_feed) refl e
@@ -175,9 +176,9 @@ module _ {text : List ℕ} (b : ℕ) {t : State} where
             is = rw (o.is, q, append-nil, comments_more) (append_assoc (comment_lines o.comments) (99 ∷ bs) (line_feed ∷ []));
           }
 
-      by : (c : Bool) → eqb b line_feed ≡ c → cond c (some line) (when (ltb b 256) (comment line)) ≡ some t → Before t (text ++ (b ∷ [])) []
+      by : (c : Bool) → eqb b line_feed ≡ c → cond c (Some line) (when (ltb b 256) (comment line)) ≡ Some t → Before t (text ++ (b ∷ [])) []
       by true q e =
-          subst (λ t. Before t (text ++ (b ∷ [])) []) (some-injective line t e)
+          subst (λ t. Before t (text ++ (b ∷ [])) []) (same_Some line t e)
           (record { part = []; opened = closed (eqb-true b line_feed q); shape = nothing })
       by false q e =
           with_byte o (taken (λ t. Shape t (99 ∷ bs ++ (b ∷ [])) []) (ltb b 256) (comment line) e
@@ -186,23 +187,23 @@ module _ {text : List ℕ} (b : ℕ) {t : State} where
   shape_kept o (before {ls = ls} p) e = rw (append-nil ls) (with_byte o (first_kept b p e))
   shape_kept o (inside {n = n} {x = x} {part = part} {ls = ls} p f) e = by (is_digit b) refl e
     where
-      by : (d : Bool) → is_digit b ≡ d → cond d (next_digit n x b) (after_number n x b) ≡ some t → Before t (text ++ (b ∷ [])) (ls ++ cond d [] (read_element n x))
+      by : (d : Bool) → is_digit b ≡ d → cond d (next_digit n x b) (after_number n x b) ≡ Some t → Before t (text ++ (b ∷ [])) (ls ++ cond d [] (read_element n x))
       by true q e = rw (append-nil ls) (with_byte o (next_kept b x p q e))
       by false q e = with_byte o (after_kept b p f e)
   shape_kept o (list {ls = ls} p) e = rw (append-nil ls) (with_byte o (clause_kept b p e))
   shape_kept o (in_list_comment {h = h} {k = k} {part = part} {ls = ls} p bs a) e = rw (append-nil ls) (with_byte o (by (eqb b line_feed) refl e))
     where
-      by : (c : Bool) → eqb b line_feed ≡ c → cond c (some (clause h k false true)) (when (ltb b 256) (comment (clause h k false true))) ≡ some t
+      by : (c : Bool) → eqb b line_feed ≡ c → cond c (Some (clause h k false true)) (when (ltb b 256) (comment (clause h k false true))) ≡ Some t
           → Shape t (part ++ (99 ∷ bs) ++ (b ∷ [])) ls
       by true q e =
-          subst (λ t. Shape t (part ++ (99 ∷ bs) ++ (b ∷ [])) ls) (some-injective (clause h k false true) t e)
+          subst (λ t. Shape t (part ++ (99 ∷ bs) ++ (b ∷ [])) ls) (same_Some (clause h k false true) t e)
           (rw (eqb-true b line_feed q, append_assoc part (99 ∷ bs) (line_feed ∷ [])) (list (part_comment p bs a)))
       by false q e =
           taken (λ t. Shape t (part ++ (99 ∷ bs) ++ (b ∷ [])) ls) (ltb b 256) (comment (clause h k false true)) e
           (λ c. rw (append_assoc part (99 ∷ bs) (b ∷ []))
           (in_list_comment p (bs ++ (b ∷ [])) (all_more CommentByte bs a (ltb-true b 256 c, eqb-false b line_feed q))))
 
-pub kept : {s t : State} {text : List ℕ} {ls : List ℤ} (b : ℕ) → Before s text ls → step_byte s b ≡ some t → Before t (text ++ (b ∷ [])) (ls ++ ended s b)
+pub kept : {s t : State} {text : List ℕ} {ls : List ℤ} (b : ℕ) → Before s text ls → step_byte s b ≡ Some t → Before t (text ++ (b ∷ [])) (ls ++ ended s b)
 kept b r e = shape_kept b r.opened r.shape e
 
 pub start : Before line [] []

@@ -7,7 +7,8 @@ use lib.IntN.{ℤ, pos, negsuc, nat_abs}
 use lib.ListN.{length, drop}
 use mathlib.Core.Path.{◌≡◌, refl, sym, ◌∙◌, ap, subst}
 use mathlib.Core.Bool.{Bool, true, false, not}
-use mathlib.Core.Option.{Option, none, some, some-injective, none-ne-some}
+use Rattle.std.specs.Prelude.{Option, None, Some}
+use Rattle.std.proofs.lemmas.Option.{same_Some, none-some}
 use mathlib.Core.List.{List, [], ◌∷◌, ◌++◌, append_assoc}
 use Rattle.answers.specs.Lists.{tally, All}
 use Rattle.answers.proofs.Bools.{clash}
@@ -29,14 +30,14 @@ use Rattle.dimacs_theory.proofs.Pieces.{not_numbers, not_comment, unclosed_more}
 -- a run from a state through a text to a state, and the elements that it reads
 pub data Runs : State → List ℕ → State → List ℤ → Type 0 where
   stay : {s : State} → Runs s [] s []
-  byte : {s t u : State} {b : ℕ} {bs : List ℕ} {es ls : List ℤ} → step_byte s b ≡ some t → ended s b ≡ es → Runs t bs u ls → Runs s (b ∷ bs) u (es ++ ls)
+  byte : {s t u : State} {b : ℕ} {bs : List ℕ} {es ls : List ℤ} → step_byte s b ≡ Some t → ended s b ≡ es → Runs t bs u ls → Runs s (b ∷ bs) u (es ++ ls)
 
 -- a byte that ends no element
-pub on : {s t u : State} {b : ℕ} {bs : List ℕ} {ls : List ℤ} → step_byte s b ≡ some t → ended s b ≡ [] → Runs t bs u ls → Runs s (b ∷ bs) u ls
+pub on : {s t u : State} {b : ℕ} {bs : List ℕ} {ls : List ℤ} → step_byte s b ≡ Some t → ended s b ≡ [] → Runs t bs u ls → Runs s (b ∷ bs) u ls
 on e f r = byte e f r
 
 -- it is what the reader does
-pub ends : {s u : State} {text : List ℕ} {ls : List ℤ} → Runs s text u ls → end_from step_byte s text ≡ some u
+pub ends : {s u : State} {text : List ℕ} {ls : List ℤ} → Runs s text u ls → end_from step_byte s text ≡ Some u
 unfolding end_from
 ends stay = refl
 ends (byte e f r) = rw e (ends r)
@@ -46,15 +47,15 @@ unfolding list_from
 reads stay = refl
 reads {u = u} (byte {es = es} {ls = ls} e f r) = rw (e, f, reads r) (sym (append_assoc es ls (ended_last u)))
 
-pub ran : (s : State) (text : List ℕ) {u : State} → end_from step_byte s text ≡ some u → (ls : List ℤ) × Runs s text u ls
+pub ran : (s : State) (text : List ℕ) {u : State} → end_from step_byte s text ≡ Some u → (ls : List ℤ) × Runs s text u ls
 unfolding end_from
-ran s [] {u} e = ([], subst (λ t. Runs s [] t []) (some-injective s u e) stay)
+ran s [] {u} e = ([], subst (λ t. Runs s [] t []) (same_Some s u e) stay)
 ran s (b ∷ bs) {u} e = by (step_byte s b) refl e (λ t. ran t bs)
   where
-    by : (o : Option State) → step_byte s b ≡ o → next o none (λ t. end_from step_byte t bs) ≡ some u
-        → ((t : State) → end_from step_byte t bs ≡ some u → (ls : List ℤ) × Runs t bs u ls) → (ls : List ℤ) × Runs s (b ∷ bs) u ls
-    by none q e go = absurd (none-ne-some u e)
-    by (some t) q e go = let r = go t e in (_, byte q refl r.1)
+    by : (o : Option State) → step_byte s b ≡ o → next o None (λ t. end_from step_byte t bs) ≡ Some u
+        → ((t : State) → end_from step_byte t bs ≡ Some u → (ls : List ℤ) × Runs t bs u ls) → (ls : List ℤ) × Runs s (b ∷ bs) u ls
+    by None q e go = absurd (none-some u e)
+    by (Some t) q e go = let r = go t e in (_, byte q refl r.1)
 
 -- a text is refused where it is refused after a run
 pub run-refused : {s t : State} {text : List ℕ} {ls : List ℤ} → Runs s text t ls → (rest : List ℕ) (at : ℕ)
@@ -71,15 +72,15 @@ pub record Fits (n : Number) (x : ℕ) : Type 0 where
 pub fits : {n : Number} {x : ℕ} → zero_allowed n ≡ true → x ≤ most n → Fits n x
 fits z h = record { few = h; nonzero = λ e. clash z e }
 
-pub first_step : {n : Number} {d : ℕ} → d < 10 → Fits n d → first_digit n (digit d) ≡ some (digits n d)
+pub first_step : {n : Number} {d : ℕ} → d < 10 → Fits n d → first_digit n (digit d) ≡ Some (digits n d)
 first_step {n} {d} h f = let e : 48 + d - 48 ≡ d = omega arith in rw (first_test d (most n) (zero_allowed n) h f.few f.nonzero, e)
 
-next-step : {n : Number} {x d : ℕ} → (x ≡ 0 → ⊥) → d < 10 → Fits n (x * 10 + d) → step_byte (digits n x) (digit d) ≡ some (digits n (x * 10 + d))
+next-step : {n : Number} {x d : ℕ} → (x ≡ 0 → ⊥) → d < 10 → Fits n (x * 10 + d) → step_byte (digits n x) (digit d) ≡ Some (digits n (x * 10 + d))
 next-step {n} {x} {d} z h f = let e : 48 + d - 48 ≡ d = omega arith in rw (is_digit_lem d h, e, next_test x d (most n) z f.few)
 
 -- a number, from a state whose next byte is its first digit
 module _ {s u : State} {n : Number} {ls : List ℤ}
-    (start : (d : ℕ) → d < 10 → Fits n d → (step_byte s (digit d) ≡ some (digits n d)) × (ended s (digit d) ≡ [])) where
+    (start : (d : ℕ) → d < 10 → Fits n d → (step_byte s (digit d) ≡ Some (digits n d)) × (ended s (digit d) ≡ [])) where
   pub number-run : (x : ℕ) → Fits n x → (rest : List ℕ) → Runs (digits n x) rest u ls → Runs s (decimal x ++ rest) u ls
   number-run = digit_by_digit P one more
     where
@@ -114,7 +115,7 @@ in_element h k l = let e = sign_and_number l in digits (element h k e.0) e.1
 -- an element, from a place that is not right after a number ..
 module _ {h : Header} {k : ℕ} (begun at_line : Bool) (room : k ≡ h.clauses → ⊥) where
   plain : (d : ℕ) → d < 10 → Fits (element h k false) d
-      → (step_byte (clause h k begun at_line) (digit d) ≡ some (digits (element h k false) d)) × (◌≡◌ {A = List ℤ} [] [])
+      → (step_byte (clause h k begun at_line) (digit d) ≡ Some (digits (element h k false) d)) × (◌≡◌ {A = List ℤ} [] [])
   plain d l f =
       let not_byte : (n : ℕ) → (48 + d ≡ n → ⊥) → eqb (48 + d) n ≡ false = λ n z. ne_eqb (48 + d) n z in (
         rw (
@@ -141,7 +142,7 @@ blank_run : {h : Header} {k : ℕ} {u : State} {ls : List ℤ} (l : ℤ) (b : �
     → Runs (clause h (tally (closes l) k) (not (closes l)) (eqb b line_feed)) rest u ls → Runs (in_element h k l) (b ∷ rest) u (l ∷ ls)
 blank_run {h} {k} l b t rest r = byte after read r
   where
-    after : step_byte (in_element h k l) b ≡ some (clause h (tally (closes l) k) (not (closes l)) (eqb b line_feed))
+    after : step_byte (in_element h k l) b ≡ Some (clause h (tally (closes l) k) (not (closes l)) (eqb b line_feed))
     after = rw (blank_no_digit b t, number-closes l, t)
 
     read : ended (in_element h k l) b ≡ l ∷ []

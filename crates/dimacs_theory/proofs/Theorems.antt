@@ -8,21 +8,22 @@ use lib.ListN.{length, length-append}
 use mathlib.Core.Path.{◌≡◌, refl, sym, ◌∙◌, ap, subst₂, subst₃}
 use mathlib.Core.Logic.{◌↔◌}
 use mathlib.Core.Bool.{Bool, true}
-use mathlib.Core.Option.{none, some}
+use Rattle.std.specs.Prelude.{None, Some, Result}
 use mathlib.Core.List.{List, [], ◌∷◌, ◌++◌, append-nil}
 use Rattle.answers.specs.declared.Outcome.{Outcome}
 use Rattle.answers.specs.Lists.{All, each}
 use Rattle.answers.proofs.OneToOne.{one_to_one}
 use Rattle.cnf.specs.Literals.{wrong_list}
 use Rattle.cnf.specs.Clauses.{split, clause_count}
-use Rattle.dimacs.specs.declared.Written.{Written}
-use Rattle.dimacs.specs.declared.Reading.{Reading}
 use Rattle.dimacs.specs.Text.{header_line, CommentByte, comment_lines, text_of, HasText, Narrow}
 use Rattle.dimacs.specs.Accepted.{is_blank, bytes_of, numbers_of, Accepted}
 use Rattle.dimacs.specs.Automaton.{refused_from}
 use Rattle.dimacs.specs.Reader.{Header, line, refused_at, list_read, header_read}
 use Rattle.dimacs.specs.Tokens.{stands, number_at, element_at, header_at}
 use Rattle.dimacs.specs.Calls.{writer_answer, reader_answer}
+use Rattle.dimacs.specs.declared.WriteRefusal.{WriteRefusal}
+use Rattle.dimacs.specs.declared.ReadRefusal.{ReadRefusal}
+use Rattle.dimacs.specs.declared.ListRead.{ListRead}
 use Rattle.dimacs.specs.Answers.{written_outcome, reading_outcome}
 use Rattle.dimacs.proofs.Outcomes.{writings, readings}
 use Rattle.dimacs_theory.specs.Place.{Refused, Automaton}
@@ -41,7 +42,7 @@ use Rattle.dimacs_theory.proofs.Headers as headers
 use Rattle.dimacs_theory.proofs.Calls.{writer_passed, writer_answers, writer_hands, reader_passed, reader_answers, reader_hands, count_few}
 
 -- The reader takes exactly the accepted texts: comment lines, the header of some V and list, and that list in pieces ..
-pub takes_accepted : (text : List ℕ) → refused_at text ≡ none ↔ Accepted text
+pub takes_accepted : (text : List ℕ) → refused_at text ≡ None ↔ Accepted text
 takes_accepted = exact.exactly
 
 -- .. and what it reads from one is that V and that list. So the list can be written, and the header's second number counts its clauses.
@@ -58,12 +59,12 @@ header-line text a = exact.accepted_header a
 
 -- A blank before it is refused, after comment lines too.
 pub blank_first : (cs : List (List ℕ)) → All (All CommentByte) cs → (b : ℕ) (text : List ℕ) → is_blank b ≡ true
-    → refused_at (comment_lines cs ++ (b ∷ text)) ≡ some (length (comment_lines cs))
+    → refused_at (comment_lines cs ++ (b ∷ text)) ≡ Some (length (comment_lines cs))
 unfolding refused_from
 blank_first cs a b text t =
     let l = blank_low b t in
     let comments : Runs line (comment_lines cs) line [] = rw append-nil at (comments_run cs a [] stay) in
-    run-refused comments (b ∷ text) 0 ∙ rw (ne_eqb b 99 (λ e. omega arith), ne_eqb b 112 (λ e. omega arith)) (ap some (omega arith))
+    run-refused comments (b ∷ text) 0 ∙ rw (ne_eqb b 99 (λ e. omega arith), ne_eqb b 112 (λ e. omega arith)) (ap Some (omega arith))
 
 -- Half a text's bytes are room enough for its list.
 pub half_enough : (text : List ℕ) → Accepted text → length (list_read text) * 2 < length text
@@ -95,11 +96,11 @@ pub reads_back : (v : ℕ) (ls : List ℤ) → HasText v ls → ReadAs (text_of 
 reads_back v ls w = exact.narrow_read [] tt (record { variables = v; list = ls; has_text = w; is = refl })
 
 -- That text has a line for each clause, after the header line.
-pub clause_lines : (v : ℕ) (ls : List ℤ) → wrong_list v ls ≡ none → text_of v ls ≡ header_line v (clause_count ls) ++ each (split ls) clause_line
+pub clause_lines : (v : ℕ) (ls : List ℤ) → wrong_list v ls ≡ None → text_of v ls ≡ header_line v (clause_count ls) ++ each (split ls) clause_line
 clause_lines v ls e = ap (λ bs. header_line v (clause_count ls) ++ bs) (lines-clauses ls (closing_closed (closing v ls e)))
 
 -- The text of what is read from an accepted text is, byte for byte, that text exactly if it is in the narrow form.
-pub narrow_exactly : (text : List ℕ) → refused_at text ≡ none → text_of (header_read text).variables (list_read text) ≡ text ↔ Narrow text
+pub narrow_exactly : (text : List ℕ) → refused_at text ≡ None → text_of (header_read text).variables (list_read text) ≡ text ↔ Narrow text
 narrow_exactly text e = (
   λ same. record { variables = (header_read text).variables; list = list_read text; has_text = (reads_has_text text ((exact.exactly text).0 e)).0; is = sym same },
   λ n. let r = exact.narrow_read [] tt n in rw (r.variables, r.list) (sym n.is),
@@ -108,13 +109,13 @@ narrow_exactly text e = (
 -- The place of refusal 19: the bytes before it are the beginning of some accepted text; if it is inside the text, the bytes up to and
 -- including it are the beginning of none; if it is the text's length, the text is a beginning of some accepted text and is not accepted.
 -- A text has at most one such place, and the reader names it wherever there is one.
-pub place_19 : (text : List ℕ) (k : ℕ) → refused_at text ≡ some k ↔ Refused Accepted text k
+pub place_19 : (text : List ℕ) (k : ℕ) → refused_at text ≡ Some k ↔ Refused Accepted text k
 place_19 = exact.place_19
 
 -- The same holds of any automaton over bytes in which every live state has a completing text, with the texts that it takes.
 pub place_of_any : {S : Type 0} (A : Automaton S) (Taken : List ℕ → Type 0)
-    → ((text : List ℕ) → refused_from A.step A.accepts A.start text 0 ≡ none ↔ Taken text)
-    → (text : List ℕ) (k : ℕ) → refused_from A.step A.accepts A.start text 0 ≡ some k ↔ Refused Taken text k
+    → ((text : List ℕ) → refused_from A.step A.accepts A.start text 0 ≡ None ↔ Taken text)
+    → (text : List ℕ) (k : ℕ) → refused_from A.step A.accepts A.start text 0 ≡ Some k ↔ Refused Taken text k
 place_of_any A Taken exactly text k = automata.place A Taken exactly text k
 
 -- What the writer hands out, the reader reads back, given room (a slice has fewer than 2^64 elements).
@@ -150,7 +151,7 @@ written_again text out buf e =
     (λ fits. (writer_answers (header_read text).variables (list_read text) buf (reads_has_text text a).0 fits, narrow_exactly text p.0))
 
 -- Document 01's numbers and values tell the answers apart: two answers of the writer that are told the same are the same, and two of the text reader likewise.
-pub outcome_one_to_one : ((v w : Written) → written_outcome v ≡ written_outcome w → v ≡ w) × ((r s : Reading) → reading_outcome r ≡ reading_outcome s → r ≡ s)
+pub outcome_one_to_one : ((v w : Result ℕ WriteRefusal) → written_outcome v ≡ written_outcome w → v ≡ w) × ((r s : Result ListRead ReadRefusal) → reading_outcome r ≡ reading_outcome s → r ≡ s)
 outcome_one_to_one = (one_to_one writings, one_to_one readings)
 
 -- Reading a number at a place gives n and the place after it exactly if n stands there in decimal, up to that place.

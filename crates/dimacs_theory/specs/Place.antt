@@ -1,7 +1,6 @@
 -- "First byte where no accepted text can go on, or the text's length if it ends too soon", for any notion of an accepted text,
 -- and for any automaton over bytes.
-use Rattle.std.specs.Prelude.{ℕ, suc, ◌≤◌, ◌<◌, length, take, ◌≡◌, Bool, List, ◌++◌}
-use Rattle.std.proofs.Math.Option.{Option, none, some}
+use Rattle.std.specs.Prelude.{ℕ, suc, ◌≤◌, ◌<◌, length, take, ◌≡◌, Bool, List, ◌++◌, Option, None, Some}
 use Rattle.dimacs.specs.Automaton.{refused_from}
 
 -- the beginning of some accepted text
@@ -22,5 +21,5 @@ pub record Automaton (S : Type 0) : Type 1 where
   pub start : S
   pub Live : S → Type 0
   pub begun : Live start
-  pub kept : {s t : S} (b : ℕ) → Live s → step s b ≡ some t → Live t
-  pub completes : {s : S} → Live s → (rest : List ℕ) × (refused_from step accepts s rest 0 ≡ none)
+  pub kept : {s t : S} (b : ℕ) → Live s → step s b ≡ Some t → Live t
+  pub completes : {s : S} → Live s → (rest : List ℕ) × (refused_from step accepts s rest 0 ≡ None)

@@ -1,6 +1,5 @@
 -- What is read from a text, and what the two calls hand out.
-use Rattle.std.specs.Prelude.{ℕ, ℤ, length, take, ◌≡◌, List}
-use Rattle.std.proofs.Math.Option.{none}
+use Rattle.std.specs.Prelude.{ℕ, ℤ, length, take, ◌≡◌, List, None}
 use Rattle.answers.specs.Outcome.{answer}
 use Rattle.answers.specs.Lent.{filled}
 use Rattle.cnf.specs.Clauses.{clause_count}
@@ -9,7 +8,7 @@ use Rattle.dimacs.specs.Calls.{writer_answer, writer_leaves, reader_answer, read
 
 -- the reader takes the text and reads V, the list and its number of clauses
 pub record ReadAs (text : List ℕ) (v : ℕ) (ls : List ℤ) : Type 0 where
-  pub taken : refused_at text ≡ none
+  pub taken : refused_at text ≡ None
   pub list : list_read text ≡ ls
   pub variables : (header_read text).variables ≡ v
   pub clauses : (header_read text).clauses ≡ clause_count ls

@@ -1,17 +1,17 @@
 -- Laws of lines: the text of an element, the lines from an element on, the loop that counts bytes. Assumes nothing.
-use Prim.Native.Nat.{ℕ, zero, suc, ◌+◌, ◌*◌, ◌/◌, ◌%◌, ◌≤◌, ◌<◌, ◌^◌}
+use Prim.Native.Nat.{ℕ, suc, ◌+◌, ◌*◌, ◌/◌, ◌%◌, ◌≤◌, ◌<◌, ◌^◌}
 use native.Mathlib.Omega.{arith}
 use native.Mathlib.Numerals.{add-one}
 use borrow.Author.Tests.{lt-ltb, le-ltb}
 use lib.IntN.{ℤ, pos, negsuc}
 use lib.ListN.{length, get_or, drop, length-append, drop_of_length-le}
 use lib.Seq.{drop-cons}
-use mathlib.Core.Path.{◌≡◌, refl, sym, ◌∙◌, ap}
+use mathlib.Core.Path.{◌≡◌, sym, ◌∙◌, ap}
 use mathlib.Core.List.{List, [], ◌∷◌, ◌++◌, append_assoc}
+use Rattle.std.specs.Prelude.{Some, None}
 use Rattle.cnf.specs.Literals.{code_of}
-use Rattle.dimacs_writer.specs.declared.Needed.TheVariants.{Bytes, TooMany}
-use Rattle.text.specs.Decimal.{line_feed, space, minus, decimal}
-use Rattle.dimacs.specs.Text.{signed, behind, lines, preamble, header_line}
+use Rattle.text.specs.Decimal.{line_feed, space, decimal}
+use Rattle.dimacs.specs.Text.{signed, behind, lines, header_line}
 use Rattle.dimacs_writer.specs.Writer.{written, counted}
 
 -- the length of an element's text
@@ -25,42 +25,7 @@ written-length {k} l e =
     let a = length-append (signed l) (behind l ∷ []) in
     omega arith
 
--- an element's text, by its code
-module _ {k : ℕ} (l : ℤ) (e : k ≡ code_of l) where
-  pub zero_written : k ≡ 0 → decimal 0 ++ (line_feed ∷ []) ≡ written l
-  zero_written h = go l (sym e ∙ h)
-    where
-      go : (l : ℤ) → code_of l ≡ 0 → decimal 0 ++ (line_feed ∷ []) ≡ written l
-      go (pos zero) h = refl
-      go (pos (suc n)) h = absurd (omega arith)
-      go (negsuc n) h = absurd (omega arith)
-
-  pub plus-written : (k ≡ 0 → ⊥) → k % 2 ≡ 0 → decimal (k / 2) ++ (space ∷ []) ≡ written l
-  plus-written n h = go l e
-    where
-      go : (l : ℤ) → k ≡ code_of l → decimal (k / 2) ++ (space ∷ []) ≡ written l
-      go (pos zero) e = absurd (n (omega arith))
-      go (pos (suc m)) e = ap (λ (i : ℕ). decimal i ++ (space ∷ [])) (omega arith)
-      go (negsuc m) e = absurd (omega arith)
-
-  pub minus-written : (k % 2 ≡ 0 → ⊥) → (minus ∷ []) ++ (decimal (k / 2) ++ (space ∷ [])) ≡ written l
-  minus-written h = go l e
-    where
-      go : (l : ℤ) → k ≡ code_of l → (minus ∷ []) ++ (decimal (k / 2) ++ (space ∷ [])) ≡ written l
-      go (pos m) e = absurd (h (omega arith))
-      go (negsuc m) e = ap (λ (i : ℕ). minus ∷ (decimal i ++ (space ∷ []))) (omega arith)
-
--- the room that they take
-pub field_room : (n end : ℕ) {bs : List ℕ} → decimal n ++ (end ∷ []) ≡ bs → length bs ≡ length (decimal n) + 1
-field_room n end e = ap length (sym e) ∙ length-append (decimal n) (end ∷ [])
-
-pub minus_room : (n : ℕ) {bs : List ℕ} → (minus ∷ []) ++ (decimal n ++ (space ∷ [])) ≡ bs → length bs ≡ length (decimal n) + 2
-minus_room n e = let l = length-append (decimal n) (space ∷ []) in ap length (sym e) ∙ omega arith
-
--- the header's parts
-pub header_parts : (v c : ℕ) → (preamble ++ (decimal v ++ (space ∷ []))) ++ (decimal c ++ (line_feed ∷ [])) ≡ header_line v c
-header_parts v c = simp append_assoc
-
+-- the header's length
 pub header_length : (v c : ℕ) → 8 + length (decimal v) + length (decimal c) ≡ length (header_line v c)
 header_length v c =
     let a = length-append (decimal v) (space ∷ decimal c ++ (line_feed ∷ [])) in
@@ -93,10 +58,10 @@ module _ {ls : List ℤ} {before n i : ℕ} (c : LinesCounted ls before n i) whe
     pub count_more : n + w < 2 ^ 64 → LinesCounted ls before (n + w) (i + 1)
     count_more l = record { within = omega arith; fits = l; rest = count_turn }
 
-    pub count_over : 2 ^ 64 ≤ n + w → TooMany ≡ counted (before + length (lines ls))
+    pub count_over : 2 ^ 64 ≤ n + w → None ≡ counted (before + length (lines ls))
     count_over l = let r = count_turn in rw (le-ltb (before + length (lines ls)) (2 ^ 64) (omega arith))
 
-  pub count_end : length ls ≤ i → Bytes n ≡ counted (before + length (lines ls))
+  pub count_end : length ls ≤ i → Some n ≡ counted (before + length (lines ls))
   count_end h =
       let r = c.rest in
       let z = ap length (lines_end ls i h) in

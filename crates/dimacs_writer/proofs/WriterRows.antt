@@ -7,17 +7,15 @@ use lib.IntN.{ℤ}
 use lib.ListN.{length, drop, length-append}
 use mathlib.Core.Path.{◌≡◌, refl, sym, ◌∙◌, ap}
 use mathlib.Core.Bool.{Bool, true, false, cond}
-use mathlib.Core.Option.{some}
-use mathlib.Core.List.{List}
+use Rattle.std.specs.Prelude.{Some, Option, None}
+use mathlib.Core.List.{List, ◌++◌}
 use Rattle.answers.specs.declared.Outcome.{Outcome}
 use Rattle.answers.specs.Outcome.{answer, refusal, cause}
 use Rattle.answers.specs.Lent.{Wrote, filled, unless_refused}
-use Rattle.answers.proofs.Lent.{wrote_after, wrote_recast, wrote_filled}
+use Rattle.answers.proofs.Lent.{wrote_recast, wrote_filled}
 use Rattle.answers.proofs.Rows.{Left, left_all, left_next, left_turn, left_done}
 use Rattle.cnf.specs.Literals.{too_many_variables, wrong_list}
 use Rattle.cnf.specs.Clauses.{clause_count}
-use Rattle.dimacs_writer.specs.declared.Needed.{Needed}
-use Rattle.dimacs_writer.specs.declared.Needed.TheVariants.{Bytes, TooMany}
 use Rattle.text.specs.Decimal.{decimal}
 use Rattle.dimacs.specs.Text.{lines, header_line, text_of}
 use Rattle.dimacs_writer.specs.Writer.{counted}
@@ -26,17 +24,17 @@ use Rattle.answers.proofs.Settled.{short_over, short_by, long_enough, settles}
 use Rattle.dimacs_writer.proofs.Lines.{header_length}
 
 -- what a count that fits, and one that does not, say
-counted_bytes : (m : ℕ) {n : ℕ} → counted m ≡ Bytes n → (m ≡ n) × (m < 2 ^ 64)
+counted_bytes : (m : ℕ) {n : ℕ} → counted m ≡ Some n → (m ≡ n) × (m < 2 ^ 64)
 counted_bytes m {n} e = by (ltb m (2 ^ 64)) refl e
   where
-    by : (t : Bool) → ltb m (2 ^ 64) ≡ t → cond t (Bytes m) TooMany ≡ Bytes n → (m ≡ n) × (m < 2 ^ 64)
+    by : (t : Bool) → ltb m (2 ^ 64) ≡ t → cond t (Some m) None ≡ Some n → (m ≡ n) × (m < 2 ^ 64)
     by true h e = (cc, ltb-true m (2 ^ 64) h)
     by false h e = let z : ◌≡◌ {A = ℕ} 0 1 = cc in absurd (omega arith)
 
-counted_over : (m : ℕ) → counted m ≡ TooMany → 2 ^ 64 ≤ m
+counted_over : (m : ℕ) → counted m ≡ None → 2 ^ 64 ≤ m
 counted_over m e = by (ltb m (2 ^ 64)) refl e
   where
-    by : (t : Bool) → ltb m (2 ^ 64) ≡ t → cond t (Bytes m) TooMany ≡ TooMany → 2 ^ 64 ≤ m
+    by : (t : Bool) → ltb m (2 ^ 64) ≡ t → cond t (Some m) None ≡ None → 2 ^ 64 ≤ m
     by true h e = let z : ◌≡◌ {A = ℕ} 0 1 = cc in absurd (omega arith)
     by false h e = ltb-false m (2 ^ 64) h
 
@@ -44,7 +42,7 @@ text_append : (v : ℕ) (ls : List ℤ) → length (text_of v ls) ≡ length (he
 text_append v ls = length-append (header_line v (clause_count ls)) (lines ls)
 
 -- the bytes of the text, by its parts
-pub text_counted : {a b k : ℕ} {r : Needed} (v : ℕ) (ls : List ℤ) → k ≡ clause_count ls → a ≡ length (decimal v) → b ≡ length (decimal k)
+pub text_counted : {a b k : ℕ} {r : Option ℕ} (v : ℕ) (ls : List ℤ) → k ≡ clause_count ls → a ≡ length (decimal v) → b ≡ length (decimal k)
     → r ≡ counted (8 + a + b + length (lines ls)) → r ≡ counted (length (text_of v ls))
 text_counted {a} {b} v ls e p q r =
     let h = header_length v (clause_count ls) in
@@ -79,20 +77,20 @@ module _ (v : ℕ) (ls : List ℤ) (buf : List ℕ) where
   pub past_variables : false ≡ too_many_variables v → Past v ls buf 1
   past_variables h = left_next past_none (ap cause h)
 
-  pub list_wrong : {i : ℕ} → Past v ls buf 1 → some i ≡ wrong_list v ls → Writes v ls buf (refusal 16 i) buf
+  pub list_wrong : {i : ℕ} → Past v ls buf 1 → Some i ≡ wrong_list v ls → Writes v ls buf (refusal 16 i) buf
   list_wrong p h = writes (left_turn p h) refl
 
   -- the text, counted
-  module _ (p : Past v ls buf 2) {r : Needed} (e : r ≡ counted (length (text_of v ls))) where
-    pub room_over : length buf < 2 ^ 64 → r ≡ TooMany → Writes v ls buf (refusal 6 (2 ^ 64 - 1)) buf
+  module _ (p : Past v ls buf 2) {r : Option ℕ} (e : r ≡ counted (length (text_of v ls))) where
+    pub room_over : length buf < 2 ^ 64 → r ≡ None → Writes v ls buf (refusal 6 (2 ^ 64 - 1)) buf
     room_over h o = writes (left_turn p (sym (short_over (length buf) h (counted_over (length (text_of v ls)) (sym e ∙ o))))) refl
 
-    module _ {n : ℕ} (o : r ≡ Bytes n) where
+    module _ {n : ℕ} (o : r ≡ Some n) where
       needs : (length (text_of v ls) ≡ n) × (length (text_of v ls) < 2 ^ 64)
       needs = counted_bytes (length (text_of v ls)) (sym e ∙ o)
 
       pub room_short : length buf < n → Writes v ls buf (refusal 6 n) buf
-      room_short h = writes (left_turn p (ap some (sym needs.0) ∙ sym (short_by (length buf) (omega (arith, needs.0)) needs.1))) refl
+      room_short h = writes (left_turn p (ap Some (sym needs.0) ∙ sym (short_by (length buf) (omega (arith, needs.0)) needs.1))) refl
 
       pub room_right : n ≤ length buf → TextFits v ls buf
       room_right h = record { room = omega (arith, needs.0); small = needs.1 }
@@ -104,9 +102,8 @@ module _ {v : ℕ} {ls : List ℤ} {buf : List ℕ} (f : TextFits v ls buf) {k :
   pub header_fits : length (header_line v k) + length (lines ls) < 2 ^ 64
   header_fits = let s = f.small in omega (arith, text_append v ls, ap length header)
 
-  pub all_written : {b₁ new : List ℕ} {a r : ℕ} → Past v ls buf 2 → Wrote buf 0 (header_line v k) b₁ a → Wrote b₁ a (lines ls) new r
-      → Writes v ls buf (answer r 0 0) new
-  all_written {r = r} p w x =
-      let t = wrote_after (wrote_recast header w) x in
+  pub all_written : {new : List ℕ} {r : ℕ} → Past v ls buf 2 → Wrote buf 0 (header_line v k ++ lines ls) new r → Writes v ls buf (answer r 0 0) new
+  all_written {r = r} p w =
+      let t = wrote_recast (ap (λ h. h ++ lines ls) header) w in
       let n : r ≡ length (text_of v ls) = omega (arith, t.place) in
       rw n (writes v ls buf (left_done (left_next p (sym (long_enough (length buf) f.room)))) (wrote_filled t f.room))

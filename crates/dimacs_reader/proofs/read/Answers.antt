@@ -1,10 +1,7 @@
 -- `dimacs_reader::read` meets its contract. Assumes nothing.
-use Rattle.dimacs_cursor.specs.Cursors.{at_head}
-use Rattle.dimacs_cursor.proofs.Answers.{answered}
+use Rattle.answers.proofs.Results.{handed_on}
 use Rattle.dimacs_reader.proofs.ReaderRows.{head_refused}
 use Rattle.dimacs_reader.proofs.read.Goals as goal
 
-pub returns-in-Refused : goal.returns-in-Refused
-returns-in-Refused c =
-    let r = head_refused c.args.text.now c.args.list.now (answered at_head c.header.ensures c.in-Refused.is) in
-    record { result_value = r.0; list_after = r.1 }
+pub returns-in_err-header : goal.returns-in_err-header
+returns-in_err-header c = rw (handed_on _ c.from_residual.ensures.1) (head_refused c.args.text.now c.args.list.now c.in_err-header.ensures)

@@ -4,8 +4,8 @@ use lib.ListN.{length}
 use Rattle.dimacs_reader.proofs.ListLoop.{AtList}
 use Rattle.dimacs_reader.proofs.read_list.Given as goal
 
-abbrev pub invariant-loop-at : goal.invariant-loop-at
-invariant-loop-at l = AtList l.text l.variables l.clauses l.from l.initial.out l.out l.at l.n l.k l.begun
+abbrev pub invariant-loop-here : goal.invariant-loop-here
+invariant-loop-here l = AtList l.text l.variables l.clauses l.from l.initial.out l.out l.here.at l.elements l.closed l.begun
 
-abbrev pub decreases-loop-at : goal.decreases-loop-at
-decreases-loop-at l = length l.text - l.at
+abbrev pub decreases-loop-here : goal.decreases-loop-here
+decreases-loop-here l = length l.text - l.here.at

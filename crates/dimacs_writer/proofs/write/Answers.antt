@@ -5,7 +5,6 @@ use lib.IntN.{ℤ}
 use lib.ListN.{length}
 use mathlib.Core.Path.{◌≡◌, sym, ◌∙◌}
 use mathlib.Core.List.{List}
-use Rattle.answers.proofs.First.{found_none}
 use Rattle.answers.proofs.Rows.{left_next}
 use Rattle.dimacs.specs.Text.{text_of}
 use Rattle.dimacs_writer.specs.Writer.{counted}
@@ -27,8 +26,8 @@ returns-clause-text_after c =
     let buf : List ℕ = c.args.text.now in
     let past : Past v ls buf 2 =
     left_next (past_variables v ls buf (sym c.if-too_many_variables.false ∙ c.too_many_variables.ensures))
-    (found_none c.in_default.is c.wrong_list.ensures) in
+    c.in_default.ensures in
     let sized : c.count_lines.result ≡ counted (length (text_of v ls)) =
     text_counted v ls c.clause_count-clauses.ensures c.width.ensures c.width-2.ensures c.count_lines.ensures in
-    let fits : TextFits v ls buf = room_right v ls buf past sized c.in-Bytes.is c.if-text-needed.false in
-    (all_written fits c.clause_count-clauses.ensures past c.put_header-first.ensures c.put_lines.ensures).1
+    let fits : TextFits v ls buf = room_right v ls buf past sized c.in-Some-count_lines.is c.if-text-needed.false in
+    (all_written fits c.clause_count-clauses.ensures past c.write_text.ensures).1

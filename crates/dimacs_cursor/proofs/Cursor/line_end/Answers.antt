@@ -1,14 +1,14 @@
--- `dimacs_cursor::Cursor::line_end` meets its contract: the loop keeps `InLine`. Assumes nothing.
+-- `dimacs_cursor::Cursor::line_end` meets its contract. Assumes nothing.
 use native.Mathlib.Omega.{arith}
-use borrow.Author.Tests.{eq-eqb, ne_eqb}
-use Rattle.dimacs_cursor.proofs.Loops.{line-out, line_on, line_over}
+use native.Mathlib.Numerals.{add-one}
+use Rattle.dimacs.proofs.Tokens.{line_end_step, line_end_none}
 use Rattle.dimacs_cursor.proofs.Cursor.line_end.Goals as goal
 
-pub returns-then-b-eq10 : goal.returns-then-b-eq10
-returns-then-b-eq10 c = line-out c.loop-at.invariant (omega arith) c.byte_at-b.ensures (eq-eqb c.byte_at-b.result 10 c.if-b-eq10.true)
+pub returns-then-text-at-eq10 : goal.returns-then-text-at-eq10
+returns-then-text-at-eq10 c = grind (arith, line_end_step)
 
 pub loop-at-preserved : goal.loop-at-preserved
-loop-at-preserved c = line_on c.loop-at.invariant (omega arith) c.byte_at-b.ensures (ne_eqb c.byte_at-b.result 10 c.if-b-eq10.false)
+loop-at-preserved c = rw (add-one, ← c.loop-at.invariant) (grind (arith, line_end_step))
 
 pub returns : goal.returns
-returns c = line_over c.loop-at.invariant (omega arith)
+returns c = grind (arith, line_end_none)

@@ -1,27 +1,17 @@
--- `dimacs_cursor::Cursor::more_digits` meets its contract: the loop keeps `AtDigits`. Assumes nothing.
-use Prim.Native.Nat.{◌-◌}
+-- `dimacs_cursor::Cursor::more_digits` meets its contract. Assumes nothing.
 use native.Mathlib.Omega.{arith}
-use mathlib.Core.Path.{◌≡◌, sym, ◌∙◌}
-use mathlib.Core.Bool.{true}
-use Rattle.dimacs.specs.Reader.{is_digit, is_next}
-use Rattle.dimacs_cursor.proofs.Loops.{digits_ended, digits_more, digits_over, digits_short}
+use native.Mathlib.Numerals.{add-one}
+use Rattle.dimacs.proofs.Tokens.{digits_step, digits_none}
 use Rattle.dimacs_cursor.proofs.Cursor.more_digits.Goals as goal
 
 pub returns-then-not-is_digit : goal.returns-then-not-is_digit
-returns-then-not-is_digit c = digits_ended c.loop-at.invariant (omega arith) c.byte_at-b.ensures (sym c.is_digit.ensures ∙ c.if-not-is_digit.true)
+returns-then-not-is_digit c = grind (arith, digits_step)
 
 pub returns-then-not-goes_on : goal.returns-then-not-goes_on
-returns-then-not-goes_on c =
-    let is_one : is_digit c.byte_at-b.result ≡ true = sym c.is_digit.ensures ∙ c.if-not-is_digit.false in
-    digits_over c.loop-at.invariant (omega arith) c.byte_at-b.ensures is_one
-    (sym c.goes_on.ensures ∙ c.if-not-goes_on.true)
+returns-then-not-goes_on c = grind (arith, digits_step)
 
 pub loop-at-preserved : goal.loop-at-preserved
-loop-at-preserved c =
-    let is_one : is_digit c.byte_at-b.result ≡ true = sym c.is_digit.ensures ∙ c.if-not-is_digit.false in
-    let goes : is_next c.loop-at.x (c.byte_at-b.result - 48) c.args.bound ≡ true = sym c.goes_on.ensures ∙ c.if-not-goes_on.false in
-    digits_more c.loop-at.invariant (omega arith) c.byte_at-b.ensures is_one
-    goes
+loop-at-preserved c = rw add-one (grind (arith, digits_step))
 
 pub returns : goal.returns
-returns c = digits_short c.loop-at.invariant (omega arith)
+returns c = grind (arith, digits_none)

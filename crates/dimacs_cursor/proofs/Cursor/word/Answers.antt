@@ -1,20 +1,20 @@
--- `dimacs_cursor::Cursor::word` meets its contract: the loop keeps `AtWord`. Assumes nothing.
+-- `dimacs_cursor::Cursor::word` meets its contract. Assumes nothing.
 use native.Mathlib.Omega.{arith}
-use lib.ListN.{get_or}
-use mathlib.Core.Path.{◌≡◌, sym, ◌∙◌}
-use mathlib.Core.Bool.{true}
+use native.Mathlib.Numerals.{add-one}
+use lib.Seq.{drop-cons}
+use Rattle.std.proofs.lemmas.Result.{err_from_is_err_and}
 use Rattle.dimacs.specs.Text.{preamble}
-use Rattle.dimacs.specs.Tokens.{has_byte}
-use Rattle.dimacs_cursor.proofs.Loops.{word_more, word-other, word_end}
+use Rattle.dimacs.specs.Tokens.{word_at}
 use Rattle.dimacs_cursor.proofs.Cursor.word.Goals as goal
 
-pub returns-then-not-has_byte : goal.returns-then-not-has_byte
-returns-then-not-has_byte c = word-other c.loop-i.invariant (omega arith) (sym c.has_byte.ensures ∙ c.if-not-has_byte.true)
+pub returns-in_err-here : goal.returns-in_err-here
+unfolding word_at
+returns-in_err-here c = let e = drop-cons preamble c.loop-byte.byte-index 0 (omega arith) in grind (arith, err_from_is_err_and)
 
-pub loop-i-preserved : goal.loop-i-preserved
-loop-i-preserved c =
-    let is-there : has_byte c.args.text.now (get_or preamble c.loop-i.i 0) c.loop-i.at ≡ true = sym c.has_byte.ensures ∙ c.if-not-has_byte.false in
-    word_more c.loop-i.invariant (omega arith) is-there
+pub loop-byte-preserved : goal.loop-byte-preserved
+unfolding word_at
+loop-byte-preserved c = let e = drop-cons preamble c.loop-byte.byte-index 0 (omega arith) in rw add-one (grind arith)
 
 pub returns : goal.returns
-returns c = word_end c.loop-i.invariant (omega arith)
+unfolding word_at
+returns c = grind arith

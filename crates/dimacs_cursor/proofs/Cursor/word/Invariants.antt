@@ -1,10 +1,9 @@
--- `dimacs_cursor::Cursor::word` meets its contract: the loop keeps `AtWord`. Assumes nothing.
-use Prim.Native.Nat.{◌-◌}
-use Rattle.dimacs_cursor.proofs.Loops.{AtWord}
+-- `dimacs_cursor::Cursor::word` meets its contract. Assumes nothing.
+use lib.ListN.{drop}
+use mathlib.Core.Path.{◌≡◌}
+use Rattle.dimacs.specs.Text.{preamble}
+use Rattle.dimacs.specs.Tokens.{word_at}
 use Rattle.dimacs_cursor.proofs.Cursor.word.Given as goal
 
-abbrev pub invariant-loop-i : goal.invariant-loop-i
-invariant-loop-i l = AtWord l.text l.initial.at l.at l.i
-
-abbrev pub decreases-loop-i : goal.decreases-loop-i
-decreases-loop-i l = 6 - l.i
+abbrev pub invariant-loop-byte : goal.invariant-loop-byte
+invariant-loop-byte l = word_at l.text (drop l.byte-index preamble) l.here.at ≡ word_at l.text preamble l.initial.here.at

@@ -1,4 +1,0 @@
--- Laws of reading tokens.
-pub mod Tests
-pub mod Loops
-pub mod Answers
