@@ -4,13 +4,12 @@ use native.Mathlib.Omega.{arith}
 use lib.Dec.{eqb, leb}
 use mathlib.Core.Path.{◌≡◌, refl, ap}
 use mathlib.Core.Bool.{cond}
+use Rattle.std.specs.Prelude.{Result, Ok, Err}
 use Rattle.answers.specs.declared.Outcome.{Outcome}
 use Rattle.answers.proofs.OneToOne.{OneToOne, one_to_one, Between, number-eqb, number_under, number_over}
 use Rattle.rules.proofs.Outcomes.{record_numbers, record_refusals, rule_numbers, rule_refusals}
 use Rattle.decoder.specs.declared.DecodeRefusal.{DecodeRefusal}
 use Rattle.decoder.specs.declared.DecodeRefusal.TheVariants.{Record, ValuesLength, DrawingLength, Value, Rule}
-use Rattle.decoder.specs.declared.Decoded.{Decoded}
-use Rattle.decoder.specs.declared.Decoded.TheVariants.{Drawn, Refused}
 use Rattle.decoder.specs.Answer.{decode_refusal_outcome, decoded_outcome}
 
 -- the refusals are the reader's, 7 to 9, and the rules'
@@ -52,12 +51,12 @@ decode_refusals = record { from = from; back = back }
 pub decodings : OneToOne decoded_outcome
 decodings = record { from = from; back = back }
   where
-    from : Outcome → Decoded
-    from t = cond (eqb t.number 0) Drawn (Refused (decode_refusals.from t))
+    from : Outcome → Result Unit DecodeRefusal
+    from t = cond (eqb t.number 0) (Ok tt) (Err (decode_refusals.from t))
 
-    back : (d : Decoded) → from (decoded_outcome d) ≡ d
-    back Drawn = refl
-    back (Refused r) = rw (number-eqb decode_numbers r {n = 0} (omega arith)) (ap Refused (decode_refusals.back r))
+    back : (d : Result Unit DecodeRefusal) → from (decoded_outcome d) ≡ d
+    back (Ok tt) = refl
+    back (Err r) = rw (number-eqb decode_numbers r {n = 0} (omega arith)) (ap Err (decode_refusals.back r))
 
-pub decoded_outcome_one_to_one : (a b : Decoded) → decoded_outcome a ≡ decoded_outcome b → a ≡ b
+pub decoded_outcome_one_to_one : (a b : Result Unit DecodeRefusal) → decoded_outcome a ≡ decoded_outcome b → a ≡ b
 decoded_outcome_one_to_one = one_to_one decodings

@@ -1,32 +1,39 @@
-// What the answers tell, in document 01's numbers.
+// What the refusals tell, in document 01's numbers, and how one is part of another.
 ghost use Rattle.std.specs.Prelude.{◌≡◌};
-ghost use Rattle.decoder.specs.Answer.{decode_refusal_outcome, decoded_outcome};
+ghost use Rattle.decoder.specs.declared.DecodeRefusal.TheVariants.{Record, Rule};
+ghost use Rattle.decoder.specs.Answer.{decode_refusal_outcome};
 
-use super::{DecodeRefusal, Decoded};
-use answers::{Outcome, answered, refused};
+use super::DecodeRefusal;
+use answers::{Outcome, refused};
+use rules::{RecordRefusal, RuleRefusal};
 
-impl DecodeRefusal {
-    // Document 01's number, and the value beside it.
-    pub fn outcome(self) -> Outcome
-        ensures { result ≡ decode_refusal_outcome self }
-    {
-        match self {
-            DecodeRefusal::Record(r) => r.outcome(),
+// Document 01's number, and the value beside it.
+impl From<DecodeRefusal> for Outcome {
+    ghost from_gives = { λ r t. t ≡ decode_refusal_outcome r };
+
+    fn from(refusal: DecodeRefusal) -> Outcome {
+        match refusal {
+            DecodeRefusal::Record(r) => r.into(),
             DecodeRefusal::ValuesLength => refused(8, 0),
             DecodeRefusal::DrawingLength => refused(7, 0),
             DecodeRefusal::Value(n) => refused(9, n as u64),
-            DecodeRefusal::Rule(f) => f.outcome(),
+            DecodeRefusal::Rule(r) => r.into(),
         }
     }
 }
 
-impl Decoded {
-    pub fn outcome(self) -> Outcome
-        ensures { result ≡ decoded_outcome self }
-    {
-        match self {
-            Decoded::Drawn => answered(0, 0, 0),
-            Decoded::Refused(u) => u.outcome(),
-        }
+impl From<RecordRefusal> for DecodeRefusal {
+    ghost from_gives = { λ r d. d ≡ Record r };
+
+    fn from(refusal: RecordRefusal) -> DecodeRefusal {
+        DecodeRefusal::Record(refusal)
+    }
+}
+
+impl From<RuleRefusal> for DecodeRefusal {
+    ghost from_gives = { λ r d. d ≡ Rule r };
+
+    fn from(refusal: RuleRefusal) -> DecodeRefusal {
+        DecodeRefusal::Rule(refusal)
     }
 }

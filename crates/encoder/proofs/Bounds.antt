@@ -8,7 +8,7 @@ use lib.Seq.{get_or-append-add}
 use borrow.Author.Tests.{le-ltb}
 use mathlib.Core.Path.{◌≡◌, refl, ◌∙◌, ap}
 use mathlib.Core.Bool.{Bool, true, false, not}
-use mathlib.Core.Option.{Option, none, some}
+use Rattle.std.specs.Prelude.{Option, None, Some}
 use mathlib.Core.List.Memᴰ
 use mathlib.Core.List.{List, [], ◌∷◌, ◌++◌, map, append-nil}
 use Rattle.answers.specs.First.{first_where, found, or_else}
@@ -33,8 +33,8 @@ pub neighbours-most : (b : Board) (x : ℕ) (ds : List Direction) → length (ne
 neighbours-most b x ds = let h = length_each_most (λ d. if_there b d (b.next d x)) 1 ds (λ d m. one d (b.next d x)) in omega arith
   where
     one : (d : Direction) (o : Option ℕ) → length (if_there b d o) ≤ 1
-    one d none = omega arith
-    one d (some y) = by (b.is_open y)
+    one d None = omega arith
+    one d (Some y) = by (b.is_open y)
       where
         by : (t : Bool) → length (if_open t d y) ≤ 1
         by true = omega arith
@@ -137,11 +137,11 @@ list_not_beyond b law =
     all_each (NotBeyond (variable_count b)) (written b) (clauses b) (λ c m. written_not_beyond b c (all_at (Inside (variables b)) (clauses_within b law) m))
 
 -- search and writer never find the list wrong
-pub list_not_wrong : (b : Board) → Laws b → wrong_list (variable_count b) (clause_list b) ≡ none
+pub list_not_wrong : (b : Board) → Laws b → wrong_list (variable_count b) (clause_list b) ≡ None
 unfolding clause_list
 list_not_wrong b law =
     let v = variable_count b in
     let ls = clause_list b in
-    let within : first_where (beyond_at v ls) (length ls) ≡ none =
+    let within : first_where (beyond_at v ls) (length ls) ≡ None =
     none_first _ _ (λ i h. le-ltb _ _ (all_get (NotBeyond v) (pos 0) ls (list_not_beyond b law) i h)) in
-    (λ t. or_else (within t) (found (list_closed b (clauses b) t) (length ls) none))
+    (λ t. or_else (within t) (found (list_closed b (clauses b) t) (length ls) None))

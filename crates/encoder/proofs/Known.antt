@@ -4,7 +4,7 @@ use native.Mathlib.Omega.{arith}
 use lib.ListN.{length}
 use mathlib.Core.Path.{◌≡◌, refl, subst}
 use mathlib.Core.Bool.{true}
-use mathlib.Core.Option.{some}
+use Rattle.std.specs.Prelude.{Some}
 use mathlib.Core.Logic.{◌⊎◌, inl, inr}
 use mathlib.Core.List.Memᴰ
 use mathlib.Core.List.{List, ◌++◌}
@@ -19,7 +19,7 @@ use Rattle.encoder.proofs.Neighbours.{of_opens, in_opens, in_directions, Beside,
 abbrev pub Known : Board → Variable → Type 0
 Known b (Z x) = b.is_open x ≡ true
 Known b (S x) = b.is_open x ≡ true
-Known b (E x d) = (b.is_open x ≡ true) × ((y : ℕ) × (b.next d x ≡ some y) × (b.is_open y ≡ true))
+Known b (E x d) = (b.is_open x ≡ true) × ((y : ℕ) × (b.next d x ≡ Some y) × (b.is_open y ≡ true))
 Known b (Q x k) = (b.is_open x ≡ true) × (k < open_count b)
 Known b (T a j t) = (c : Clue) × (c ∈ b.clues) × (c.cell ≡ a) × (j ≤ length c.line) × (t ≤ c.number)
 

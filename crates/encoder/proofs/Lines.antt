@@ -9,7 +9,7 @@ use borrow.Author.Tests.{ltb-true, leb-true}
 use mathlib.Core.Path.{◌≡◌, refl, ◌∙◌, ap}
 use mathlib.Core.Bool.{true}
 use mathlib.Core.Logic.{◌⊎◌, inl, inr}
-use mathlib.Core.Option.{some}
+use Rattle.std.specs.Prelude.{Some}
 use Rattle.rules.specs.declared.Direction.{Direction}
 use Rattle.rules.specs.declared.Direction.TheVariants.{North as north, East as east, South as south, West as west}
 use Rattle.rules.specs.declared.Grid.{Grid}
@@ -43,7 +43,7 @@ module _ (g : Grid) where
       by (suc c) e (suc r) f = (omega arith, omega arith)
 
   -- each step leads nearer to it
-  nearer : (d : Direction) (x y : ℕ) → neighbour g d x ≡ some y → left d y < left d x
+  nearer : (d : Direction) (x y : ℕ) → neighbour g d x ≡ Some y → left d y < left d x
   unfolding left
   nearer d x y e = by d (has g d x y e).there (has g d x y e).is ((wired g).inside d x y e).1
     where

@@ -3,7 +3,7 @@ use Prim.Native.Nat.{ℕ}
 use native.Mathlib.Omega.{arith}
 use mathlib.Core.Path.{◌≡◌, refl, sym, ◌∙◌, ap, subst}
 use mathlib.Core.Bool.{Bool, true, false}
-use mathlib.Core.Option.{Option, none, some}
+use Rattle.std.specs.Prelude.{Option, None, Some}
 use mathlib.Core.List.Memᴰ
 use mathlib.Core.List.{List, [], ◌∷◌, map}
 use Rattle.answers.specs.Lists.{◌∈◌, ApartBy, Apart, up_to}
@@ -43,19 +43,19 @@ apart_directions = (
 
 -- y is an open neighbour of x
 pub record Beside (b : Board) (x : ℕ) (y : Neighbour) : Type 0 where
-  pub leads : b.next y.way x ≡ some y.cell
+  pub leads : b.next y.way x ≡ Some y.cell
   pub opened : b.is_open y.cell ≡ true
 
 of_one : (b : Board) (x : ℕ) (d : Direction) (y : Neighbour) (o : Option ℕ) → b.next d x ≡ o → y ∈ if_there b d o → (y.way ≡ d) × Beside b x y
-of_one b x d y none e m = absurd (Memᴰ.not-nil m)
-of_one b x d y (some z) e m = by (b.is_open z) refl m
+of_one b x d y None e m = absurd (Memᴰ.not-nil m)
+of_one b x d y (Some z) e m = by (b.is_open z) refl m
   where
     by : (t : Bool) → b.is_open z ≡ t → y ∈ if_open t d z → (y.way ≡ d) × Beside b x y
     by true h m =
         let q : y ≡ record { way = d; cell = z } = Memᴰ.eq_of_singleton m in
         let w : y.way ≡ d = ap (λ (k : Neighbour). k.way) q in
         let c : y.cell ≡ z = ap (λ (k : Neighbour). k.cell) q in
-        (w, record { leads = ap (λ k. b.next k x) w ∙ e ∙ ap some (sym c); opened = ap b.is_open c ∙ h })
+        (w, record { leads = ap (λ k. b.next k x) w ∙ e ∙ ap Some (sym c); opened = ap b.is_open c ∙ h })
     by false h m = absurd (Memᴰ.not-nil m)
 
 pub of_neighbours : (b : Board) (x : ℕ) (ds : List Direction) (y : Neighbour) → y ∈ neighbours b x ds → (y.way ∈ ds) × Beside b x y
@@ -74,8 +74,8 @@ links_apart b x f tell =
     (apart_each direction_number (λ d. map f (if_there b d (b.next d x))) directions apart_directions (λ d m. one d (b.next d x)) key)
   where
     one : (d : Direction) (o : Option ℕ) → Apart (map f (if_there b d o))
-    one d none = tt
-    one d (some y) = by (b.is_open y)
+    one d None = tt
+    one d (Some y) = by (b.is_open y)
       where
         by : (t : Bool) → Apart (map f (if_open t d y))
         by true = (λ v m. absurd (Memᴰ.not-nil m), tt)

@@ -4,7 +4,7 @@ use native.Mathlib.Omega.{arith}
 use lib.ListN.{length, length-append, length-map}
 use mathlib.Core.Path.{◌≡◌, refl, sym, ◌∙◌, ap, subst}
 use mathlib.Core.Bool.{Bool, true}
-use mathlib.Core.Option.{some}
+use Rattle.std.specs.Prelude.{Some}
 use mathlib.Core.List.Memᴰ
 use mathlib.Core.List.{List, [], ◌∷◌, ◌++◌, map, map-append, append_assoc, append-nil}
 use Rattle.answers.specs.Lists.{Apart, from, up_to, each, joined, keep_step, keep}
@@ -140,7 +140,7 @@ module _ (b : Board) where
         place_is (joined (letters b)) (S x) (blacks b ++ us) (variables_apart b law) (at_right (blacks b) (at_left _ (at_map (λ x. S x) (at_opens x h))))
         ∙ after_z us ∙ ap (λ n. open_count b + n) (length-map (lower b x) (λ x. S x))
 
-    pub place_e : (x : ℕ) (d : Direction) (y : ℕ) → b.is_open x ≡ true → b.next d x ≡ some y → b.is_open y ≡ true
+    pub place_e : (x : ℕ) (d : Direction) (y : ℕ) → b.is_open x ≡ true → b.next d x ≡ Some y → b.is_open y ≡ true
         → place (E x d) (variables b) ≡ open_count b + open_count b + (links_below b x + length (neighbours b x (earlier d)))
     unfolding variables
     place_e x d y h e o =

@@ -1,6 +1,5 @@
 -- "Decoding" of document 01: the drawing that values give, and the decoder's call.
-use Rattle.std.specs.Prelude.{ℕ, suc, ◌+◌, ◌*◌, ◌<◌, eqb, ltb, length, get_or, ◌≡◌, Bool, true, false, not, ◌||◌, List, ◌∷◌, ◌++◌, map}
-use Rattle.std.proofs.Math.Option.{Option, none, some}
+use Rattle.std.specs.Prelude.{ℕ, suc, ◌+◌, ◌*◌, ◌<◌, eqb, ltb, length, get_or, ◌≡◌, Bool, true, false, not, ◌||◌, List, ◌∷◌, ◌++◌, map, Option, None, Some}
 use Rattle.answers.specs.declared.Outcome.{Outcome}
 use Rattle.answers.specs.First.{first_where, LeastWith}
 use Rattle.answers.specs.Outcome.{Row, row, cause, first_refusal}
@@ -46,8 +45,8 @@ wrong_values b values = cause (not (eqb (length values) (variable_count b)))
 
 -- variables are numbered from 1
 abbrev pub numbered : Option ℕ → Option ℕ
-numbered none = none
-numbered (some i) = some (suc i)
+numbered None = None
+numbered (Some i) = Some (suc i)
 
 -- 9: value not 0 or 1
 abbrev pub wrong_value : List ℕ → Option ℕ

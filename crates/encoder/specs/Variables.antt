@@ -1,8 +1,7 @@
 -- "Variables" of document 01: which there are, in their order, and their numbers.
-use Rattle.std.specs.Prelude.{ℕ, zero, suc, length, ◌≡◌, refl, Bool, true, false, cond, List, [], ◌∷◌, map}
+use Rattle.std.specs.Prelude.{ℕ, zero, suc, length, ◌≡◌, refl, Bool, true, false, cond, List, [], ◌∷◌, map, Option, None, Some}
 use Rattle.std.proofs.Math.Decide.{ℕ_discrete}
 use Rattle.std.proofs.Common.{sym, ◌∙◌, ap}
-use Rattle.std.proofs.Math.Option.{Option, none, some}
 use Rattle.rules.specs.declared.Direction.{Direction}
 use Rattle.rules.specs.declared.Direction.TheVariants.{North as north, East as east, South as south, West as west}
 use Rattle.rules.specs.Board.{Clue, Board}
@@ -59,8 +58,8 @@ if_open true d y = record { way = d; cell = y } ∷ []
 if_open false d y = []
 
 abbrev pub if_there : Board → Direction → Option ℕ → List Neighbour
-if_there b d none = []
-if_there b d (some y) = if_open (b.is_open y) d y
+if_there b d None = []
+if_there b d (Some y) = if_open (b.is_open y) d y
 
 -- the open neighbours of x in these directions
 abbrev pub neighbours : Board → ℕ → List Direction → List Neighbour

@@ -4,13 +4,13 @@ use native.Mathlib.Omega.{arith}
 use lib.Dec.{eqb, leb}
 use mathlib.Core.Path.{◌≡◌, refl, ap}
 use mathlib.Core.Bool.{cond}
+use Rattle.std.specs.Prelude.{Result, Ok, Err}
 use Rattle.answers.specs.declared.Outcome.{Outcome}
 use Rattle.answers.proofs.OneToOne.{OneToOne, one_to_one, Between, number-eqb, number_under}
 use Rattle.rules.proofs.Outcomes.{record_numbers, record_refusals}
+use Rattle.encoder_size.specs.declared.Counts.{Counts}
 use Rattle.encoder_call.specs.declared.EncodeRefusal.{EncodeRefusal}
 use Rattle.encoder_call.specs.declared.EncodeRefusal.TheVariants.{Record, TooShort}
-use Rattle.encoder_call.specs.declared.Encoded.{Encoded}
-use Rattle.encoder_call.specs.declared.Encoded.TheVariants.{Written, Refused}
 use Rattle.encoder_call.specs.Answer.{encode_refusal_outcome, encoded_outcome}
 
 -- the refusals are the reader's, and 6
@@ -34,12 +34,12 @@ encode_refusals = record { from = from; back = back }
 pub encodings : OneToOne encoded_outcome
 encodings = record { from = from; back = back }
   where
-    from : Outcome → Encoded
-    from t = cond (eqb t.number 0) (Written (record { elements = t.first; variables = t.second; clauses = t.third })) (Refused (encode_refusals.from t))
+    from : Outcome → Result Counts EncodeRefusal
+    from t = cond (eqb t.number 0) (Ok (record { elements = t.first; variables = t.second; clauses = t.third })) (Err (encode_refusals.from t))
 
-    back : (e : Encoded) → from (encoded_outcome e) ≡ e
-    back (Written c) = refl
-    back (Refused r) = rw (number-eqb encode_numbers r {n = 0} (omega arith)) (ap Refused (encode_refusals.back r))
+    back : (e : Result Counts EncodeRefusal) → from (encoded_outcome e) ≡ e
+    back (Ok c) = refl
+    back (Err r) = rw (number-eqb encode_numbers r {n = 0} (omega arith)) (ap Err (encode_refusals.back r))
 
-pub encoded_outcome_one_to_one : (a b : Encoded) → encoded_outcome a ≡ encoded_outcome b → a ≡ b
+pub encoded_outcome_one_to_one : (a b : Result Counts EncodeRefusal) → encoded_outcome a ≡ encoded_outcome b → a ≡ b
 encoded_outcome_one_to_one = one_to_one encodings

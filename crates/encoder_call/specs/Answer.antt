@@ -1,5 +1,5 @@
 -- What the encoder's answer tells, and what the functions ask that write a grid's clauses.
-use Rattle.std.specs.Prelude.{ℕ, List}
+use Rattle.std.specs.Prelude.{ℕ, List, Result, Ok, Err}
 use Rattle.answers.specs.declared.Outcome.{Outcome}
 use Rattle.answers.specs.Outcome.{refusal, answer}
 use Rattle.rules.specs.declared.Grid.{Grid}
@@ -9,8 +9,6 @@ use Rattle.encoder.specs.Bounds.{BoundedBoard}
 use Rattle.encoder_size.specs.declared.Counts.{Counts}
 use Rattle.encoder_call.specs.declared.EncodeRefusal.{EncodeRefusal}
 use Rattle.encoder_call.specs.declared.EncodeRefusal.TheVariants.{Record, TooShort}
-use Rattle.encoder_call.specs.declared.Encoded.{Encoded}
-use Rattle.encoder_call.specs.declared.Encoded.TheVariants.{Written, Refused}
 
 abbrev pub encode_refusal_outcome : EncodeRefusal → Outcome
 encode_refusal_outcome (Record r) = record_refusal_outcome r
@@ -20,9 +18,9 @@ encode_refusal_outcome (TooShort n) = refusal 6 n
 abbrev pub counts_outcome : Counts → Outcome
 counts_outcome c = answer c.elements c.variables c.clauses
 
-abbrev pub encoded_outcome : Encoded → Outcome
-encoded_outcome (Written c) = counts_outcome c
-encoded_outcome (Refused u) = encode_refusal_outcome u
+abbrev pub encoded_outcome : Result Counts EncodeRefusal → Outcome
+encoded_outcome (Ok c) = counts_outcome c
+encoded_outcome (Err u) = encode_refusal_outcome u
 
 -- what the functions ask that write a grid's clauses: its record, and that nothing is too large (the reader sees to both)
 pub record Encodable (g : Grid) (s : List ℕ) : Type 0 where

@@ -5,7 +5,7 @@ use native.Mathlib.Numerals.{add-one}
 use lib.IntN.{ℤ, pos, neg_ℤ}
 use mathlib.Core.Path.{◌≡◌, refl, sym, ◌∙◌, ap}
 use mathlib.Core.Bool.{Bool, true, false}
-use mathlib.Core.Option.{Option, none, some}
+use Rattle.std.specs.Prelude.{Option, None, Some}
 use mathlib.Core.List.{List, [], ◌∷◌, ◌++◌, map, append_assoc, append-nil}
 use Rattle.rules.specs.declared.Direction.{Direction}
 use Rattle.rules.specs.declared.Direction.TheVariants.{North as north, East as east, South as south, West as west}
@@ -59,8 +59,8 @@ module _ (b : Board) (x : ℕ) where
   side_one F G n h d = by (b.next d x) refl
     where
       by : (o : Option ℕ) → b.next d x ≡ o → each (if_there b d o) F ≡ G (neighbour_numbers_if b x (if_there b d o))
-      by none e = sym n
-      by (some y) e = opened (b.is_open y) refl
+      by None e = sym n
+      by (Some y) e = opened (b.is_open y) refl
         where
           opened : (t : Bool) → b.is_open y ≡ t → each (if_open t d y) F ≡ G (neighbour_numbers_if b x (if_open t d y))
           opened true o = append-nil (F (record { way = d; cell = y })) ∙ sym (h (record { way = d; cell = y }) (record { leads = e; opened = o }))
@@ -119,8 +119,8 @@ module _ (b : Board) (x : ℕ) where
         by : (o : Option ℕ) → list_of b (pairs (map f ns)) ≡ pairs_of ds
             → list_of b (pairs (map f (if_there b d o ++ ns)))
             ≡ each ds (λ e. not_both_if_present (g (neighbour_numbers_if b x (if_there b d o))) (g (neighbour_numbers_of b x e))) ++ pairs_of ds
-        by none go = (λ t. nothing ds t ++ go t)
-        by (some y) go = opened (b.is_open y)
+        by None go = (λ t. nothing ds t ++ go t)
+        by (Some y) go = opened (b.is_open y)
           where
             opened : (t : Bool)
                 → list_of b (pairs (map f (if_open t d y ++ ns)))

@@ -1,3 +1,2 @@
--- Laws of the clauses of a cell. Present: of variables that may not be there. Cells: by numbers they are the clauses of document 01.
-pub mod Present
+-- The clauses of a cell by numbers are those of document 01.
 pub mod Cells

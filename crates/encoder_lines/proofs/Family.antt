@@ -25,6 +25,7 @@ use Rattle.encoder_numbers.proofs.Numbers.{line_few}
 use Rattle.encoder_numbers.specs.Tables.{first_count}
 use Rattle.encoder_numbers.specs.Numbered.{black_of}
 use Rattle.encoder_numbers.proofs.Neighbours.{fits_laws}
+use Rattle.encoder_shapes.proofs.Turns.{shapes}
 use Rattle.encoder_lines.specs.Line.{blacks_of, clue_numbers, clue_at}
 use Rattle.encoder_lines.proofs.Numbers.{clue_list}
 
@@ -36,25 +37,26 @@ module _ (g : Grid) (s : List ℕ) (d : Direction) (x n : ℕ) {cells : ℕ} (e 
   pub last_few : RecordFits g s → x < size g → n < 256 → cells * (n + 1) ≤ most_cells * 256
   last_few h l k = mul-le-mul {n₂ = most_cells} {m₂ = 256} (omega (arith, line_few h l d)) (omega arith)
 
-module _ {g : Grid} {s : List ℕ} (h : RecordFits g s) (x : ℕ) (l : x < size g) {c : Cell} (e : c ≡ get_or (puzzle g s).cells x Open) where
-  -- no clue, or a clue
-  pub clue_none : clue_of (puzzle g s) x c ≡ [] → [] ≡ list_of (grid_board g s) (clue_at (puzzle g s) x)
-  clue_none q =
-      let F = clue_clauses (grid_board g s).is_open in
-      ap (λ cs. list_of (grid_board g s) (each cs F)) (sym q) ∙ ap (λ c. list_of (grid_board g s) (each (clue_of (puzzle g s) x c) F)) e
+-- no clue, or a clue
+pub clue_none : (g : Grid) (s : List ℕ) (x : ℕ) {c : Cell} → c ≡ get_or (puzzle g s).cells x Open → clue_of (puzzle g s) x c ≡ []
+    → [] ≡ list_of (grid_board g s) (clue_at (puzzle g s) x)
+clue_none g s x e q =
+    let b = grid_board g s in
+    let F = clue_clauses b.is_open in
+    ap (λ cs. list_of b (each cs F)) (sym q) ∙ ap (λ c. list_of b (each (clue_of (puzzle g s) x c) F)) e
 
-  pub clue_some : {d : Direction} {n first : ℕ} → c ≡ Clued d n → first ≡ first_count g s x
-      → list_of (grid_board g s) (clue_at (puzzle g s) x) ≡ joined (clue_numbers first n (blacks_of g s d x))
-  clue_some {d} {n} {first} q f =
-      let b = grid_board g s in
-      let p = puzzle g s in
-      let w = puzzle-filled g s in
-      let k = clue_in p x d n in
-      let m = at_clue p x (omega arith) (sym e ∙ q) in
-      let r = place_t b (fits_laws h) k (clues_from p 0 (take x p.cells)) 0 0 m (omega arith) (omega arith) in
-      let z : number b (T x 0 0) ≡ first = omega arith in
-      ap (λ c. list_of b (each (clue_of p x c) (clue_clauses b.is_open))) (sym e ∙ q) ∙ ap (list_of b) (append-nil (clue_clauses b.is_open k))
-      ∙ clue_list b (fits_laws h) k (clues_from p 0 (take x p.cells)) m ∙ ap (λ r. joined (clue_numbers r n (map (black_of b) (line p d x)))) z
+pub clue_some : {g : Grid} {s : List ℕ} (x : ℕ) {d : Direction} {n : ℕ} → RecordFits g s → x < size g → Clued d n ≡ get_or (puzzle g s).cells x Open
+    → list_of (grid_board g s) (clue_at (puzzle g s) x) ≡ joined (clue_numbers (first_count g s x) n (blacks_of g s d x))
+clue_some {g} {s} x {d} {n} h l e =
+    let b = grid_board g s in
+    let p = puzzle g s in
+    let w = puzzle-filled g s in
+    let k = clue_in p x d n in
+    let m = at_clue p x (omega arith) (sym e) in
+    let r = place_t b (fits_laws h) k (clues_from p 0 (take x p.cells)) 0 0 m (omega arith) (omega arith) in
+    let z : number b (T x 0 0) ≡ first_count g s x = omega arith in
+    ap (λ c. list_of b (each (clue_of p x c) (clue_clauses b.is_open))) (sym e) ∙ ap (list_of b) (append-nil (clue_clauses b.is_open k))
+    ∙ clue_list b (fits_laws h) k (clues_from p 0 (take x p.cells)) m ∙ ap (λ r. joined (clue_numbers r n (map (black_of b) (line p d x)))) z
 
 module _ {g : Grid} {s : List ℕ} (h : RecordFits g s) where
   -- the family, cell by cell
@@ -77,9 +79,7 @@ module _ {g : Grid} {s : List ℕ} (h : RecordFits g s) where
       ap (λ cs. each (clues_from p 0 cs) (clue_clauses (grid_board g s).is_open)) (sym (take_all (size g) p.cells (omega arith)))
       ∙ so_far (size g) (omega arith)
 
-  pub lines-each : {n : ℕ} → n ≡ size g
-      → list_of (grid_board g s) (clue_lines (grid_board g s)) ≡ each (up_to n) (λ x. list_of (grid_board g s) (clue_at (puzzle g s) x))
-  lines-each {n} q =
-      let b = grid_board g s in
-      let p = puzzle g s in
-      ap (list_of b) lines_cells ∙ list_each b (clue_at p) (up_to (size g)) ∙ ap (λ n. each (up_to n) (λ x. list_of b (clue_at p x))) (sym q)
+  pub lines-each : list_of (grid_board g s) (clue_lines (grid_board g s)) ≡ each (up_to (size g)) (λ x. list_of (grid_board g s) (clue_at (puzzle g s) x))
+  lines-each = let b = grid_board g s in ap (list_of b) lines_cells ∙ list_each b (clue_at (puzzle g s)) (up_to (size g))
+
+pub ruleset clues = (shapes, clue_some, lines-each)

@@ -1,6 +1,5 @@
--- Laws of the clauses of clue lines. Rows: past a cell, open or not. LineLoop: writing along a line, from its far end to the clue.
+-- Laws of the clauses of clue lines. LineLoop: putting along a line, from its far end to the clue.
 -- Numbers: by numbers they are the clauses of document 01. Family: the clues of a grid, cell by cell.
-pub mod Rows
 pub mod LineLoop
 pub mod Numbers
 pub mod Family

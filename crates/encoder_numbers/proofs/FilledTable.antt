@@ -6,7 +6,7 @@ use lib.Seq.{get_or-append-add}
 use mathlib.Core.Path.{◌≡◌, refl, sym, ◌∙◌, ap}
 use mathlib.Core.List.{List, ◌++◌}
 use Rattle.answers.specs.Lent.{filled, Wrote}
-use Rattle.answers.proofs.Lent.{wrote_nothing, wrote_after, wrote_recast, wrote_length, wrote_filled}
+use Rattle.answers.proofs.Lent.{wrote_after, wrote_recast, wrote_length, wrote_filled}
 use Rattle.rules.specs.declared.Grid.{Grid}
 use Rattle.rules.specs.Record.{size, RecordFits}
 use Rattle.answers.specs.Lists.{from, up_to, each}
@@ -41,45 +41,23 @@ module _ (g : Grid) (s : List ℕ) where
       ∙ ap (λ y. get_or (row_of (sizes_below g s y)) k 0) e
 
   -- at the head of the loop: the rows of the cells before x stand in the table, and their sizes are counted
-  pub record Filling (n : ℕ) (table₀ table : List ℕ) (below : Sizes) (at x : ℕ) : Type 0 where
-    pub within : x ≤ size g
-    pub whole : n ≡ size g
-    pub room : 3 * size g ≤ length table₀
+  pub record Filling (table₀ table : List ℕ) (below : Sizes) (at x : ℕ) : Type 0 where
     pub is : below ≡ sizes_below g s x
     pub wrote : Wrote table₀ 0 (rows x) table at
 
 module _ {g : Grid} {s : List ℕ} where
-  pub fill_start : {n : ℕ} {table : List ℕ} {z : Sizes} → n ≡ size g → 3 * size g ≤ length table → z ≡ record { opens = 0; links = 0; counts = 0 }
-      → Filling g s n table table z 0 0
-  fill_start {table = table} e h q = record { within = omega arith; whole = e; room = h; is = q; wrote = wrote_nothing table 0 }
+  module _ {table₀ table : List ℕ} {below : Sizes} {at x : ℕ} (p : Filling g s table₀ table below at x) where
+    pub fill_room : x < size g → 3 * size g ≤ length table₀ → at + 3 ≤ length table
+    fill_room h r = let q = p.wrote.place in omega (arith, wrote_length p.wrote, rows_long g s x)
 
-  module _ {n : ℕ} {table₀ table : List ℕ} {below : Sizes} {at x : ℕ} (p : Filling g s n table₀ table below at x) where
-    pub fill_long : length table ≡ length table₀
-    fill_long = wrote_length p.wrote
+    pub fill_on : {new : List ℕ} {next : Sizes} {r : ℕ} → Wrote table at (row_of below) new r → next ≡ sizes_below g s (x + 1)
+        → Filling g s table₀ new next r (x + 1)
+    fill_on w e =
+        record { is = e; wrote = wrote_recast (sym (rows_next g s x)) (wrote_after p.wrote (wrote_recast (ap row_of p.is) w)) }
 
-    pub fill_room : x < n → at + 3 ≤ length table
-    fill_room h = let r = p.room in let w = p.whole in let q = p.wrote.place in omega (arith, fill_long, rows_long g s x)
-
-    pub fill_on : {new : List ℕ} {next : Sizes} {r : ℕ} → x < n → Wrote table at (row_of below) new r → next ≡ sizes_below g s (x + 1)
-        → Filling g s n table₀ new next r (x + 1)
-    fill_on h w e =
-        let q = p.whole in
-        record {
-          within = omega arith;
-          whole = q;
-          room = p.room;
-          is = e;
-          wrote = wrote_recast (sym (rows_next g s x)) (wrote_after p.wrote (wrote_recast (ap row_of p.is) w));
-        }
-
-    pub fill_end : n ≤ x → (below ≡ sizes_of g s) × (table ≡ filled table₀ (table_of g s))
-    fill_end h =
-        let w = p.within in
-        let k = p.whole in
-        let r = p.room in
-        let e : x ≡ size g = omega arith in
-        let l : length (rows g s x) ≤ length table₀ = omega (arith, rows_long g s x) in
-        (p.is ∙ ap (sizes_below g s) e, wrote_filled p.wrote l ∙ ap (λ n. filled table₀ (rows g s n)) e)
+    pub fill_end : x ≡ size g → 3 * size g ≤ length table₀ → table ≡ filled table₀ (table_of g s)
+    fill_end e r =
+        let l : length (rows g s x) ≤ length table₀ = omega (arith, rows_long g s x) in wrote_filled p.wrote l ∙ ap (λ n. filled table₀ (rows g s n)) e
 
   -- what the table holds
   pub tables_filled : RecordFits g s → (buf : List ℕ) → 3 * size g ≤ length buf → {sizes : Sizes} {table : List ℕ} → sizes ≡ sizes_of g s

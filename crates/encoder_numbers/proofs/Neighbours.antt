@@ -1,11 +1,11 @@
 -- The numbers of a cell's variables by the table, and the neighbour in a direction, the same for all four. Assumes nothing.
-use Prim.Native.Nat.{ℕ, ◌+◌, ◌*◌, ◌≤◌, ◌<◌}
+use Prim.Native.Nat.{ℕ, ◌+◌, ◌*◌, ◌≤◌, ◌<◌, ◌^◌}
 use native.Mathlib.Omega.{arith}
 use native.Mathlib.Nat.{mul-le-mul}
 use lib.ListN.{length}
 use mathlib.Core.Path.{◌≡◌, sym, ◌∙◌, ap}
-use mathlib.Core.Bool.{true, false, cond}
-use mathlib.Core.Option.{none, some}
+use mathlib.Core.Bool.{cond}
+use Rattle.std.specs.Prelude.{Some}
 use mathlib.Core.List.Memᴰ
 use mathlib.Core.List.{List}
 use Rattle.answers.specs.Lists.{◌∈◌}
@@ -13,7 +13,7 @@ use Rattle.rules.specs.declared.Direction.{Direction}
 use Rattle.rules.specs.declared.Grid.{Grid}
 use Rattle.rules.specs.Directions.{opposite}
 use Rattle.rules.specs.Record.{size, puzzle, most_cells, RecordFits}
-use Rattle.rules.specs.Board.{Board, grid_board}
+use Rattle.rules.specs.Board.{grid_board}
 use Rattle.rules.proofs.Boards.{Laws, laws}
 use Rattle.rules.proofs.Records.{puzzle-filled}
 use Rattle.encoder.specs.Variables.{Z, S, E, Q, neighbours, open_count, number, rank, earlier}
@@ -23,8 +23,8 @@ use Rattle.encoder_numbers.specs.declared.Sizes.{Sizes}
 use Rattle.encoder_numbers.specs.declared.NeighbourNumbers.{NeighbourNumbers}
 use Rattle.encoder_numbers.specs.declared.CellNumbers.{CellNumbers}
 use Rattle.encoder_numbers.specs.Tables.{sizes_below, open_neighbour, Tables, OpenCell, OpenPair}
-use Rattle.encoder_numbers.specs.Numbered.{black_of, no_neighbour, neighbour_numbers_if, neighbour_numbers_to, neighbour_numbers_of, cell_numbers_of}
-use Rattle.encoder_numbers.proofs.Numbers.{Few, sizes_few, there_none, there_some}
+use Rattle.encoder_numbers.specs.Numbered.{black_of, cell_numbers_of}
+use Rattle.encoder_numbers.proofs.Numbers.{Few, sizes_few, square_few, earlier_few, there_some}
 
 pub fits_laws : {g : Grid} {s : List ℕ} → RecordFits g s → Laws (grid_board g s)
 fits_laws {g} {s} h = laws (puzzle g s) (puzzle-filled g s)
@@ -39,7 +39,7 @@ some_open {g} {s} h o = some_member (in_opens (grid_board g s) (fits_laws h) o.o
 
 -- an open neighbour, and the same link seen from there
 module _ {g : Grid} {s : List ℕ} (h : RecordFits g s) {x : ℕ} {d : Direction} {y : ℕ} where
-  pub open_pair : OpenCell g s x → some y ≡ open_neighbour (grid_board g s) d x → OpenPair g s x d y
+  pub open_pair : OpenCell g s x → Some y ≡ open_neighbour (grid_board g s) d x → OpenPair g s x d y
   open_pair o e =
       let r = there_some (grid_board g s) x d e in
       record { here = o; leads = r.0; there = record { inside = ((fits_laws h).wired.inside d x y r.0).1; opened = r.1 } }
@@ -52,11 +52,26 @@ module _ {g : Grid} {s table : List ℕ} {sizes : Sizes} (t : Tables g s sizes t
   pub few : Few sizes
   few = sizes_few t.record_fits (size g) (omega arith) t.sized
 
-  pub few_below : {x : ℕ} {z : Sizes} → x < size g → z ≡ sizes_below g s x → Few z
-  few_below {x} l e = sizes_few t.record_fits x (omega arith) e
+  module _ {x : ℕ} (l : x < size g) {z : Sizes} (e : z ≡ sizes_below g s x) where
+    few_below : Few z
+    few_below = sizes_few t.record_fits x (omega arith) e
 
-  pub product_few : {x : ℕ} {z : Sizes} → x < size g → z ≡ sizes_below g s x → z.opens * sizes.opens ≤ most_cells * most_cells
-  product_few l e = mul-le-mul (few_below l e).opens few.opens
+    pub product_few : z.opens * sizes.opens ≤ most_cells * most_cells
+    product_few = mul-le-mul few_below.opens few.opens
+
+    -- no number overflows
+    pub cell_small : sizes.opens + z.opens + 1 < 2 ^ 64
+    cell_small = let f = few in let b = few_below in omega arith
+
+    pub link_small : (d : Direction) {n : ℕ} → n ≡ length (neighbours (grid_board g s) x (earlier d))
+        → sizes.opens + sizes.opens + z.links + n + 1 < 2 ^ 64
+    link_small d q = let f = few in let b = few_below in omega (arith, earlier_few (grid_board g s) x d)
+
+    pub distance_small : sizes.opens + sizes.opens + sizes.links + z.opens * sizes.opens + 1 < 2 ^ 64
+    distance_small = let f = few in omega (arith, product_few)
+
+    pub count_small : sizes.opens + sizes.opens + sizes.links + sizes.opens * sizes.opens + z.counts + 1 < 2 ^ 64
+    count_small = let f = few in let b = few_below in omega (arith, square_few t.record_fits t.sized)
 
   -- Z, S, Q and E of an open cell
   module _ {x : ℕ} (o : OpenCell g s x) {z : Sizes} (e : z ≡ sizes_below g s x) where
@@ -104,21 +119,3 @@ module _ {g : Grid} {s table : List ℕ} {sizes : Sizes} (t : Tables g s sizes t
       (cell_numbers_of (grid_board g s) x)
   cell_is o e q hn he hs hw =
       (λ i. record { rank = (e i).opens; black = number_z o e i; start = number_s o e i; distance = q i; north = hn i; east = he i; south = hs i; west = hw i })
-
-pub black_clue : (b : Board) (x : ℕ) → b.is_open x ≡ false → 0 ≡ black_of b x
-black_clue b x h = sym (ap (λ t. cond t (number b (Z x)) 0) h)
-
--- the neighbour in a direction: none, or an open one
-pub no_neighbour_is : (b : Board) (x : ℕ) (d : Direction) → none ≡ open_neighbour b d x → no_neighbour ≡ neighbour_numbers_of b x d
-no_neighbour_is b x d e = sym (ap (neighbour_numbers_if b x) (there_none b x d e))
-
-pub neighbour_is : (b : Board) (x : ℕ) (d : Direction) {y : ℕ} {n : NeighbourNumbers} → some y ≡ open_neighbour b d x
-    → n ≡ neighbour_numbers_to b x (record { way = d; cell = y }) → n ≡ neighbour_numbers_of b x d
-neighbour_is b x d e h = let r = there_some b x d e in h ∙ sym (rw (r.0, r.1))
-
--- a pair's numbers
-pub pair_is : (b : Board) (x : ℕ) (d : Direction) (y : ℕ) {i j k n : ℕ} {c : Direction} → b.is_open y ≡ true → c ≡ opposite d
-    → i ≡ number b (E x d) → j ≡ number b (E y c) → k ≡ black_of b y → n ≡ number b (Q y 0)
-    → ◌≡◌ {A = NeighbourNumbers} (record { out = i; back = j; black = k; distance = n }) (neighbour_numbers_to b x (record { way = d; cell = y }))
-pair_is b x d y o q ei ej ek en =
-    (λ t. record { out = ei t; back = (ej ∙ ap (λ c. number b (E y c)) q) t; black = (ek ∙ ap (λ t. cond t (number b (Z y)) 0) o) t; distance = en t })

@@ -7,8 +7,10 @@ use lib.ListN.{length, get_or, take, length-append, length-map}
 use lib.Seq.{take_all}
 use mathlib.Core.Path.{◌≡◌, refl, sym, ◌∙◌, ap}
 use mathlib.Core.Bool.{Bool, true, false, cond}
-use mathlib.Core.Option.{Option, none, some, some-injective, some-ne-none}
-use mathlib.Core.List.{List, [], ◌∷◌, ◌++◌, append-nil}
+use Rattle.std.specs.Prelude.{Option, None, Some}
+use Rattle.std.proofs.lemmas.Option.{same_Some}
+use Rattle.answers.proofs.Options.{some-none}
+use mathlib.Core.List.{List, [], ◌++◌, append-nil}
 use Rattle.rules.specs.declared.Direction.{Direction}
 use Rattle.rules.specs.declared.Direction.TheVariants.{North as north, East as east, South as south, West as west}
 use Rattle.rules.specs.declared.Cell.{Cell}
@@ -19,8 +21,8 @@ use Rattle.rules.specs.Directions.{bit}
 use Rattle.rules.specs.Board.{Board, open_cell, line, clue_in, clue_of, clues_from, grid_board}
 use Rattle.rules.proofs.Records.{number_of, puzzle-filled, number_small}
 use Rattle.answers.specs.Lists.{up_to, each}
-use Rattle.encoder.specs.Variables.{directions, open_count, if_open, if_there, neighbours, out, outgoing, link_variables, clue_counts, counts, variable_count, lower}
-use Rattle.encoder.specs.Variables.{rank, links_below, earlier, at_cell}
+use Rattle.encoder.specs.Variables.{directions, open_count, if_there, neighbours, out, outgoing, link_variables, clue_counts, counts, variable_count, lower}
+use Rattle.encoder.specs.Variables.{rank, links_below, earlier}
 use Rattle.answers.proofs.Elements.{each_append, length_from, length_each_most, keep-most, map-most}
 use Rattle.encoder.proofs.Places.{clue_long, total}
 use Rattle.encoder.proofs.Clues.{clues_next}
@@ -33,55 +35,24 @@ use Rattle.encoder_numbers.specs.Tables.{cell_counts, counts_below, sizes_at, si
 
 -- 1. Open cells and links
 
--- the neighbour in a direction, open or not
-module _ (b : Board) {o : Option ℕ} {y : ℕ} (e : some y ≡ o) where
-  pub neighbour_open : b.is_open y ≡ true → some y ≡ if_open_cell b o
-  neighbour_open h = sym (ap (λ t. cond t (some y) none) h) ∙ ap (if_open_cell b) e
-
-  pub neighbour_shut : b.is_open y ≡ false → none ≡ if_open_cell b o
-  neighbour_shut h = sym (ap (λ t. cond t (some y) none) h) ∙ ap (if_open_cell b) e
-
 module _ (b : Board) (x : ℕ) where
-  -- in one direction: there is an open one or not
-  pub there_none : (d : Direction) → none ≡ open_neighbour b d x → if_there b d (b.next d x) ≡ []
-  there_none d e = by (b.next d x) e
-    where
-      by : (o : Option ℕ) → none ≡ if_open_cell b o → if_there b d o ≡ []
-      by none e = refl
-      by (some y) e = at (b.is_open y) e
-        where
-          at : (t : Bool) → none ≡ cond t (some y) none → if_open t d y ≡ []
-          at true e = absurd (some-ne-none y (sym e))
-          at false e = refl
-
-  pub there_some : (d : Direction) {y : ℕ} → some y ≡ open_neighbour b d x → (b.next d x ≡ some y) × (b.is_open y ≡ true)
+  -- the open neighbour in one direction
+  pub there_some : (d : Direction) {y : ℕ} → Some y ≡ open_neighbour b d x → (b.next d x ≡ Some y) × (b.is_open y ≡ true)
   there_some d {y} e = by (b.next d x) refl e
     where
-      by : (o : Option ℕ) → b.next d x ≡ o → some y ≡ if_open_cell b o → (b.next d x ≡ some y) × (b.is_open y ≡ true)
-      by none q e = absurd (some-ne-none y e)
-      by (some z) q e = at (b.is_open z) refl e
+      by : (o : Option ℕ) → b.next d x ≡ o → Some y ≡ if_open_cell b o → (b.next d x ≡ Some y) × (b.is_open y ≡ true)
+      by None q e = absurd (some-none y e)
+      by (Some z) q e = at (b.is_open z) refl e
         where
-          at : (t : Bool) → b.is_open z ≡ t → some y ≡ cond t (some z) none → (b.next d x ≡ some y) × (b.is_open y ≡ true)
-          at true k e = let r = some-injective y z e in (q ∙ sym e, ap b.is_open r ∙ k)
-          at false k e = absurd (some-ne-none y e)
-
-  pub none_there : (d : Direction) → none ≡ open_neighbour b d x → 0 ≡ length (neighbours b x (d ∷ []))
-  none_there d e = sym (ap (λ l. length (l ++ [])) (there_none d e))
-
-  pub one_there : (d : Direction) {y : ℕ} → some y ≡ open_neighbour b d x → 1 ≡ length (neighbours b x (d ∷ []))
-  one_there d e = let r = there_some d e in sym (rw (r.0, r.1))
-
-  pub one_few : (d : Direction) {n : ℕ} → n ≡ length (neighbours b x (d ∷ [])) → n ≤ 1
-  one_few d e = omega (arith, neighbours-most b x (d ∷ []))
+          at : (t : Bool) → b.is_open z ≡ t → Some y ≡ cond t (Some z) None → (b.next d x ≡ Some y) × (b.is_open y ≡ true)
+          at true k e = let r = same_Some y z e in (q ∙ sym e, ap b.is_open r ∙ k)
+          at false k e = absurd (some-none y e)
 
   -- in two groups of directions
   pub links-sum : (ds es : List Direction) {m n : ℕ} → m ≡ length (neighbours b x ds) → n ≡ length (neighbours b x es)
       → m + n ≡ length (neighbours b x (ds ++ es))
   links-sum ds es h k =
       (λ i. h i + k i) ∙ sym (ap length (each_append (λ d. if_there b d (b.next d x)) ds es) ∙ length-append (neighbours b x ds) (neighbours b x es))
-
-  pub links-earlier : {d : Direction} (e : Direction) {n : ℕ} → d ≡ e → n ≡ length (neighbours b x (earlier e)) → n ≡ length (neighbours b x (earlier d))
-  links-earlier e q h = h ∙ ap (λ e. length (neighbours b x (earlier e))) (sym q)
 
   pub earlier_few : (d : Direction) → length (neighbours b x (earlier d)) ≤ 3
   earlier_few north = omega arith
@@ -105,12 +76,12 @@ counts_on p x h =
     let ds = clue_of p x (get_or p.cells x Open) in
     ap (λ l. length (each l clue_counts)) (clues_next p x h) ∙ ap length (each_append clue_counts cs ds) ∙ length-append (each cs clue_counts) (each ds clue_counts)
 
-pub clue-counts : (p : Puzzle) (x : ℕ) {c : Cell} {d : Direction} {n l : ℕ} → c ≡ Clued d n → c ≡ get_or p.cells x Open → l ≡ length (line p d x)
-    → (l + 1) * (n + 1) ≡ cell_counts p x
-clue-counts p x {c} {d} {n} {l} e h q =
+pub clue-counts : (p : Puzzle) (x : ℕ) {d : Direction} {n l m : ℕ} → Clued d n ≡ get_or p.cells x Open → l ≡ length (line p d x) → m ≡ n
+    → (l + 1) * (m + 1) ≡ cell_counts p x
+clue-counts p x {d} {n} {l} {m} h q e =
     let k = clue_in p x d n in
-    (λ i. (add-one l ∙ ap suc q) i * add-one n i)
-    ∙ sym (ap (λ c. length (each (clue_of p x c) clue_counts)) (sym h ∙ e) ∙ ap length (append-nil (clue_counts k)) ∙ clue_long k)
+    (λ i. (add-one l ∙ ap suc q) i * (add-one m ∙ ap suc e) i)
+    ∙ sym (ap (λ c. length (each (clue_of p x c) clue_counts)) (sym h) ∙ ap length (append-nil (clue_counts k)) ∙ clue_long k)
 
 -- (a cell that is no clue has none)
 pub no-counts : (p : Puzzle) (x : ℕ) {c : Cell} → clue_of p x c ≡ [] → c ≡ get_or p.cells x Open → 0 ≡ cell_counts p x
@@ -132,7 +103,7 @@ counts_few {g} {s} {x} h l = by (get_or (puzzle g s).cells x Open) refl
     by Open e = let z = no-counts (puzzle g s) x refl (sym e) in omega arith
     by Shaded e = let z = no-counts (puzzle g s) x refl (sym e) in omega arith
     by (Clued d n) e =
-        let z = clue-counts (puzzle g s) x refl (sym e) refl in
+        let z = clue-counts (puzzle g s) x (sym e) refl refl in
         let m : n ≤ 44 = omega (arith, number_small g s x l, ap number_of e) in
         let j = length (line (puzzle g s) d x) in
         let k : (j + 1) * (n + 1) ≤ suc most_cells * 45 = mul-le-mul {n₂ = suc most_cells} {m₂ = 45} (omega (arith, line_few h l d)) (omega arith) in
@@ -156,24 +127,20 @@ counts_are {g} {s} h =
 
 module _ {g : Grid} {s : List ℕ} (h : RecordFits g s) {x : ℕ} (l : x < size g) where
   -- the sizes of an open cell, and of one that is not, which has its T variables only, if any
-  module _ {c : Cell} (q : c ≡ get_or (puzzle g s).cells x Open) where
-    is_open_lem : {t : Bool} → open_cell c ≡ t → (grid_board g s).is_open x ≡ t
-    is_open_lem e = sym (is_opened h l q) ∙ e
-
-    pub open_sizes : {n : ℕ} → c ≡ Open → n ≡ length (neighbours (grid_board g s) x directions)
-        → ◌≡◌ {A = Sizes} (record { opens = 1; links = n; counts = 0 }) (sizes_at g s x)
-    open_sizes {n} k m =
+  module _ {c : Cell} (q : c ≡ get_or (puzzle g s).cells x Open) {z : Sizes} where
+    pub open_sizes : c ≡ Open → z.opens ≡ 1 → z.links ≡ length (neighbours (grid_board g s) x directions) → z.counts ≡ 0 → z ≡ sizes_at g s x
+    open_sizes k i m j =
         let b = grid_board g s in
-        let o = is_open_lem (ap open_cell k) in
-        let i : n ≡ length (at_cell b (outgoing b) x) = m ∙ sym (ap length (at_open b x (outgoing b) o) ∙ length-map (neighbours b x directions) (out x)) in
-        (λ t. record { opens = bit (sym o t); links = i t; counts = no-counts (puzzle g s) x (ap (clue_of (puzzle g s) x) k) q t })
+        let o = sym (is_opened h l q) ∙ ap open_cell k in
+        let links = m ∙ sym (ap length (at_open b x (outgoing b) o) ∙ length-map (neighbours b x directions) (out x)) in
+        let none = j ∙ no-counts (puzzle g s) x (ap (clue_of (puzzle g s) x) k) q in
+        (λ t. record { opens = (i ∙ ap bit (sym o)) t; links = links t; counts = none t })
 
-    pub shut_sizes : {n : ℕ} → open_cell c ≡ false → n ≡ cell_counts (puzzle g s) x
-        → ◌≡◌ {A = Sizes} (record { opens = 0; links = 0; counts = n }) (sizes_at g s x)
-    shut_sizes k m =
+    pub shut_sizes : open_cell c ≡ false → z.opens ≡ 0 → z.links ≡ 0 → z.counts ≡ cell_counts (puzzle g s) x → z ≡ sizes_at g s x
+    shut_sizes k i j m =
         let b = grid_board g s in
-        let o = is_open_lem k in
-        (λ t. record { opens = bit (sym o t); links = length (sym (at_shut b x (outgoing b) o) t); counts = m t })
+        let o = sym (is_opened h l q) ∙ k in
+        (λ t. record { opens = (i ∙ ap bit (sym o)) t; links = (j ∙ ap length (sym (at_shut b x (outgoing b) o))) t; counts = m t })
 
   pub sizes_next : {z y : Sizes} → z ≡ sizes_below g s x → y ≡ sizes_at g s x
       → ◌≡◌ {A = Sizes} (record { opens = z.opens + y.opens; links = z.links + y.links; counts = z.counts + y.counts }) (sizes_below g s (x + 1))
@@ -196,6 +163,10 @@ sizes_few {g} {s} h x l e =
     let w = h.sides.few in
     rw e (record { opens = omega (arith, rank_few b x); links = omega (arith, links_few b x); counts = omega (arith, below_few h x l) })
 
+pub next_few : {g : Grid} {s : List ℕ} → RecordFits g s → {x : ℕ} → x < size g → {z y : Sizes} → z ≡ sizes_below g s x → y ≡ sizes_at g s x
+    → Few (record { opens = z.opens + y.opens; links = z.links + y.links; counts = z.counts + y.counts })
+next_few h {x} l e q = sizes_few h (x + 1) (omega arith) (sizes_next h l e q)
+
 -- 4. V
 
 module _ {g : Grid} {s : List ℕ} (h : RecordFits g s) {z : Sizes} (e : z ≡ sizes_of g s) where
@@ -209,3 +180,6 @@ module _ {g : Grid} {s : List ℕ} (h : RecordFits g s) {z : Sizes} (e : z ≡ s
 
   pub square_few : z.opens * z.opens ≤ most_cells * most_cells
   square_few = let f = sizes_few h (size g) (omega arith) e in mul-le-mul f.opens f.opens
+
+  pub total_small : z.opens + z.opens + z.links + z.opens * z.opens + z.counts < 2 ^ 64
+  total_small = let f = sizes_few h (size g) (omega arith) e in omega (arith, square_few)

@@ -1,6 +1,5 @@
 -- What the numbers of a cell's variables go by: how many open cells, E variables and T variables the cells before it have.
-use Rattle.std.specs.Prelude.{ℕ, ◌+◌, ◌*◌, ◌≤◌, ◌<◌, length, get_or, take, ◌≡◌, true, cond, List, [], ◌∷◌}
-use Rattle.std.proofs.Math.Option.{Option, none, some}
+use Rattle.std.specs.Prelude.{ℕ, ◌+◌, ◌*◌, ◌≤◌, ◌<◌, length, get_or, take, ◌≡◌, true, cond, List, [], ◌∷◌, Option, None, Some}
 use Rattle.rules.specs.declared.Direction.{Direction}
 use Rattle.rules.specs.declared.Cell.TheVariants.{Open}
 use Rattle.rules.specs.declared.Grid.{Grid}
@@ -57,13 +56,13 @@ pub record OpenCell (g : Grid) (s : List ℕ) (x : ℕ) : Type 0 where
 -- two open cells: y is the neighbour of x in direction d
 pub record OpenPair (g : Grid) (s : List ℕ) (x : ℕ) (d : Direction) (y : ℕ) : Type 0 where
   pub here : OpenCell g s x
-  pub leads : (grid_board g s).next d x ≡ some y
+  pub leads : (grid_board g s).next d x ≡ Some y
   pub there : OpenCell g s y
 
 -- the neighbour in a direction, if it is open
 abbrev pub if_open_cell : Board → Option ℕ → Option ℕ
-if_open_cell b none = none
-if_open_cell b (some y) = cond (b.is_open y) (some y) none
+if_open_cell b None = None
+if_open_cell b (Some y) = cond (b.is_open y) (Some y) None
 
 abbrev pub open_neighbour : Board → Direction → ℕ → Option ℕ
 open_neighbour b d x = if_open_cell b (b.next d x)

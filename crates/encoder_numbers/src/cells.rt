@@ -1,149 +1,105 @@
 // The numbers of the variables of a cell and of its open neighbours, by the table.
 ghost use Rattle.std.specs.Prelude.{◌≡◌, ◌<◌};
 ghost use Rattle.rules.specs.Record.{size};
-ghost use Rattle.rules.specs.Board.{grid_board};
+ghost use Rattle.rules.specs.Read.{rules_board};
 ghost use Rattle.encoder.specs.Variables.{E, Q, number};
-ghost use Rattle.encoder_numbers.specs.Numbered.{no_neighbour, black_of, neighbour_numbers_to, neighbour_numbers_of, cell_numbers_of};
-ghost use Rattle.encoder_numbers.specs.Tables.{Tables, OpenCell, OpenPair, first_count};
+ghost use Rattle.encoder_numbers.specs.Numbered.{black_of, neighbour_numbers_to, neighbour_numbers_of, cell_numbers_of};
+ghost use Rattle.encoder_numbers.specs.Tables.{OpenCell, OpenPair, first_count};
 
+use super::numbering::Numbering;
 use super::tables::{links_before, open_neighbour, sizes_below};
-use super::{CellNumbers, NeighbourNumbers, Sizes};
-use answers::Place;
+use super::{CellNumbers, NeighbourNumbers};
 use judge_cells::cells::is_open;
-use rules::{Direction, Grid};
+use rules::Direction;
 use rules_board::opposite;
 
 // The number of a cell's Z; 0 if it is not open.
-pub fn black_number(g: Grid, record: &[u8], sizes: Sizes, table: &[usize], x: usize) -> usize
-    requires tables { Tables g «record».now sizes table.now }
-    requires x_bound { x < size g }
-    ensures { result ≡ black_of (grid_board g «record».now) x }
+pub fn black_number(numbering: &Numbering, x: usize) -> usize
+    requires { x < size numbering.now.board.grid }
+    ensures { result ≡ black_of (rules_board numbering.now.board) x }
 {
-    let open = is_open(g, record, x);
-    if !open {
-        return 0;
+    if is_open(&numbering.board, x) {
+        sizes_below(numbering, x).opens + 1
+    } else {
+        0
     }
-    let below = sizes_below(g, record, sizes, table, x);
-    below.opens + 1
 }
 
 // The number of E(x,d): after Z and S come the E variables of the cells before x, then its own. The neighbour y is there to say that there is one.
-pub fn link_number(
-    g: Grid,
-    record: &[u8],
-    sizes: Sizes,
-    table: &[usize],
-    x: usize,
-    d: Direction,
-    y: usize,
-) -> usize
-    requires tables { Tables g «record».now sizes table.now }
-    requires open_pair { OpenPair g «record».now x d y }
-    ensures { result ≡ number (grid_board g «record».now) (E x d) }
+pub fn link_number(numbering: &Numbering, x: usize, d: Direction, y: usize) -> usize
+    requires { OpenPair numbering.now.board.grid numbering.now.board.«record».now x d y }
+    ensures { result ≡ number (rules_board numbering.now.board) (E x d) }
 {
-    let below = sizes_below(g, record, sizes, table, x);
-    let before = links_before(g, record, x, d);
-    sizes.opens + sizes.opens + below.links + before + 1
+    let below = sizes_below(numbering, x);
+    let before = links_before(&numbering.board, x, d);
+    numbering.sizes.opens + numbering.sizes.opens + below.links + before + 1
 }
 
 // The number of Q(x,0): after Z, S and E come F for each open cell before x.
-fn distance_number(g: Grid, record: &[u8], sizes: Sizes, table: &[usize], x: usize) -> usize
-    requires tables { Tables g «record».now sizes table.now }
-    requires open_cell { OpenCell g «record».now x }
-    ensures { result ≡ number (grid_board g «record».now) (Q x 0) }
+fn distance_number(numbering: &Numbering, x: usize) -> usize
+    requires { OpenCell numbering.now.board.grid numbering.now.board.«record».now x }
+    ensures { result ≡ number (rules_board numbering.now.board) (Q x 0) }
 {
-    let below = sizes_below(g, record, sizes, table, x);
-    sizes.opens + sizes.opens + sizes.links + below.opens * sizes.opens + 1
+    let below = sizes_below(numbering, x);
+    numbering.sizes.opens
+        + numbering.sizes.opens
+        + numbering.sizes.links
+        + below.opens * numbering.sizes.opens
+        + 1
 }
 
 // The number of the first T variable of the clues from cell x on: after all Z, S, E and Q come those of the clues before x.
-pub fn count_number(g: Grid, record: &[u8], sizes: Sizes, table: &[usize], x: usize) -> usize
-    requires tables { Tables g «record».now sizes table.now }
-    requires x_bound { x < size g }
-    ensures { result ≡ first_count g «record».now x }
+pub fn count_number(numbering: &Numbering, x: usize) -> usize
+    requires { x < size numbering.now.board.grid }
+    ensures { result ≡ first_count numbering.now.board.grid numbering.now.board.«record».now x }
 {
-    let below = sizes_below(g, record, sizes, table, x);
-    sizes.opens + sizes.opens + sizes.links + sizes.opens * sizes.opens + below.counts + 1
-}
-
-fn no_neighbour() -> NeighbourNumbers
-    ensures { result ≡ no_neighbour }
-{
-    NeighbourNumbers {
-        out: 0,
-        back: 0,
-        black: 0,
-        distance: 0,
-    }
+    let below = sizes_below(numbering, x);
+    numbering.sizes.opens
+        + numbering.sizes.opens
+        + numbering.sizes.links
+        + numbering.sizes.opens * numbering.sizes.opens
+        + below.counts
+        + 1
 }
 
 // The open neighbour y of an open cell.
-fn numbers_to(
-    g: Grid,
-    record: &[u8],
-    sizes: Sizes,
-    table: &[usize],
-    x: usize,
-    d: Direction,
-    y: usize,
-) -> NeighbourNumbers
-    requires tables { Tables g «record».now sizes table.now }
-    requires open_pair { OpenPair g «record».now x d y }
-    ensures { result ≡ neighbour_numbers_to (grid_board g «record».now) x (record { way = d; cell = y }) }
+fn numbers_to(numbering: &Numbering, x: usize, d: Direction, y: usize) -> NeighbourNumbers
+    requires { OpenPair numbering.now.board.grid numbering.now.board.«record».now x d y }
+    ensures { result ≡ neighbour_numbers_to (rules_board numbering.now.board) x (record { way = d; cell = y }) }
 {
-    let out = link_number(g, record, sizes, table, x, d, y);
-    let back = link_number(g, record, sizes, table, y, opposite(d), x);
-    let black = black_number(g, record, sizes, table, y);
-    let distance = distance_number(g, record, sizes, table, y);
     NeighbourNumbers {
-        out,
-        back,
-        black,
-        distance,
+        out: link_number(numbering, x, d, y),
+        back: link_number(numbering, y, opposite(d), x),
+        black: black_number(numbering, y),
+        distance: distance_number(numbering, y),
     }
 }
 
 // The neighbour of an open cell in a direction.
-fn neighbour_numbers(
-    g: Grid,
-    record: &[u8],
-    sizes: Sizes,
-    table: &[usize],
-    x: usize,
-    d: Direction,
-) -> NeighbourNumbers
-    requires tables { Tables g «record».now sizes table.now }
-    requires open_cell { OpenCell g «record».now x }
-    ensures { result ≡ neighbour_numbers_of (grid_board g «record».now) x d }
+fn neighbour_numbers(numbering: &Numbering, x: usize, d: Direction) -> NeighbourNumbers
+    requires { OpenCell numbering.now.board.grid numbering.now.board.«record».now x }
+    ensures { result ≡ neighbour_numbers_of (rules_board numbering.now.board) x d }
 {
-    let p = open_neighbour(g, record, x, d);
-    let Place::At(y) = p else {
-        return no_neighbour();
-    };
-    numbers_to(g, record, sizes, table, x, d, y)
+    match open_neighbour(&numbering.board, x, d) {
+        Some(y) => numbers_to(numbering, x, d, y),
+        None => NeighbourNumbers::default(),
+    }
 }
 
 // An open cell and its four neighbours.
-pub fn cell_numbers(g: Grid, record: &[u8], sizes: Sizes, table: &[usize], x: usize) -> CellNumbers
-    requires tables { Tables g «record».now sizes table.now }
-    requires open_cell { OpenCell g «record».now x }
-    ensures { result ≡ cell_numbers_of (grid_board g «record».now) x }
+pub fn cell_numbers(numbering: &Numbering, x: usize) -> CellNumbers
+    requires { OpenCell numbering.now.board.grid numbering.now.board.«record».now x }
+    ensures { result ≡ cell_numbers_of (rules_board numbering.now.board) x }
 {
-    let below = sizes_below(g, record, sizes, table, x);
-    let rank = below.opens;
-    let distance = distance_number(g, record, sizes, table, x);
-    let north = neighbour_numbers(g, record, sizes, table, x, Direction::North);
-    let east = neighbour_numbers(g, record, sizes, table, x, Direction::East);
-    let south = neighbour_numbers(g, record, sizes, table, x, Direction::South);
-    let west = neighbour_numbers(g, record, sizes, table, x, Direction::West);
+    let rank = sizes_below(numbering, x).opens;
     CellNumbers {
         rank,
         black: rank + 1,
-        start: sizes.opens + rank + 1,
-        distance,
-        north,
-        east,
-        south,
-        west,
+        start: numbering.sizes.opens + rank + 1,
+        distance: distance_number(numbering, x),
+        north: neighbour_numbers(numbering, x, Direction::North),
+        east: neighbour_numbers(numbering, x, Direction::East),
+        south: neighbour_numbers(numbering, x, Direction::South),
+        west: neighbour_numbers(numbering, x, Direction::West),
     }
 }

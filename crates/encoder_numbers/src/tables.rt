@@ -1,127 +1,93 @@
 // How many variables a grid has, and where those of a cell begin: document 01's "Variables". The sizes of the cells before each cell stand in
 // a table that is filled once, so that no variable's number costs a scan of the board.
 ghost use Rattle.std.specs.Prelude.{◌≡◌, [], ◌∷◌, ◌+◌, ◌*◌, ◌≤◌, ◌<◌, length};
-ghost use Rattle.answers.specs.First.{placed};
 ghost use Rattle.answers.specs.Lent.{filled, Wrote};
-ghost use Rattle.rules.specs.Record.{size, RecordFits};
-ghost use Rattle.rules.specs.Board.{grid_board};
+ghost use Rattle.rules.specs.Record.{size};
+ghost use Rattle.rules.specs.Read.{rules_board};
 ghost use Rattle.encoder.specs.Variables.{directions, neighbours, variable_count, earlier};
-ghost use Rattle.encoder_numbers.specs.Tables.{sizes_at, sizes_below, sizes_of, row_of, table_of, Tables, open_neighbour};
+ghost use Rattle.encoder_numbers.specs.Tables.{sizes_at, sizes_below, sizes_of, row_of, table_of, open_neighbour};
 
 use super::Sizes;
-use answers::Place;
+use super::numbering::Numbering;
 use judge_cells::cells::is_open;
-use rules::{Cell, Direction, Grid};
+use rules::board::Board;
+use rules::{Cell, Direction};
 use rules_board::{line_end, neighbour};
 
 // The neighbour in that direction, if there is one and it is open.
-pub fn open_neighbour(g: Grid, record: &[u8], x: usize, d: Direction) -> Place
-    requires record_fits { RecordFits g «record».now }
-    requires x_bound { x < size g }
-    ensures { placed result ≡ open_neighbour (grid_board g «record».now) d x }
+pub fn open_neighbour(board: &Board, x: usize, d: Direction) -> Option<usize>
+    requires { x < size board.now.grid }
+    ensures { result ≡ open_neighbour (rules_board board.now) d x }
 {
-    let p = neighbour(g, x, d);
-    let Place::At(y) = p else {
-        return Place::Nowhere;
-    };
-    let open = is_open(g, record, y);
-    if !open {
-        return Place::Nowhere;
-    }
-    Place::At(y)
+    let y = neighbour(board.grid, x, d)?;
+    is_open(board, y).then_some(y)
 }
 
 // 1 where there is one, else 0.
-pub fn open_there(g: Grid, record: &[u8], x: usize, d: Direction) -> usize
-    requires record_fits { RecordFits g «record».now }
-    requires x_bound { x < size g }
-    ensures { result ≡ length (neighbours (grid_board g «record».now) x (d ∷ [])) }
+pub fn open_there(board: &Board, x: usize, d: Direction) -> usize
+    requires { x < size board.now.grid }
+    ensures { result ≡ length (neighbours (rules_board board.now) x (d ∷ [])) }
 {
-    let p = open_neighbour(g, record, x, d);
-    let Place::At(_) = p else {
-        return 0;
-    };
-    1
+    usize::from(open_neighbour(board, x, d).is_some())
 }
 
 // The open neighbours in the directions before d.
-pub fn links_before(g: Grid, record: &[u8], x: usize, d: Direction) -> usize
-    requires record_fits { RecordFits g «record».now }
-    requires x_bound { x < size g }
-    ensures { result ≡ length (neighbours (grid_board g «record».now) x (earlier d)) }
+pub fn links_before(board: &Board, x: usize, d: Direction) -> usize
+    requires { x < size board.now.grid }
+    ensures { result ≡ length (neighbours (rules_board board.now) x (earlier d)) }
 {
     match d {
         Direction::North => 0,
-        Direction::East => open_there(g, record, x, Direction::North),
+        Direction::East => open_there(board, x, Direction::North),
         Direction::South => {
-            let north = open_there(g, record, x, Direction::North);
-            let east = open_there(g, record, x, Direction::East);
-            north + east
+            open_there(board, x, Direction::North) + open_there(board, x, Direction::East)
         }
         Direction::West => {
-            let north = open_there(g, record, x, Direction::North);
-            let east = open_there(g, record, x, Direction::East);
-            let south = open_there(g, record, x, Direction::South);
-            north + east + south
+            open_there(board, x, Direction::North)
+                + open_there(board, x, Direction::East)
+                + open_there(board, x, Direction::South)
         }
     }
 }
 
 // All open neighbours: as many E variables has an open cell.
-pub fn neighbour_count(g: Grid, record: &[u8], x: usize) -> usize
-    requires record_fits { RecordFits g «record».now }
-    requires x_bound { x < size g }
-    ensures { result ≡ length (neighbours (grid_board g «record».now) x directions) }
+pub fn neighbour_count(board: &Board, x: usize) -> usize
+    requires { x < size board.now.grid }
+    ensures { result ≡ length (neighbours (rules_board board.now) x directions) }
 {
-    let before = links_before(g, record, x, Direction::West);
-    let west = open_there(g, record, x, Direction::West);
-    before + west
-}
-
-// So many open cells, E variables and T variables.
-fn new_sizes(opens: usize, links: usize, counts: usize) -> Sizes
-    ensures { result ≡ record { opens = opens; links = links; counts = counts } }
-{
-    Sizes {
-        opens,
-        links,
-        counts,
-    }
+    links_before(board, x, Direction::West) + open_there(board, x, Direction::West)
 }
 
 // The sizes of a cell: an open cell has its E variables, a clue (L + 1) times (n + 1) T variables, a shaded cell none.
-fn sizes_at(g: Grid, record: &[u8], x: usize) -> Sizes
-    requires record_fits { RecordFits g «record».now }
-    requires x_bound { x < size g }
-    ensures { result ≡ sizes_at g «record».now x }
+fn sizes_at(board: &Board, x: usize) -> Sizes
+    requires { x < size board.now.grid }
+    ensures { result ≡ sizes_at board.now.grid board.now.«record».now x }
 {
-    let c = g.cell(record, x);
-    match c {
-        Cell::Open => {
-            let links = neighbour_count(g, record, x);
-            new_sizes(1, links, 0)
-        }
-        Cell::Clue(d, n) => {
-            let end = line_end(g, record, x, d);
-            let cells = end.cells;
-            new_sizes(0, 0, (cells + 1) * (n as usize + 1))
-        }
-        Cell::Shaded => new_sizes(0, 0, 0),
+    match board.cell(x) {
+        Cell::Open => Sizes {
+            opens: 1,
+            links: neighbour_count(board, x),
+            ..Sizes::default()
+        },
+        Cell::Clue(d, n) => Sizes {
+            counts: (line_end(board, x, d).cells + 1) * (usize::from(n) + 1),
+            ..Sizes::default()
+        },
+        Cell::Shaded => Sizes::default(),
     }
 }
 
 // The sizes of the cells before x, and x.
-fn with_cell(g: Grid, record: &[u8], below: Sizes, x: usize) -> Sizes
-    requires record_fits { RecordFits g «record».now }
-    requires x_bound { (x < size g) × (below ≡ sizes_below g «record».now x) }
-    ensures { result ≡ sizes_below g «record».now (x + 1) }
+fn with_cell(board: &Board, below: Sizes, x: usize) -> Sizes
+    requires { (x < size board.now.grid) × (below ≡ sizes_below board.now.grid board.now.«record».now x) }
+    ensures { result ≡ sizes_below board.now.grid board.now.«record».now (x + 1) }
 {
-    let more = sizes_at(g, record, x);
-    new_sizes(
-        below.opens + more.opens,
-        below.links + more.links,
-        below.counts + more.counts,
-    )
+    let more = sizes_at(board, x);
+    Sizes {
+        opens: below.opens + more.opens,
+        links: below.links + more.links,
+        counts: below.counts + more.counts,
+    }
 }
 
 // Writes the three numbers of a cell; returns the place after them.
@@ -136,39 +102,36 @@ fn put_row(table: &mut [usize], at: usize, below: Sizes) -> usize
 }
 
 // Fills the table; returns the sizes of all cells.
-pub fn fill(g: Grid, record: &[u8], table: &mut [usize]) -> Sizes
-    requires record_fits { RecordFits g «record».now }
-    requires g_in_bounds { 3 * size g ≤ length table.old }
-    ensures value { result ≡ sizes_of g «record».now }
-    ensures table_after { table.new ≡ filled table.old (table_of g «record».now) }
+pub fn fill(board: &Board, table: &mut [usize]) -> Sizes
+    requires { 3 * size board.now.grid ≤ length table.old }
+    ensures value { result ≡ sizes_of board.now.grid board.now.«record».now }
+    ensures table_after { table.new ≡ filled table.old (table_of board.now.grid board.now.«record».now) }
 {
-    let n = g.size();
-    let mut below = new_sizes(0, 0, 0);
+    let mut below = Sizes::default();
     let mut at = 0;
-    let mut x = 0;
-    while x < n {
+    for x in 0..board.grid.size() {
         at = put_row(table, at, below);
-        below = with_cell(g, record, below, x);
-        x += 1;
+        below = with_cell(board, below, x);
     }
     below
 }
 
 // What the table holds for a cell: the sizes of the cells before it.
-pub fn sizes_below(g: Grid, record: &[u8], sizes: Sizes, table: &[usize], x: usize) -> Sizes
-    requires tables { Tables g «record».now sizes table.now }
-    requires x_bound { x < size g }
-    ensures { result ≡ sizes_below g «record».now x }
+pub fn sizes_below(numbering: &Numbering, x: usize) -> Sizes
+    requires { x < size numbering.now.board.grid }
+    ensures { result ≡ sizes_below numbering.now.board.grid numbering.now.board.«record».now x }
 {
-    let at = 3 * x;
-    new_sizes(table[at], table[at + 1], table[at + 2])
+    Sizes {
+        opens: numbering.table[3 * x],
+        links: numbering.table[3 * x + 1],
+        counts: numbering.table[3 * x + 2],
+    }
 }
 
 // V: 2F + A + F times F + the T variables.
-pub fn variable_count(g: Grid, record: &[u8], sizes: Sizes) -> usize
-    requires record_fits { RecordFits g «record».now }
-    requires sizes_value { sizes ≡ sizes_of g «record».now }
-    ensures { result ≡ variable_count (grid_board g «record».now) }
+pub fn variable_count(board: &Board, sizes: Sizes) -> usize
+    requires { sizes ≡ sizes_of board.now.grid board.now.«record».now }
+    ensures { result ≡ variable_count (rules_board board.now) }
 {
     sizes.opens + sizes.opens + sizes.links + sizes.opens * sizes.opens + sizes.counts
 }

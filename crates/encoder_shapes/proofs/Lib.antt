@@ -1,2 +1,2 @@
--- Laws of writing clauses, part by part and turn by turn.
-pub mod Written
+-- Laws of writing clauses, turn by turn and part by part.
+pub mod Turns

@@ -1,5 +1,5 @@
 -- The clauses cell by cell are as many as family by family, and adding them up. Assumes nothing.
-use Prim.Native.Nat.{ℕ, ◌+◌, ◌*◌, ◌≤◌, ◌<◌, ◌^◌}
+use Prim.Native.Nat.{ℕ, ◌+◌, ◌*◌, ◌≤◌, ◌^◌}
 use native.Mathlib.Omega.{arith}
 use lib.ListN.{length, length-append}
 use mathlib.Core.Path.{◌≡◌, refl, sym, ◌∙◌, ap, subst}
@@ -64,7 +64,6 @@ module _ (many : List Clause → ℕ) (none : many [] ≡ 0) (adds : (cs ds : Li
 
 -- with x cells added to [all S]
 pub record Adding (g : Grid) (s : List ℕ) (n e x : ℕ) : Type 0 where
-  within : x ≤ size g
   clauses : ℕ
   elements : ℕ
   sized : Sized (grid_board g s) (each (up_to x) (cell_families g s)) clauses elements
@@ -76,7 +75,6 @@ pub record Adding (g : Grid) (s : List ℕ) (n e x : ℕ) : Type 0 where
 pub adding_start : {g : Grid} {s : List ℕ} {f : ℕ} → f ≡ open_count (grid_board g s) → Adding g s 1 (f + 1) 0
 adding_start {g} {s} q =
     record {
-      within = omega arith;
       clauses = 0;
       elements = 0;
       sized = sized_none (grid_board g s);
@@ -86,12 +84,12 @@ adding_start {g} {s} q =
       long = omega arith;
     }
 
-module _ {g : Grid} {s : List ℕ} {n e x : ℕ} (h : RecordFits g s) (p : Adding g s n e x) where
+module _ {g : Grid} {s : List ℕ} {n e x : ℕ} (p : Adding g s n e x) where
   pub adding_few : (n ≤ x * 2 ^ 40 + 1) × (e ≤ x * 2 ^ 40 + (open_count (grid_board g s) + 1))
   adding_few = let i = p.few in let j = p.short in let k = p.all in let l = p.long in (omega arith, omega arith)
 
-  pub adding_on : {a : Amount} → x < size g → Amounts (grid_board g s) (cell_families g s x) a → Adding g s (n + a.clauses) (e + a.elements) (x + 1)
-  adding_on {a} l r =
+  pub adding_on : {a : Amount} → Amounts (grid_board g s) (cell_families g s x) a → Adding g s (n + a.clauses) (e + a.elements) (x + 1)
+  adding_on {a} r =
       let i = p.few in
       let j = p.short in
       let u = p.all in
@@ -102,7 +100,6 @@ module _ {g : Grid} {s : List ℕ} {n e x : ℕ} (h : RecordFits g s) (p : Addin
       let f = cell_families g s in
       let m : each (up_to x) f ++ f x ≡ each (up_to (x + 1)) f = ap (λ k. each (up_to x) f ++ f k) (sym q) ∙ sym (each_next f 0 x) in
       record {
-        within = omega arith;
         clauses = p.clauses + a.clauses;
         elements = p.elements + a.elements;
         sized =
@@ -113,11 +110,9 @@ module _ {g : Grid} {s : List ℕ} {n e x : ℕ} (h : RecordFits g s) (p : Addin
         long = omega arith;
       }
 
-  pub adding_end : size g ≤ x → Sized (grid_board g s) (clauses (grid_board g s)) n e
-  adding_end l =
+  pub adding_end : RecordFits g s → x ≡ size g → Sized (grid_board g s) (clauses (grid_board g s)) n e
+  adding_end h q =
       let b = grid_board g s in
-      let w = p.within in
-      let q : x ≡ size g = omega arith in
       let c = p.sized.clauses in
       let d = p.sized.elements in
       let u = p.all in

@@ -3,35 +3,50 @@
 
 ghost use Rattle.std.specs.Prelude.{◌≡◌, ◌*◌, ◌≤◌, ◌<◌, ◌^◌, get_or};
 ghost use Rattle.answers.specs.Lists.{how_many};
+ghost use Rattle.answers.specs.Outcome.{answer};
 ghost use Rattle.rules.specs.declared.Cell.TheVariants.{Open, Clue};
-ghost use Rattle.rules.specs.Directions.{bit};
-ghost use Rattle.rules.specs.Record.{size, puzzle, most_cells, RecordFits};
-ghost use Rattle.rules.specs.Board.{line, grid_board};
+ghost use Rattle.rules.specs.Record.{size, most_cells};
+ghost use Rattle.rules.specs.Read.{puzzle_on, rules_board};
+ghost use Rattle.rules.specs.Board.{line};
 ghost use Rattle.encoder.specs.Variables.{open_count, rank};
 ghost use Rattle.encoder.specs.Clauses.{clauses, pair_count, Sized};
-ghost use Rattle.encoder_numbers.specs.Tables.{Tables};
 ghost use Rattle.encoder_lines.specs.Line.{LineEnd};
 ghost use Rattle.encoder_size.specs.Counts.{counts_of, amount_of, open_amount, clue_amount, cell_families, Amounts};
 
+use answers::{Outcome, answered};
+use encoder_numbers::TABLE;
+use encoder_numbers::numbering::Numbering;
 use encoder_numbers::tables::{fill, neighbour_count, open_there, sizes_below, variable_count};
-use encoder_numbers::{Sizes, TABLE};
 use judge_cells::cells::is_open;
-use rules::{Cell, Direction, Grid};
+use rules::board::Board;
+use rules::{Cell, Direction};
 use rules_board::{End, go, line_end, opposite};
 
 // Some clauses, and their elements with the closing zeros.
-#[derive(Clone, Copy)]
+#[derive(Clone, Copy, Debug, PartialEq, Eq)]
 pub struct Amount {
     pub clauses: usize,
     pub elements: usize,
 }
 
 // What the encoder answers.
-#[derive(Clone, Copy)]
+#[derive(Clone, Copy, Debug, PartialEq, Eq)]
 pub struct Counts {
     pub elements: usize,
     pub variables: usize,
     pub clauses: usize,
+}
+
+impl From<Counts> for Outcome {
+    ghost from_gives = { λ c t. t ≡ answer c.elements c.variables c.clauses };
+
+    fn from(counts: Counts) -> Outcome {
+        answered(
+            counts.elements as u64,
+            counts.variables as u64,
+            counts.clauses as u64,
+        )
+    }
 }
 
 // How many pairs n things have.
@@ -86,112 +101,87 @@ fn clue_amount(n: usize, opens: usize, shut: usize) -> Amount
     of_lengths(n + 2, twos, times(opens, n * 2 + 1), 0)
 }
 
-// 1 for true, 0 for false.
-fn bit(t: bool) -> usize
-    ensures { result ≡ bit t }
-{
-    if t {
-        return 1;
-    }
-    0
-}
-
 // The open cells on the line that leaves x in direction d and ends there.
-fn open_on_line(g: Grid, record: &[u8], x: usize, d: Direction, end: End) -> usize
-    requires record_fits { RecordFits g «record».now }
-    requires line_end { LineEnd (puzzle g «record».now) d x end }
-    requires x_bound { x < size g }
-    ensures { result ≡ how_many (grid_board g «record».now).is_open (line (puzzle g «record».now) d x) }
+fn open_on_line(board: &Board, x: usize, d: Direction, end: End) -> usize
+    requires line_end { LineEnd (puzzle_on board.now) d x end }
+    requires x_bound { x < size board.now.grid }
+    ensures { result ≡ how_many (rules_board board.now).is_open (line (puzzle_on board.now) d x) }
 {
-    let cells = end.cells;
+    let back = opposite(d);
     let mut y = end.cell;
     let mut count = 0;
-    let mut j = 0;
-    while j < cells {
-        let open = is_open(g, record, y);
-        let more = bit(open);
-        count += more;
-        let back = opposite(d);
-        y = go(g, y, back);
-        j += 1;
+    for _ in 0..end.cells {
+        count += usize::from(is_open(board, y));
+        y = go(board.grid, y, back);
     }
     count
 }
 
 // The clauses of an open cell.
-fn at_open(g: Grid, record: &[u8], f: usize, lower: usize, x: usize) -> Amount
-    requires record_fits { RecordFits g «record».now }
-    requires x_bound { (x < size g) × (get_or (puzzle g «record».now).cells x Open ≡ Open) }
-    requires f_value { (f ≡ open_count (grid_board g «record».now)) × (lower ≡ rank (grid_board g «record».now) x) }
-    ensures { Amounts (grid_board g «record».now) (cell_families g «record».now x) result }
+fn at_open(board: &Board, f: usize, lower: usize, x: usize) -> Amount
+    requires x_bound { (x < size board.now.grid) × (get_or (puzzle_on board.now).cells x Open ≡ Open) }
+    requires f_value { (f ≡ open_count (rules_board board.now)) × (lower ≡ rank (rules_board board.now) x) }
+    ensures { Amounts (rules_board board.now) (cell_families board.now.grid board.now.«record».now x) result }
 {
-    let neighbours = neighbour_count(g, record, x);
-    let east = open_there(g, record, x, Direction::East);
-    let south = open_there(g, record, x, Direction::South);
+    let neighbours = neighbour_count(board, x);
+    let east = open_there(board, x, Direction::East);
+    let south = open_there(board, x, Direction::South);
     open_amount(f, lower, neighbours, east + south, east)
 }
 
 // The clauses of a clue.
-fn at_clue(g: Grid, record: &[u8], x: usize, d: Direction, n: usize) -> Amount
-    requires record_fits { RecordFits g «record».now }
-    requires x_bound { (x < size g) × (n < 256) × (get_or (puzzle g «record».now).cells x Open ≡ Clue d n) }
-    ensures { Amounts (grid_board g «record».now) (cell_families g «record».now x) result }
+fn at_clue(board: &Board, x: usize, d: Direction, n: usize) -> Amount
+    requires { (x < size board.now.grid) × (n < 256) × (get_or (puzzle_on board.now).cells x Open ≡ Clue d n) }
+    ensures { Amounts (rules_board board.now) (cell_families board.now.grid board.now.«record».now x) result }
 {
-    let end = line_end(g, record, x, d);
-    let opens = open_on_line(g, record, x, d, end);
-    let cells = end.cells;
-    clue_amount(n, opens, cells - opens)
+    let end = line_end(board, x, d);
+    let opens = open_on_line(board, x, d, end);
+    clue_amount(n, opens, end.cells - opens)
 }
 
 // The clauses of a cell; a shaded cell has none.
-fn at_cell(g: Grid, record: &[u8], f: usize, lower: usize, x: usize) -> Amount
-    requires record_fits { RecordFits g «record».now }
-    requires x_bound { x < size g }
-    requires f_value { (f ≡ open_count (grid_board g «record».now)) × (lower ≡ rank (grid_board g «record».now) x) }
-    ensures { Amounts (grid_board g «record».now) (cell_families g «record».now x) result }
+fn at_cell(board: &Board, f: usize, lower: usize, x: usize) -> Amount
+    requires x_bound { x < size board.now.grid }
+    requires f_value { (f ≡ open_count (rules_board board.now)) × (lower ≡ rank (rules_board board.now) x) }
+    ensures { Amounts (rules_board board.now) (cell_families board.now.grid board.now.«record».now x) result }
 {
-    let c = g.cell(record, x);
-    match c {
-        Cell::Open => at_open(g, record, f, lower, x),
-        Cell::Clue(d, n) => at_clue(g, record, x, d, n as usize),
+    match board.cell(x) {
+        Cell::Open => at_open(board, f, lower, x),
+        Cell::Clue(d, n) => at_clue(board, x, d, usize::from(n)),
         Cell::Shaded => of_lengths(0, 0, 0, 0),
     }
 }
 
 // All clauses: those of the cells, and [all S].
-fn all_clauses(g: Grid, record: &[u8], sizes: Sizes, table: &[usize]) -> Amount
-    requires { Tables g «record».now sizes table.now }
-    ensures { let b = grid_board g «record».now in Sized b (clauses b) result.clauses result.elements }
+fn all_clauses(numbering: &Numbering) -> Amount
+    ensures { let b = rules_board numbering.now.board in Sized b (clauses b) result.clauses result.elements }
 {
-    let n = g.size();
-    let f = sizes.opens;
+    let f = numbering.sizes.opens;
     let mut clauses = 1;
     let mut elements = f + 1;
-    let mut x = 0;
-    while x < n {
-        let below = sizes_below(g, record, sizes, table, x);
-        let more = at_cell(g, record, f, below.opens, x);
+    for x in 0..numbering.board.grid.size() {
+        let below = sizes_below(numbering, x);
+        let more = at_cell(&numbering.board, f, below.opens, x);
         clauses += more.clauses;
         elements += more.elements;
-        x += 1;
     }
     Amount { clauses, elements }
 }
 
 // The elements of a grid's clause list, V, and the number of its clauses.
-pub fn count(g: Grid, record: &[u8]) -> Counts
-    requires { RecordFits g «record».now }
-    ensures { result ≡ counts_of (grid_board g «record».now) }
+pub fn count(board: &Board) -> Counts
+    ensures { result ≡ counts_of (rules_board board.now) }
 {
     let mut table = [0usize; TABLE];
-    let sizes = fill(g, record, &mut table);
-    let variables = variable_count(g, record, sizes);
-    let all = all_clauses(g, record, sizes, &table);
-    let elements = all.elements;
-    let clauses = all.clauses;
+    let sizes = fill(board, &mut table);
+    let all = all_clauses(&Numbering {
+        board: *board,
+        sizes,
+        table: &table,
+    });
     Counts {
-        elements,
-        variables,
-        clauses,
+        elements: all.elements,
+        variables: variable_count(board, sizes),
+        clauses: all.clauses,
     }
 }

@@ -5,7 +5,8 @@ use lib.Dec.{eqb}
 use borrow.Author.Tests.{eqb-true, eq-eqb, not-false}
 use mathlib.Core.Path.{◌≡◌, refl, sym, ◌∙◌, ap, subst}
 use mathlib.Core.Bool.{Bool, true, false}
-use mathlib.Core.Option.{some, some-injective}
+use Rattle.std.specs.Prelude.{Some}
+use Rattle.std.proofs.lemmas.Option.{same_Some}
 use mathlib.Core.Logic.{inl}
 use mathlib.Core.List.Memᴰ
 use mathlib.Core.List.{List, [], ◌∷◌, map}
@@ -71,14 +72,14 @@ module _ (b : Board) (law : Laws b) (D : Drawing) (sol : Solution b D) where
     beside : (ds : List Direction) (y : Neighbour) → y ∈ neighbours b x ds → Beside b x y
     beside ds y n = (of_neighbours b x ds y n).1
 
-    member : (d : Direction) (y : ℕ) (ds : List Direction) → d ∈ ds → b.next d x ≡ some y → bright y ≡ true → record { way = d; cell = y } ∈ neighbours b x ds
+    member : (d : Direction) (y : ℕ) (ds : List Direction) → d ∈ ds → b.next d x ≡ Some y → bright y ≡ true → record { way = d; cell = y } ∈ neighbours b x ds
     member d y ds n e h = in_neighbours b x ds (record { way = d; cell = y }) n (record { leads = e; opened = (of_white b D.black y h).0 })
 
     -- a way leads from white to white
     whites : (ds : List Direction) (y : Neighbour) → y ∈ neighbours b x ds → w (out x y) ≡ true → (D.black x ≡ false) × (D.black y.cell ≡ false)
     whites ds y n p =
         let v = flow.oriented.leads x y.way p in
-        let e : y.cell ≡ v.0 = some-injective y.cell v.0 (sym (beside ds y n).leads ∙ v.1) in
+        let e : y.cell ≡ v.0 = same_Some y.cell v.0 (sym (beside ds y n).leads ∙ v.1) in
         ((of_white b D.black x v.2).1, ap D.black e ∙ (of_white b D.black v.0 v.3).1)
 
     -- 1. Touching
@@ -141,7 +142,7 @@ module _ (b : Board) (law : Laws b) (D : Drawing) (sol : Solution b D) where
             let k = (beside directions y n).leads in
             let l = (beside directions z o).leads in
             let d = flow.oriented.in_one x y.way z.way y.cell z.cell k (ap w e ∙ p) l (ap w f ∙ q) in
-            let c : y.cell ≡ z.cell = some-injective _ _ (sym k ∙ ap (λ d. b.next d x) d ∙ l) in
+            let c : y.cell ≡ z.cell = same_Some _ _ (sym k ∙ ap (λ d. b.next d x) d ∙ l) in
             sym e ∙ (λ t. E (c t) (opposite (d t))) ∙ f
 
     here : w (S x) ≡ true → x ≡ s

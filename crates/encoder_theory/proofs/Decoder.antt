@@ -5,7 +5,7 @@ use lib.ListN.{length, get_or, length-map, replicate, length-replicate, get_or-m
 use borrow.Author.Tests.{eq-eqb, le-ltb}
 use mathlib.Core.Path.{◌≡◌, sym, ◌∙◌, ap, fun_ext}
 use mathlib.Core.Bool.{Bool, false, not}
-use mathlib.Core.Option.{none}
+use Rattle.std.specs.Prelude.{None}
 use mathlib.Core.List.{List, [], ◌∷◌, ◌++◌}
 use Rattle.answers.specs.declared.Outcome.{Outcome}
 use Rattle.answers.specs.Outcome.{Row, row, cause, first_refusal}
@@ -36,14 +36,14 @@ module _ (s : List ℕ) (acc : IsAccepted s) (a : List Bool) (e : Assignment (va
   abbrev b : Board
   b = board_of s
 
-  values_right : wrong_values b (bytes_of a) ≡ none
+  values_right : wrong_values b (bytes_of a) ≡ None
   values_right = ap (λ t. cause (not t)) (eq-eqb _ _ (length-map a bit ∙ e))
 
-  value_right : wrong_value (bytes_of a) ≡ none
+  value_right : wrong_value (bytes_of a) ≡ None
   value_right = ap numbered (none_first (λ i. ltb 1 (get_or (bytes_of a) i 0)) _ (λ i h. ap (ltb 1) (byte_at a i) ∙ le-ltb 1 _ (bit_small (get_or a i false))))
 
   module _ (lent : List ℕ) (long : length lent ≡ (board_of s).size) where
-    room_right : wrong_drawing b lent ≡ none
+    room_right : wrong_drawing b lent ≡ None
     room_right = ap (λ t. cause (not t)) (eq-eqb _ _ long)
 
     -- none of its rows but the judge's

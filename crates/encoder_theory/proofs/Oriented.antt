@@ -4,7 +4,8 @@ use Prim.Native.Nat.{ℕ, zero, suc, ◌<◌}
 use mathlib.Core.Path.{◌≡◌, refl, sym, ◌∙◌, ap}
 use mathlib.Core.Bool.{Bool, true, ◌||◌}
 use mathlib.Core.Logic.{◌⊎◌, inl, inr}
-use mathlib.Core.Option.{Option, none, some, some-injective}
+use Rattle.std.specs.Prelude.{Option, None, Some}
+use Rattle.std.proofs.lemmas.Option.{same_Some}
 use Rattle.answers.proofs.Bools.{clash, or_cases, or_left, or_right}
 use Rattle.rules.specs.declared.Direction.{Direction}
 use Rattle.rules.specs.declared.Direction.TheVariants.{East as east}
@@ -19,12 +20,12 @@ use Rattle.encoder_theory.proofs.Flow.{Flow, Distance}
 
 -- goes x d: the loop goes from x in direction d
 pub record Oriented (size : ℕ) (next : Direction → ℕ → Option ℕ) (white : ℕ → Bool) (goes : ℕ → Direction → Bool) : Type 0 where
-  pub leads : (x : ℕ) (d : Direction) → goes x d ≡ true → (y : ℕ) × (next d x ≡ some y) × (white x ≡ true) × (white y ≡ true)
+  pub leads : (x : ℕ) (d : Direction) → goes x d ≡ true → (y : ℕ) × (next d x ≡ Some y) × (white x ≡ true) × (white y ≡ true)
   pub out : (x : ℕ) → x < size → white x ≡ true → (d : Direction) × (goes x d ≡ true)
   pub out_one : (x : ℕ) (d e : Direction) → goes x d ≡ true → goes x e ≡ true → d ≡ e
-  pub into : (x : ℕ) → x < size → white x ≡ true → (d : Direction) × (y : ℕ) × (next d x ≡ some y) × (goes y (opposite d) ≡ true)
-  pub in_one : (x : ℕ) (d e : Direction) (y z : ℕ) → next d x ≡ some y → goes y (opposite d) ≡ true → next e x ≡ some z → goes z (opposite e) ≡ true → d ≡ e
-  pub one_way : (x : ℕ) (d : Direction) (y : ℕ) → next d x ≡ some y → goes x d ≡ true → goes y (opposite d) ≡ true → ⊥
+  pub into : (x : ℕ) → x < size → white x ≡ true → (d : Direction) × (y : ℕ) × (next d x ≡ Some y) × (goes y (opposite d) ≡ true)
+  pub in_one : (x : ℕ) (d e : Direction) (y z : ℕ) → next d x ≡ Some y → goes y (opposite d) ≡ true → next e x ≡ Some z → goes z (opposite e) ≡ true → d ≡ e
+  pub one_way : (x : ℕ) (d : Direction) (y : ℕ) → next d x ≡ Some y → goes x d ≡ true → goes y (opposite d) ≡ true → ⊥
 
 -- Q x k: s is k links ahead of x; k stays below a bound
 pub record Counted (size : ℕ) (next : Direction → ℕ → Option ℕ) (white : ℕ → Bool) (goes : ℕ → Direction → Bool) (s bound : ℕ)
@@ -33,7 +34,7 @@ pub record Counted (size : ℕ) (next : Direction → ℕ → Option ℕ) (white
   pub begins : Q s 0
   pub ends : (x : ℕ) → Q x 0 → x ≡ s
   pub none_black : (k : ℕ) → Q s (suc k) → ⊥
-  pub falls : (x : ℕ) (d : Direction) (y k : ℕ) → goes x d ≡ true → next d x ≡ some y → Q x (suc k) → Q y k
+  pub falls : (x : ℕ) (d : Direction) (y k : ℕ) → goes x d ≡ true → next d x ≡ Some y → Q x (suc k) → Q y k
 
 -- the loop leaves s eastward
 pub record Sent (size : ℕ) (next : Direction → ℕ → Option ℕ) (white : ℕ → Bool) (s bound : ℕ) (goes : ℕ → Direction → Bool) (Q : ℕ → ℕ → Type 0) : Type 0 where
@@ -43,19 +44,19 @@ pub record Sent (size : ℕ) (next : Direction → ℕ → Option ℕ) (white : 
 
 -- it comes from the neighbour in direction d
 abbrev Comes : (Direction → ℕ → Option ℕ) → (ℕ → Direction → Bool) → ℕ → Direction → Type 0
-Comes next goes x d = (y : ℕ) × (next d x ≡ some y) × (goes y (opposite d) ≡ true)
+Comes next goes x d = (y : ℕ) × (next d x ≡ Some y) × (goes y (opposite d) ≡ true)
 
 -- a link is drawn where it goes either way
 abbrev pub link_of : (Direction → ℕ → Option ℕ) → (ℕ → Direction → Bool) → ℕ → Direction → Bool
 link_of next goes x d = goes x d || there (λ y. goes y (opposite d)) (next d x)
 
 module _ (next : Direction → ℕ → Option ℕ) (goes : ℕ → Direction → Bool) where
-  pub link_cases : (x : ℕ) (d : Direction) → link_of next goes x d ≡ true → (goes x d ≡ true) ⊎ ((y : ℕ) × (next d x ≡ some y) × (goes y (opposite d) ≡ true))
+  pub link_cases : (x : ℕ) (d : Direction) → link_of next goes x d ≡ true → (goes x d ≡ true) ⊎ ((y : ℕ) × (next d x ≡ Some y) × (goes y (opposite d) ≡ true))
   link_cases x d h = by (or_cases (goes x d) (there (λ y. goes y (opposite d)) (next d x)) h)
     where
       found : (o : Option ℕ) → next d x ≡ o → there (λ y. goes y (opposite d)) o ≡ true → Comes next goes x d
-      found none e h = clash h refl
-      found (some y) e h = (y, e, h)
+      found None e h = clash h refl
+      found (Some y) e h = (y, e, h)
 
       by : (goes x d ≡ true) ⊎ (there (λ y. goes y (opposite d)) (next d x) ≡ true) → (goes x d ≡ true) ⊎ Comes next goes x d
       by (inl g) = inl g
@@ -64,7 +65,7 @@ module _ (next : Direction → ℕ → Option ℕ) (goes : ℕ → Direction →
   pub link_out : (x : ℕ) (d : Direction) → goes x d ≡ true → link_of next goes x d ≡ true
   link_out x d h = or_left (goes x d) (there (λ y. goes y (opposite d)) (next d x)) h
 
-  pub link_in : (x : ℕ) (d : Direction) (y : ℕ) → next d x ≡ some y → goes y (opposite d) ≡ true → link_of next goes x d ≡ true
+  pub link_in : (x : ℕ) (d : Direction) (y : ℕ) → next d x ≡ Some y → goes y (opposite d) ≡ true → link_of next goes x d ≡ true
   link_in x d y e h = or_right (goes x d) (there (λ y. goes y (opposite d)) (next d x)) (ap (there (λ y. goes y (opposite d))) e ∙ h)
 
 module _ {size : ℕ} {next : Direction → ℕ → Option ℕ} {white : ℕ → Bool} {goes : ℕ → Direction → Bool} (B : Wired size next)
@@ -81,7 +82,7 @@ module _ {size : ℕ} {next : Direction → ℕ → Option ℕ} {white : ℕ →
         two = two;
       }
     where
-      matched : (x : ℕ) (d : Direction) → (goes x d ≡ true) ⊎ Comes next goes x d → (y : ℕ) × (next d x ≡ some y) × (link y (opposite d) ≡ true)
+      matched : (x : ℕ) (d : Direction) → (goes x d ≡ true) ⊎ Comes next goes x d → (y : ℕ) × (next d x ≡ Some y) × (link y (opposite d) ≡ true)
       matched x d (inl g) =
           let w = O.leads x d g in (w.0, w.1, link_in next goes w.0 (opposite d) x (B.back d x w.0 w.1) (rw (opposite-opposite d) g))
       matched x d (inr w) = (w.0, w.1, link_out next goes w.0 (opposite d) w.2)
@@ -89,7 +90,7 @@ module _ {size : ℕ} {next : Direction → ℕ → Option ℕ} {white : ℕ →
       at_white : (x : ℕ) (d : Direction) → (goes x d ≡ true) ⊎ Comes next goes x d → white x ≡ true
       at_white x d (inl g) = (O.leads x d g).2
       at_white x d (inr w) =
-          let v = O.leads w.0 (opposite d) w.2 in ap white (some-injective x v.0 (sym (B.back d x w.0 w.1) ∙ v.1)) ∙ v.3
+          let v = O.leads w.0 (opposite d) w.2 in ap white (same_Some x v.0 (sym (B.back d x w.0 w.1) ∙ v.1)) ∙ v.3
 
       two : (x : ℕ) → x < size → white x ≡ true → degree (link x) ≡ 2
       two x h w =
@@ -99,7 +100,7 @@ module _ {size : ℕ} {next : Direction → ℕ → Option ℕ} {white : ℕ →
           a : (d : Direction) × (goes x d ≡ true)
           a = O.out x h w
 
-          b : (d : Direction) × (y : ℕ) × (next d x ≡ some y) × (goes y (opposite d) ≡ true)
+          b : (d : Direction) × (y : ℕ) × (next d x ≡ Some y) × (goes y (opposite d) ≡ true)
           b = O.into x h w
 
           apart : a.0 ≡ b.0 → ⊥

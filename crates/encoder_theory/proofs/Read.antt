@@ -3,7 +3,8 @@ use Prim.Native.Nat.{ℕ, suc, ◌-◌, ◌<◌}
 use native.Mathlib.Omega.{arith}
 use mathlib.Core.Path.{◌≡◌, refl, sym, ◌∙◌, ap}
 use mathlib.Core.Bool.{Bool, true, false, not, ◌&&◌}
-use mathlib.Core.Option.{some, some-injective}
+use Rattle.std.specs.Prelude.{Some}
+use Rattle.std.proofs.lemmas.Option.{same_Some}
 use mathlib.Core.List.Memᴰ
 use mathlib.Core.List.{List, [], ◌∷◌, map}
 use Rattle.answers.specs.First.{Least}
@@ -40,9 +41,9 @@ of_white b black x h = by (b.is_open x) (black x) h
     by false c h = clash h refl
 
 -- what holds of each cell and its east and south neighbour, and then of the neighbour and the cell, holds in every direction
-either_way : {b : Board} → Laws b → (P : Direction → ℕ → ℕ → Type 0) → ((d : Direction) → d ∈ east_south → (x y : ℕ) → b.next d x ≡ some y → P d x y)
+either_way : {b : Board} → Laws b → (P : Direction → ℕ → ℕ → Type 0) → ((d : Direction) → d ∈ east_south → (x y : ℕ) → b.next d x ≡ Some y → P d x y)
     → ((d : Direction) (x y : ℕ) → P (opposite d) y x → P d x y)
-    → (d : Direction) (x y : ℕ) → b.next d x ≡ some y → P d x y
+    → (d : Direction) (x y : ℕ) → b.next d x ≡ Some y → P d x y
 either_way law P f turned north x y e = turned north x y (f south (Memᴰ.tail (Memᴰ.head refl)) y x (law.wired.back north x y e))
 either_way law P f turned east x y e = f east (Memᴰ.head refl) x y e
 either_way law P f turned south x y e = f south (Memᴰ.tail (Memᴰ.head refl)) x y e
@@ -76,23 +77,23 @@ module _ (b : Board) (law : Laws b) (w : Variable → Bool) (proper : Proper b w
   clue-at c m = each_at (Sat w) (clue_clauses b.is_open) all_families.1.0 m
 
   -- an open neighbour in its list
-  beside : (x : ℕ) (d : Direction) (y : ℕ) (ds : List Direction) → d ∈ ds → b.next d x ≡ some y → b.is_open y ≡ true
+  beside : (x : ℕ) (d : Direction) (y : ℕ) (ds : List Direction) → d ∈ ds → b.next d x ≡ Some y → b.is_open y ≡ true
       → record { way = d; cell = y } ∈ neighbours b x ds
   beside x d y ds m e h = in_neighbours b x ds (record { way = d; cell = y }) m (record { leads = e; opened = h })
 
   -- 1. Touching
-  touch_at : (d : Direction) → d ∈ east_south → (x y : ℕ) → b.next d x ≡ some y → w (Z x) ≡ true → w (Z y) ≡ true → ⊥
+  touch_at : (d : Direction) → d ∈ east_south → (x y : ℕ) → b.next d x ≡ Some y → w (Z x) ≡ true → w (Z y) ≡ true → ⊥
   touch_at d m x y e h k =
       not-both w (Z x) (Z y)
       (map_at (Sat w) (touch x) (each_at (Sat w) (touching_at b) all_families.0 (in_opens b law (proper (Z x) h)))
       (beside x d y east_south m e (proper (Z y) k)))
       h k
 
-  pub untouched : (d : Direction) (x y : ℕ) → b.next d x ≡ some y → w (Z x) ≡ true → w (Z y) ≡ true → ⊥
+  pub untouched : (d : Direction) (x y : ℕ) → b.next d x ≡ Some y → w (Z x) ≡ true → w (Z y) ≡ true → ⊥
   untouched = either_way law (λ d x y. w (Z x) ≡ true → w (Z y) ≡ true → ⊥) touch_at (λ d x y f h k. f k h)
 
   -- 3. Links: one way out, one way in
-  leads : (x : ℕ) (d : Direction) → goes x d ≡ true → (y : ℕ) × (b.next d x ≡ some y) × (bright x ≡ true) × (bright y ≡ true)
+  leads : (x : ℕ) (d : Direction) → goes x d ≡ true → (y : ℕ) × (b.next d x ≡ Some y) × (bright x ≡ true) × (bright y ≡ true)
   leads x d h =
       let (o, (y, e, p)) = proper (E x d) h in
       let c = each_at (Sat w) (both_white x) (links-at x o).0 (beside x d y directions (in_directions d) e p) in (
@@ -109,7 +110,7 @@ module _ (b : Board) (law : Laws b) (w : Variable → Bool) (proper : Proper b w
       let q = Memᴰ.of_map (out x) (neighbours b x directions) r.1 in
       (q.0.way, ap w q.2 ∙ r.2)
 
-  way_in : (x : ℕ) → bright x ≡ true → (d : Direction) × (y : ℕ) × (b.next d x ≡ some y) × (goes y (opposite d) ≡ true)
+  way_in : (x : ℕ) → bright x ≡ true → (d : Direction) × (y : ℕ) × (b.next d x ≡ Some y) × (goes y (opposite d) ≡ true)
   way_in x h =
       let o = of_white b black x h in
       let r = some_plus w (incoming b x) (next-plus w (Z x) (map plus (incoming b x)) (links-at x o.0).1.1.1.0.0 o.1) in
@@ -123,23 +124,23 @@ module _ (b : Board) (law : Laws b) (w : Variable → Bool) (proper : Proper b w
   out_one x d e h k = e_way x x d e (at_most_one w (links-at x (proper (E x d) h).0).1.1.0 (in_out x d h) (in_out x e k) h k)
 
   -- the cell that a way in leads to is open
-  end_open : (x : ℕ) (d : Direction) (y : ℕ) → b.next d x ≡ some y → goes y (opposite d) ≡ true → b.is_open x ≡ true
-  end_open x d y e h = let (o, (z, f, p)) = proper (E y (opposite d)) h in ap b.is_open (some-injective x z (sym (law.wired.back d x y e) ∙ f)) ∙ p
+  end_open : (x : ℕ) (d : Direction) (y : ℕ) → b.next d x ≡ Some y → goes y (opposite d) ≡ true → b.is_open x ≡ true
+  end_open x d y e h = let (o, (z, f, p)) = proper (E y (opposite d)) h in ap b.is_open (same_Some x z (sym (law.wired.back d x y e) ∙ f)) ∙ p
 
-  in_in : (x : ℕ) (d : Direction) (y : ℕ) → b.next d x ≡ some y → goes y (opposite d) ≡ true → E y (opposite d) ∈ incoming b x
+  in_in : (x : ℕ) (d : Direction) (y : ℕ) → b.next d x ≡ Some y → goes y (opposite d) ≡ true → E y (opposite d) ∈ incoming b x
   in_in x d y e h = Memᴰ.map back (beside x d y directions (in_directions d) e (proper (E y (opposite d)) h).0)
 
-  in_one : (x : ℕ) (d e : Direction) (y z : ℕ) → b.next d x ≡ some y → goes y (opposite d) ≡ true → b.next e x ≡ some z → goes z (opposite e) ≡ true → d ≡ e
+  in_one : (x : ℕ) (d e : Direction) (y z : ℕ) → b.next d x ≡ Some y → goes y (opposite d) ≡ true → b.next e x ≡ Some z → goes z (opposite e) ≡ true → d ≡ e
   in_one x d e y z p h q k =
       opposite_injective d e
       (e_way y z (opposite d) (opposite e) (at_most_one w (links-at x (end_open x d y p h)).1.1.1.1.0 (in_in x d y p h) (in_in x e z q k) h k))
 
-  one_way_at : (d : Direction) → d ∈ east_south → (x y : ℕ) → b.next d x ≡ some y → goes x d ≡ true → goes y (opposite d) ≡ true → ⊥
+  one_way_at : (d : Direction) → d ∈ east_south → (x y : ℕ) → b.next d x ≡ Some y → goes x d ≡ true → goes y (opposite d) ≡ true → ⊥
   one_way_at d m x y e h k =
       not-both w (E x d) (E y (opposite d))
       (map_at (Sat w) (one_way x) (links-at x (proper (E x d) h).0).1.1.1.1.1.0 (beside x d y east_south m e (proper (E y (opposite d)) k).0)) h k
 
-  one_way_lem : (d : Direction) (x y : ℕ) → b.next d x ≡ some y → goes x d ≡ true → goes y (opposite d) ≡ true → ⊥
+  one_way_lem : (d : Direction) (x y : ℕ) → b.next d x ≡ Some y → goes x d ≡ true → goes y (opposite d) ≡ true → ⊥
   one_way_lem = either_way law (λ d x y. goes x d ≡ true → goes y (opposite d) ≡ true → ⊥) one_way_at (λ d x y f h k. f k (rw (opposite-opposite d) h))
 
   oriented : Oriented b.size b.next bright goes
@@ -206,10 +207,10 @@ module _ (b : Board) (law : Laws b) (w : Variable → Bool) (proper : Proper b w
       none_black : (k : ℕ) → w (Q s (suc k)) ≡ true → ⊥
       none_black k q = not-both w (S s) (Q s (suc k)) (map_at (Sat w) (not_ahead s) (distance-at s (proper (S s) h)).1.1.1.0 (in_one s k q)) h q
 
-      falls : (x : ℕ) (d : Direction) (y k : ℕ) → goes x d ≡ true → b.next d x ≡ some y → w (Q x (suc k)) ≡ true → w (Q y k) ≡ true
+      falls : (x : ℕ) (d : Direction) (y k : ℕ) → goes x d ≡ true → b.next d x ≡ Some y → w (Q x (suc k)) ≡ true → w (Q y k) ≡ true
       falls x d y k g e q =
           let (o, (z, f, p)) = proper (E x d) g in
-          let r : b.is_open y ≡ true = ap b.is_open (some-injective y z (sym e ∙ f)) ∙ p in
+          let r : b.is_open y ≡ true = ap b.is_open (same_Some y z (sym e ∙ f)) ∙ p in
           let i : suc k - 1 ≡ k = omega arith in
           let to-y = each_at (Sat w) (nearer_each b x) (distance-at x o).1.1.1.1.0 (beside x d y directions (in_directions d) e r) in
           let c = map_at (Sat w) (nearer x (record { way = d; cell = y })) to-y (in_one x k q) in

@@ -8,7 +8,8 @@ use borrow.Author.Tests.{eqb-true, eq-eqb}
 use mathlib.Core.Path.{◌≡◌, refl, sym, ◌∙◌, ap}
 use mathlib.Core.Bool.{Bool, true, false, ◌&&◌, ◌||◌}
 use mathlib.Core.Logic.{◌⊎◌, inl, inr, ◌↔◌}
-use mathlib.Core.Option.{Option, some, some-injective}
+use Rattle.std.specs.Prelude.{Option, Some}
+use Rattle.std.proofs.lemmas.Option.{same_Some}
 use Rattle.answers.specs.First.{Least}
 use Rattle.answers.proofs.Bools.{clash, and_both, both_and, or_cases, or_left, or_right, same_tests}
 use Rattle.rules.specs.declared.Direction.{Direction}
@@ -122,12 +123,12 @@ module _ {size : ℕ} {next : Direction → ℕ → Option ℕ} {white : ℕ →
   unfolding walk
   came_by k = other-other RR _ _ (RR.met _ _ (pass_linked B L F k))
 
-  back_step : (k : ℕ) → next (opposite (at k).way) (at (suc k)).cell ≡ some (at k).cell
+  back_step : (k : ℕ) → next (opposite (at k).way) (at (suc k)).cell ≡ Some (at k).cell
   back_step k = B.back _ _ _ (pass_steps B L F k)
 
   -- the next cell after an index where the walk is at x and goes d
-  onward : (k x y : ℕ) (d : Direction) → (at k).cell ≡ x → (at k).way ≡ d → next d x ≡ some y → (at (suc k)).cell ≡ y
-  onward k x y d e f h = some-injective _ _ (sym (pass_steps B L F k) ∙ (λ t. next (f t) (e t)) ∙ h)
+  onward : (k x y : ℕ) (d : Direction) → (at k).cell ≡ x → (at k).way ≡ d → next d x ≡ Some y → (at (suc k)).cell ≡ y
+  onward k x y d e f h = same_Some _ _ (sym (pass_steps B L F k) ∙ (λ t. next (f t) (e t)) ∙ h)
 
   at_home : (at steps).cell ≡ s
   at_home = ap (λ (z : State). z.cell) W.closed
@@ -161,7 +162,7 @@ module _ {size : ℕ} {next : Direction → ℕ → Option ℕ} {white : ℕ →
         one_way = one_way;
       }
     where
-      leads : (x : ℕ) (d : Direction) → runs x d ≡ true → (y : ℕ) × (next d x ≡ some y) × (white x ≡ true) × (white y ≡ true)
+      leads : (x : ℕ) (d : Direction) → runs x d ≡ true → (y : ℕ) × (next d x ≡ Some y) × (white x ≡ true) × (white y ≡ true)
       leads x d h =
           let v = goes_from x d h in (
             (at (suc v.0)).cell,
@@ -176,7 +177,7 @@ module _ {size : ℕ} {next : Direction → ℕ → Option ℕ} {white : ℕ →
           let w = goes_from x e k in
           sym v.3 ∙ ap (λ (z : State). z.way) (one_state v.0 w.0 (v.2 ∙ sym w.2)) ∙ w.3
 
-      into : (x : ℕ) → x < size → white x ≡ true → (d : Direction) × (y : ℕ) × (next d x ≡ some y) × (runs y (opposite d) ≡ true)
+      into : (x : ℕ) → x < size → white x ≡ true → (d : Direction) × (y : ℕ) × (next d x ≡ Some y) × (runs y (opposite d) ≡ true)
       into x h w =
           let v = from_one x h w in (
             opposite (at v.0).way,
@@ -185,7 +186,7 @@ module _ {size : ℕ} {next : Direction → ℕ → Option ℕ} {white : ℕ →
             goes_at v.0 _ _ v.1 refl (sym (opposite-opposite (at v.0).way)),
           )
 
-      in_one : (x : ℕ) (d e : Direction) (y z : ℕ) → next d x ≡ some y → runs y (opposite d) ≡ true → next e x ≡ some z → runs z (opposite e) ≡ true → d ≡ e
+      in_one : (x : ℕ) (d e : Direction) (y z : ℕ) → next d x ≡ Some y → runs y (opposite d) ≡ true → next e x ≡ Some z → runs z (opposite e) ≡ true → d ≡ e
       in_one x d e y z p h q k =
           let v = goes_from y (opposite d) h in
           let w = goes_from z (opposite e) k in
@@ -195,7 +196,7 @@ module _ {size : ℕ} {next : Direction → ℕ → Option ℕ} {white : ℕ →
           opposite_injective d e
           (sym v.3 ∙ opposite_injective _ _ (sym (came_by v.0) ∙ (λ t. other (link (c t).cell) (c t).way) ∙ came_by w.0) ∙ w.3)
 
-      one_way : (x : ℕ) (d : Direction) (y : ℕ) → next d x ≡ some y → runs x d ≡ true → runs y (opposite d) ≡ true → ⊥
+      one_way : (x : ℕ) (d : Direction) (y : ℕ) → next d x ≡ Some y → runs x d ≡ true → runs y (opposite d) ≡ true → ⊥
       one_way x d y p h k =
           let v = goes_from x d h in
           let w = goes_from y (opposite d) k in
@@ -226,7 +227,7 @@ module _ {size : ℕ} {next : Direction → ℕ → Option ℕ} {white : ℕ →
       linked : (y : ℕ) (e : Direction) → runs y e ≡ true → link y e ≡ true
       linked y e g = let v = goes_from y e g in (λ t. link (sym v.2 t) (sym v.3 t)) ∙ pass_linked B L F v.0
 
-      back : (runs x d ≡ true) ⊎ ((y : ℕ) × (next d x ≡ some y) × (runs y (opposite d) ≡ true)) → link x d ≡ true
+      back : (runs x d ≡ true) ⊎ ((y : ℕ) × (next d x ≡ Some y) × (runs y (opposite d) ≡ true)) → link x d ≡ true
       back (inl g) = linked x d g
       back (inr w) =
           let f : go next (opposite d) w.0 ≡ x = go_is next (opposite d) w.0 x (B.back d x w.0 w.1) in
@@ -257,7 +258,7 @@ module _ {size : ℕ} {next : Direction → ℕ → Option ℕ} {white : ℕ →
       none_black : (k : ℕ) → ahead s (suc k) ≡ true → ⊥
       none_black k h = let v = ahead_from s (suc k) h in let e = v.3 in W.fresh 0 (suc v.0) (omega arith) (omega arith) (sym v.2)
 
-      falls : (x : ℕ) (d : Direction) (y k : ℕ) → runs x d ≡ true → next d x ≡ some y → ahead x (suc k) ≡ true → ahead y k ≡ true
+      falls : (x : ℕ) (d : Direction) (y k : ℕ) → runs x d ≡ true → next d x ≡ Some y → ahead x (suc k) ≡ true → ahead y k ≡ true
       falls x d y k g p h =
           let v = ahead_from x (suc k) h in
           let e = v.3 in

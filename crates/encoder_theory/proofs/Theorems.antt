@@ -8,7 +8,9 @@ use borrow.Author.Tests.{le-ltb, lt-ltb, ltb-true, eqb-true, eq-eqb}
 use mathlib.Core.Path.{◌≡◌, refl, sym, ◌∙◌, ap, subst}
 use mathlib.Core.Bool.{Bool, true, false}
 use mathlib.Core.Logic.{◌↔◌}
-use mathlib.Core.Option.{Option, none, some, some-injective, some-ne-none}
+use Rattle.std.specs.Prelude.{Option, None, Some}
+use Rattle.std.proofs.lemmas.Option.{same_Some}
+use Rattle.answers.proofs.Options.{some-none}
 use mathlib.Core.List.{List}
 use Rattle.answers.specs.First.{first_where, LeastWith}
 use Rattle.answers.specs.Lists.{All, ◌∈◌}
@@ -63,7 +65,7 @@ comes_from_only_one s acc ds a c h d k e =
 
 -- 3. V is at most 16,777,216 and the list gets no 16 for that V: search and writer never refuse a grid's clauses. First of any bounded board ..
 pub never_refused_on : {b : Board} → Laws b → BoundedBoard b
-    → (variable_count b ≤ most_variables) × (too_many_variables (variable_count b) ≡ false) × (wrong_list (variable_count b) (clause_list b) ≡ none)
+    → (variable_count b ≤ most_variables) × (too_many_variables (variable_count b) ≡ false) × (wrong_list (variable_count b) (clause_list b) ≡ None)
 never_refused_on {b} law bounded = let h = bounds.few_variables bounded in (h, le-ltb most_variables (variable_count b) h, bounds.list_not_wrong b law)
 
 -- .. as is that of each grid with sides to 45 and numbers to 44 ..
@@ -73,7 +75,7 @@ bounded_board = sizes.bounded_board
 -- .. and so of an accepted record.
 pub never_refused : (s : List ℕ) → IsAccepted s
     → (variable_count (board_of s) ≤ most_variables) × (too_many_variables (variable_count (board_of s)) ≡ false)
-    × (wrong_list (variable_count (board_of s)) (clause_list (board_of s)) ≡ none)
+    × (wrong_list (variable_count (board_of s)) (clause_list (board_of s)) ≡ None)
 never_refused s acc = never_refused_on (accepted_laws s acc) (sizes.accepted_bounded s acc)
 
 -- The number of clauses that the encoder tells is the number of those that its list has.
@@ -99,18 +101,18 @@ side_by_side s acc a h ds dec x d n inside is j t l k = (λ p. eqb-true _ t (sym
         ∙ ap (λ ds. eqb (blacks_nearest (black_at ds) (line (puzzle (grid_of s) s) d x) j) t) (handed s acc a h.gives dec)
 
 -- What stands beside 9: the number of the first variable whose value is not 0 or 1.
-pub value-place : (values : List ℕ) (n : ℕ) → wrong_value values ≡ some n ↔ FirstWrongValue values n
+pub value-place : (values : List ℕ) (n : ℕ) → wrong_value values ≡ Some n ↔ FirstWrongValue values n
 value-place values n = (to (first_where test (length values)) refl, of)
   where
     test : ℕ → Bool
     test i = ltb 1 (get_or values i 0)
 
-    place : (i : ℕ) → first_where test (length values) ≡ some i ↔ LeastWith (λ k. 1 < get_or values k 0) (length values) i
+    place : (i : ℕ) → first_where test (length values) ≡ Some i ↔ LeastWith (λ k. 1 < get_or values k 0) (length values) i
     place = first_with test _ (length values) (λ k h. (ltb-true 1 (get_or values k 0), lt-ltb 1 (get_or values k 0)))
 
-    to : (o : Option ℕ) → first_where test (length values) ≡ o → numbered o ≡ some n → FirstWrongValue values n
-    to none e h = absurd (some-ne-none n (sym h))
-    to (some i) e h = record { index = i; number = sym (some-injective (suc i) n h); first = (place i).0 e }
+    to : (o : Option ℕ) → first_where test (length values) ≡ o → numbered o ≡ Some n → FirstWrongValue values n
+    to None e h = absurd (some-none n (sym h))
+    to (Some i) e h = record { index = i; number = sym (same_Some (suc i) n h); first = (place i).0 e }
 
-    of : FirstWrongValue values n → wrong_value values ≡ some n
-    of w = ap numbered ((place w.index).1 w.first) ∙ ap some (sym w.number)
+    of : FirstWrongValue values n → wrong_value values ≡ Some n
+    of w = ap numbered ((place w.index).1 w.first) ∙ ap Some (sym w.number)

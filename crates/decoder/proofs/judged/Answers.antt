@@ -1,59 +1,30 @@
 -- `decoder::judged` meets its contract. Assumes nothing.
-use Prim.Native.Nat.{ℕ}
-use lib.ListN.{length, take}
-use mathlib.Core.Path.{◌≡◌, ◌∙◌, ap}
-use mathlib.Core.List.{List}
-use Rattle.answers.specs.Outcome.{Row, first_refusal}
-use Rattle.rules.specs.Record.{size}
-use Rattle.rules.specs.Board.{Board, grid_board}
-use Rattle.rules.specs.Judge.{rule_rows, judge_rows, says_yes}
-use Rattle.encoder.specs.Decoding.{value_of, drawn_at, decoded}
-use Rattle.answers.proofs.Elements.{made_long}
+use mathlib.Core.Path.{◌∙◌, ap}
+use Rattle.answers.proofs.Results.{handed_on}
+use Rattle.rules.specs.Read.{rules_board}
+use Rattle.rules.specs.Judge.{judge_rows}
+use Rattle.encoder.specs.Decoding.{decoded}
+use Rattle.decoder.specs.declared.DecodeRefusal.TheVariants.{Rule}
 use Rattle.decoder.specs.Answer.{decoded_outcome}
-use Rattle.decoder.proofs.Answers.{ends-refused, ends_yes, front, rules_left}
+use Rattle.decoder.proofs.Answers.{refused_left, yes_left, front, rules_left}
 use Rattle.decoder.proofs.judged.Goals as goal
 
-pub returns-in_default-clause-result_value : goal.returns-in_default-clause-result_value
-returns-in_default-clause-result_value c =
-    let b : Board = grid_board c.args.g c.args.«record».now in
-    let picture : List ℕ = decoded b c.args.values.now in
-    let rows : List Row = judge_rows b picture in
-    let long : length picture ≡ size c.args.g = made_long (drawn_at b (value_of b c.args.values.now)) (size c.args.g) in
-    let own : List ℕ = take c.size-n.result c.draw.new.drawing in
-    let drawn : own ≡ picture = front (drawn_at b (value_of b c.args.values.now)) (size c.args.g) _ c.size-n.ensures c.draw.ensures in
-    let outcome : decoded_outcome c.answer-answered.result ≡ first_refusal rows says_yes = c.answer-answered.ensures ∙ c.judge_rules-verdict.ensures ∙ ap (λ ds. first_refusal (rule_rows b ds) says_yes) drawn ∙ rules_left b picture long in
-    (ends-refused rows c.args.drawing.now picture c.in_default.field-0 (ap decoded_outcome c.in_default.is) outcome).0
-
-pub returns-in_default-clause-drawing_after : goal.returns-in_default-clause-drawing_after
-returns-in_default-clause-drawing_after c =
-    let b : Board = grid_board c.args.g c.args.«record».now in
-    let picture : List ℕ = decoded b c.args.values.now in
-    let rows : List Row = judge_rows b picture in
-    let long : length picture ≡ size c.args.g = made_long (drawn_at b (value_of b c.args.values.now)) (size c.args.g) in
-    let own : List ℕ = take c.size-n.result c.draw.new.drawing in
-    let drawn : own ≡ picture = front (drawn_at b (value_of b c.args.values.now)) (size c.args.g) _ c.size-n.ensures c.draw.ensures in
-    let outcome : decoded_outcome c.answer-answered.result ≡ first_refusal rows says_yes = c.answer-answered.ensures ∙ c.judge_rules-verdict.ensures ∙ ap (λ ds. first_refusal (rule_rows b ds) says_yes) drawn ∙ rules_left b picture long in
-    (ends-refused rows c.args.drawing.now picture c.in_default.field-0 (ap decoded_outcome c.in_default.is) outcome).1
+pub returns-in_err-judge_rules : goal.returns-in_err-judge_rules
+returns-in_err-judge_rules c =
+    let b = rules_board c.args.numbering.now.board in
+    let told = c.in_err-judge_rules.ensures ∙ rules_left b c.args.values.now _ c.size.ensures c.draw.ensures in
+    record {
+      result_value = ap decoded_outcome (handed_on _ c.from_residual.ensures.1) ∙ told;
+      drawing_after = refused_left (judge_rows b (decoded b c.args.values.now)) _ _ (Rule c.in_err-judge_rules.field-0.0) told;
+    }
 
 -- what is answered needs nothing of the copy
 pub returns-clause-result_value : goal.returns-clause-result_value
 returns-clause-result_value c =
-    let b : Board = grid_board c.args.g c.args.«record».now in
-    let picture : List ℕ = decoded b c.args.values.now in
-    let rows : List Row = judge_rows b picture in
-    let own : List ℕ = take c.size-n.result c.draw.new.drawing in
-    let drawn : own ≡ picture = front (drawn_at b (value_of b c.args.values.now)) (size c.args.g) _ c.size-n.ensures c.draw.ensures in
-    let long : length picture ≡ size c.args.g = made_long (drawn_at b (value_of b c.args.values.now)) (size c.args.g) in
-    let outcome : decoded_outcome c.answer-answered.result ≡ first_refusal rows says_yes = c.answer-answered.ensures ∙ c.judge_rules-verdict.ensures ∙ ap (λ ds. first_refusal (rule_rows b ds) says_yes) drawn ∙ rules_left b picture long in
-    outcome
+    c.in_ok-judge_rules.ensures ∙ rules_left (rules_board c.args.numbering.now.board) c.args.values.now _ c.size.ensures c.draw.ensures
 
 pub returns-clause-drawing_after : goal.returns-clause-drawing_after
 returns-clause-drawing_after c =
-    let b : Board = grid_board c.args.g c.args.«record».now in
-    let picture : List ℕ = decoded b c.args.values.now in
-    let rows : List Row = judge_rows b picture in
-    let own : List ℕ = take c.size-n.result c.draw.new.drawing in
-    let drawn : own ≡ picture = front (drawn_at b (value_of b c.args.values.now)) (size c.args.g) _ c.size-n.ensures c.draw.ensures in
-    let long : length picture ≡ size c.args.g = made_long (drawn_at b (value_of b c.args.values.now)) (size c.args.g) in
-    let outcome : decoded_outcome c.answer-answered.result ≡ first_refusal rows says_yes = c.answer-answered.ensures ∙ c.judge_rules-verdict.ensures ∙ ap (λ ds. first_refusal (rule_rows b ds) says_yes) drawn ∙ rules_left b picture long in
-    (ends_yes rows c.args.drawing.now picture (ap decoded_outcome c.in-Drawn.is) outcome (c.copy_from_slice.ensures.after ∙ drawn)).1
+    let b = rules_board c.args.numbering.now.board in
+    let told = c.in_ok-judge_rules.ensures ∙ rules_left b c.args.values.now _ c.size.ensures c.draw.ensures in
+    yes_left (judge_rows b (decoded b c.args.values.now)) _ _ told (c.copy_from_slice.ensures.after ∙ front b c.args.values.now _ c.size.ensures c.draw.ensures)

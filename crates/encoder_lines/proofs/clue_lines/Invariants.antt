@@ -1,15 +1,10 @@
--- `encoder_lines::clue_lines` meets its contract. Assumes nothing.
-use Prim.Native.Nat.{◌-◌}
-use Rattle.rules.specs.Record.{puzzle}
-use Rattle.rules.specs.Board.{grid_board}
+use Rattle.rules.specs.Read.{puzzle_on, rules_board}
+use Rattle.rules.specs.Record.{size}
 use Rattle.encoder.specs.Clauses.{list_of}
-use Rattle.encoder_shapes.proofs.Written.{Writing}
+use Rattle.encoder_shapes.proofs.Turns.{Turn}
 use Rattle.encoder_lines.specs.Line.{clue_at}
 use Rattle.encoder_lines.proofs.clue_lines.Given as goal
 
-abbrev pub invariant-loop-k : goal.invariant-loop-k
-invariant-loop-k l =
-    Writing l.initial.list l.at (λ x. list_of (grid_board l.g l.record) (clue_at (puzzle l.g l.record) x)) l.n l.list l.i l.k
-
-abbrev pub decreases-loop-k : goal.decreases-loop-k
-decreases-loop-k l = l.n - l.k
+abbrev pub invariant-loop-x : goal.invariant-loop-x
+invariant-loop-x l =
+    Turn l.initial.out l.out (λ x. list_of (rules_board l.numbering.board) (clue_at (puzzle_on l.numbering.board) x)) (size l.numbering.board.grid) l.x

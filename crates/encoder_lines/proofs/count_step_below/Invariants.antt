@@ -1,12 +1,8 @@
--- `encoder_lines::count_step_below` meets its contract. Assumes nothing.
-use Prim.Native.Nat.{◌+◌, ◌-◌}
+use Rattle.std.proofs.Common.{◌+◌}
 use Rattle.answers.specs.Lists.{joined}
-use Rattle.encoder_shapes.proofs.Written.{Writing}
+use Rattle.encoder_shapes.proofs.Turns.{Turn}
 use Rattle.encoder_lines.specs.Line.{count_step_both}
 use Rattle.encoder_lines.proofs.count_step_below.Given as goal
 
 abbrev pub invariant-loop-k : goal.invariant-loop-k
-invariant-loop-k l = Writing l.initial.list l.at (λ k. joined (count_step_both (l.row + k) l.z (l.next + k))) l.n l.list l.i l.k
-
-abbrev pub decreases-loop-k : goal.decreases-loop-k
-decreases-loop-k l = l.n - l.k
+invariant-loop-k l = Turn l.initial.out l.out (λ k. joined (count_step_both (l.row + k) l.z (l.next + k))) l.n l.k

@@ -4,9 +4,9 @@ use Rattle.encoder_size.proofs.at_open.Goals as goal
 
 pub open_amount-requires-clause-f_nonzero : goal.open_amount-requires-clause-f_nonzero
 open_amount-requires-clause-f_nonzero c =
-    (open_asks c.requires.record_fits c.requires.x_bound.0 c.requires.x_bound.1 c.requires.f_value.0 c.requires.f_value.1 c.neighbour_count-neighbours.ensures c.open_there-east.ensures c.open_there-south.ensures).0
+    (open_asks c.args.board.now.fits c.requires.x_bound.0 c.requires.x_bound.1 c.requires.f_value.0 c.requires.f_value.1 c.neighbour_count-neighbours.ensures c.open_there-east.ensures c.open_there-south.ensures).0
 
 pub returns : goal.returns
 returns c =
-    open_counted c.requires.record_fits c.requires.x_bound.0 c.requires.x_bound.1 c.requires.f_value.0 c.requires.f_value.1 c.neighbour_count-neighbours.ensures c.open_there-east.ensures
+    open_counted c.args.board.now.fits c.requires.x_bound.0 c.requires.x_bound.1 c.requires.f_value.0 c.requires.f_value.1 c.neighbour_count-neighbours.ensures c.open_there-east.ensures
     c.open_there-south.ensures c.open_amount.ensures

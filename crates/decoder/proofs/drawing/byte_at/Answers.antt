@@ -1,34 +1,26 @@
 -- `decoder::drawing::byte_at` meets its contract. Assumes nothing.
-use mathlib.Core.Path.{◌≡◌, sym, ◌∙◌}
-use mathlib.Core.Bool.{Bool}
-use Rattle.rules.specs.Board.{Board, grid_board}
-use Rattle.encoder.specs.Variables.{Variable, Z, variables, place}
+use mathlib.Core.Path.{sym}
+use Rattle.rules.specs.Read.{rules_board}
+use Rattle.encoder.specs.Variables.{Z}
 use Rattle.encoder.specs.Decoding.{value_of}
-use Rattle.encoder_numbers.specs.Tables.{OpenCell}
 use Rattle.decoder.proofs.Values.{known_inside, value_true, value_false, at_z, byte_black, byte_white}
 use Rattle.decoder.proofs.drawing.byte_at.Goals as goal
 
 pub bounds-values-z : goal.bounds-values-z
 bounds-values-z c =
-    let open-here : OpenCell c.args.g c.args.«record».now c.args.x = record { inside = c.requires.x_bound; opened = sym c.is_open-open.ensures ∙ c.if-not-open.false } in
-    let b : Board = grid_board c.args.g c.args.«record».now in
-    let z-at : c.sizes_below-below.result.opens ≡ place (Z c.args.x) (variables b) = at_z c.requires.valued c.args.x open-here.opened c.sizes_below-below.ensures in
-    known_inside c.requires.valued (Z c.args.x) open-here.opened z-at
+    let opened = sym c.if-not-is_open.ensures in
+    known_inside c.args.numbering.now.board c.args.values.now c.requires.valued (Z c.args.x) opened (at_z c.args.numbering.now.board c.args.values.now c.requires.valued c.args.x opened c.sizes_below-z.ensures)
 
 pub returns-then-values-z-eq1 : goal.returns-then-values-z-eq1
 returns-then-values-z-eq1 c =
-    let b : Board = grid_board c.args.g c.args.«record».now in
-    let w : Variable → Bool = value_of b c.args.values.now in
-    let open-here : OpenCell c.args.g c.args.«record».now c.args.x = record { inside = c.requires.x_bound; opened = sym c.is_open-open.ensures ∙ c.if-not-open.false } in
-    let z-at : c.sizes_below-below.result.opens ≡ place (Z c.args.x) (variables b) = at_z c.requires.valued c.args.x open-here.opened c.sizes_below-below.ensures in
-    byte_black b w c.args.x open-here.opened c.link_sum-links.ensures
-    (value_true c.requires.valued (Z c.args.x) z-at c.if-values-z-eq1.true)
+    let b = rules_board c.args.numbering.now.board in
+    let opened = sym c.if-not-is_open.ensures in
+    let z = at_z c.args.numbering.now.board c.args.values.now c.requires.valued c.args.x opened c.sizes_below-z.ensures in
+    byte_black b (value_of b c.args.values.now) c.args.x opened c.link_sum-links.ensures (value_true c.args.numbering.now.board c.args.values.now c.requires.valued (Z c.args.x) z c.if-values-z-eq1.true)
 
-pub returns : goal.returns
-returns c =
-    let b : Board = grid_board c.args.g c.args.«record».now in
-    let w : Variable → Bool = value_of b c.args.values.now in
-    let open-here : OpenCell c.args.g c.args.«record».now c.args.x = record { inside = c.requires.x_bound; opened = sym c.is_open-open.ensures ∙ c.if-not-open.false } in
-    let z-at : c.sizes_below-below.result.opens ≡ place (Z c.args.x) (variables b) = at_z c.requires.valued c.args.x open-here.opened c.sizes_below-below.ensures in
-    byte_white b w c.args.x open-here.opened c.link_sum-links.ensures
-    (value_false c.requires.valued (Z c.args.x) z-at c.if-values-z-eq1.false)
+pub returns-else-values-z-eq1 : goal.returns-else-values-z-eq1
+returns-else-values-z-eq1 c =
+    let b = rules_board c.args.numbering.now.board in
+    let opened = sym c.if-not-is_open.ensures in
+    let z = at_z c.args.numbering.now.board c.args.values.now c.requires.valued c.args.x opened c.sizes_below-z.ensures in
+    byte_white b (value_of b c.args.values.now) c.args.x opened c.link_sum-links.ensures (value_false c.args.numbering.now.board c.args.values.now c.requires.valued (Z c.args.x) z c.if-values-z-eq1.false)
