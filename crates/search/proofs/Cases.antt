@@ -1,7 +1,7 @@
 -- The starred lists hold, those of E9, and the calls of E10. Each is computed.
 use mathlib.Core.Path.{◌≡◌, refl}
 use lib.IntN.{pos, negsuc}
-use mathlib.Core.Option.{some}
+use Rattle.std.specs.Prelude.{Some}
 use mathlib.Core.List.{[], ◌∷◌, map}
 use Rattle.answers.specs.First.{first_from}
 use Rattle.answers.specs.Lists.{All}
@@ -25,6 +25,6 @@ number_cases_hold =
     (refl, (refl, (refl, (refl, (refl, (refl, (refl, (refl, (refl, (refl, (refl, (refl, (refl, (refl, (refl, (refl, (refl, (refl, tt))))))))))))))))))
 
 -- undoing takes the number away, whatever it was
-pub negated_unnumbered : undo (entry (pos 1) 1 5 ∷ []) ≡ some (entry (negsuc 0) 0 0 ∷ [])
+pub negated_unnumbered : undo (entry (pos 1) 1 5 ∷ []) ≡ Some (entry (negsuc 0) 0 0 ∷ [])
 unfolding undo
 negated_unnumbered = refl

@@ -1,6 +1,5 @@
 -- The calls of the search: what they get, their rows of "Turned down", and what they hand out. `next` of document 02's E1 gets what the search gets.
-use Rattle.std.specs.Prelude.{ℕ, eqb, ltb, ℤ, nat_abs, length, ◌≡◌, Bool, true, false, not, ◌||◌, List, [], ◌∷◌, ◌++◌}
-use Rattle.std.proofs.Math.Option.{Option, none, some}
+use Rattle.std.specs.Prelude.{ℕ, eqb, ltb, ℤ, nat_abs, length, ◌≡◌, Bool, true, false, not, ◌||◌, List, [], ◌∷◌, ◌++◌, Option, None, is_some}
 use Rattle.answers.specs.Lists.{All}
 use Rattle.answers.specs.declared.Outcome.{Outcome}
 use Rattle.answers.specs.First.{first_where}
@@ -42,8 +41,7 @@ abbrev pub wrong_entry_at : ℕ → Slices → ℕ → Bool
 wrong_entry_at v s i = wrong_entry v (trail_of s i) (entry_at s i)
 
 abbrev pub is_found : Option ℕ → Bool
-is_found none = false
-is_found (some i) = true
+is_found place = is_some place
 
 -- 20: trail not full, or some clause untrue under it: under a full trail that is one whose literals are all false
 abbrev pub untrue : ℕ → List ℤ → Slices → ℕ → Bool
@@ -81,7 +79,7 @@ comes_to Following v ls budget t = following v ls budget t
 module _ (x : Call) (s : Search) where
   -- a call takes what it gets if no row has its cause
   pub record IsTaken : Type 0 where
-    pub clear : All (λ (r : Row). r.beside ≡ none) (rows_of s x)
+    pub clear : All (λ (r : Row). r.beside ≡ None) (rows_of s x)
 
   module _ (budget : ℕ) where
     abbrev pub runs : Done

@@ -1,6 +1,5 @@
 -- Document 02, E10, "The clause behind each entry": the clause of an entry's number, and row 22 of "Turned down".
-use Rattle.std.specs.Prelude.{ℕ, ◌-◌, eqb, ℤ, length, drop, Bool, not, ◌&&◌, ◌||◌, List}
-use Rattle.std.proofs.Math.Option.{Option}
+use Rattle.std.specs.Prelude.{ℕ, ◌-◌, eqb, ℤ, length, drop, Bool, not, ◌&&◌, ◌||◌, List, Option}
 use Rattle.answers.specs.First.{first_where, or_else}
 use Rattle.answers.specs.Outcome.{cause}
 use Rattle.cnf.specs.Literals.{code_of}

@@ -1,5 +1,5 @@
 -- Turns of the loop under a budget. Assumes nothing.
-use Prim.Native.Nat.{ℕ, zero, suc, ◌+◌, ◌-◌, ◌≤◌, ◌<◌}
+use Prim.Native.Nat.{ℕ, zero, suc, ◌+◌, ◌-◌, ◌<◌}
 use native.Mathlib.Omega.{arith}
 use lib.IntN.{ℤ}
 use lib.ListN.{length}
@@ -16,7 +16,7 @@ use Rattle.search_trail.proofs.WithTrail.{HasTrail, running_legal, length_runnin
 use Rattle.search_step.specs.declared.Stepped.{Stepped}
 use Rattle.search_step.specs.declared.Stepped.TheVariants.{MovedTo, Found as SaysFound, None as SaysNone}
 use Rattle.search_step.specs.Steps.{ListFits, StepHanded, answer_of, leaves, hands_next}
-use Rattle.search_step.proofs.Chosen.{step_legal, Standing}
+use Rattle.search_step.proofs.Chosen.{step_legal}
 use Rattle.search_call.specs.declared.Ending.{Ending as Answer}
 use Rattle.search_call.specs.declared.Ending.TheVariants.{Found as FoundAt, None as NoneAt, Halted as HaltedAt}
 use Rattle.search_call.specs.declared.End.{End}
@@ -51,25 +51,10 @@ has_trail_moved {v} {t = t} {u} {s} fits h q =
 
 -- n steps are made, and the rest of the budget leads to where the whole leads
 pub record Going (ls : List ℤ) (budget : ℕ) (s₀ : Slices) (first : ℕ) (s : Slices) (used n : ℕ) : Type 0 where
-  pub early : n ≤ budget
   pub listed : ListFits (length s₀.marks) ls
   pub running : Running (length s₀.marks) s used
   pub rest : counted n (run (length s₀.marks) ls (budget - n) (running_trail s used)) ≡ run (length s₀.marks) ls budget (running_trail s₀ first)
   pub left : run_leaves (length s₀.marks) ls (budget - n) (running_trail s used) s ≡ run_leaves (length s₀.marks) ls budget (running_trail s₀ first) s₀
-
-pub go-start : {ls : List ℤ} {budget : ℕ} {s : Slices} {first : ℕ} → Running (length s.marks) s first → ListFits (length s.marks) ls
-    → Going ls budget s first s first 0
-go-start {ls} {budget} {s} {first} r k =
-    let d : Done = run (length s.marks) ls budget (running_trail s first) in
-    let z : 0 + d.steps ≡ d.steps = omega arith in
-    let b : budget - 0 ≡ budget = omega arith in
-    record {
-      early = omega arith;
-      listed = k;
-      running = r;
-      rest = rw b (ap (λ (n : ℕ). ends d.ending n d.trail) z);
-      left = rw b refl;
-    }
 
 module _ {ls : List ℤ} {budget : ℕ} {s₀ : Slices} {first : ℕ} {s : Slices} {used n : ℕ} (g : Going ls budget s₀ first s used n) where
   abbrev v : ℕ
@@ -87,10 +72,6 @@ module _ {ls : List ℤ} {budget : ℕ} {s₀ : Slices} {first : ℕ} {s : Slice
   long : length s.marks ≡ v
   long = g.running.packed.bytes
 
-  pub go_standing : Standing ls s used
-  go_standing =
-      record { running = subst (λ (v : ℕ). Running v s used) (sym long) g.running; listed = subst (λ (v : ℕ). ListFits v ls) (sym long) g.listed }
-
   -- an answer at the trail as it is, with `after` left
   answers : {after : Slices} {m : ℕ} (x : Answer) → ends (ending_of x) m t ≡ whole → after ≡ whole_left
       → record { outcome = end_outcome (end_at x m used); slices = after } ≡ hands_run ls budget s₀ first
@@ -98,11 +79,11 @@ module _ {ls : List ℤ} {budget : ℕ} {s₀ : Slices} {first : ℕ} {s : Slice
       let outcome = ap (answer (ending_number (ending_of x)) m) (sym (length_running s used)) ∙ ap done_outcome e in
       (λ j. record { outcome = outcome j; slices = l j })
 
-  pub go_over : budget ≤ n → record { outcome = end_outcome (end_at HaltedAt n used); slices = s } ≡ hands_run ls budget s₀ first
+  pub go_over : n ≡ budget → record { outcome = end_outcome (end_at HaltedAt budget used); slices = s } ≡ hands_run ls budget s₀ first
   unfolding run run_leaves
   go_over h =
       let z : budget - n ≡ 0 = omega arith in
-      let q : n + 0 ≡ n = omega arith in
+      let q : n + 0 ≡ budget = omega arith in
       answers HaltedAt (rw q at (rw z at g.rest)) (rw z at g.left)
 
   module _ (h : n < budget) where
@@ -136,7 +117,6 @@ module _ {ls : List ℤ} {budget : ℕ} {s₀ : Slices} {first : ℕ} {s : Slice
           let d : Done = run v ls later w in
           let z : n + 1 + d.steps ≡ n + suc d.steps = omega arith in
           record {
-            early = omega arith;
             listed = g.listed;
             running = subst (Running v after) (sym p) k.running;
             rest = rw at (ap (λ (m : ℕ). ends d.ending m d.trail) z ∙ next_rest q);

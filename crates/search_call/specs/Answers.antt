@@ -1,4 +1,5 @@
 -- What the answers of the search tell, in document 01's numbers.
+use Rattle.std.specs.Prelude.{Result, Ok, Err}
 use Rattle.answers.specs.declared.Outcome.{Outcome}
 use Rattle.answers.specs.Outcome.{refusal, answer}
 use Rattle.search.specs.Run as meaning
@@ -8,10 +9,6 @@ use Rattle.search_call.specs.declared.Ending.TheVariants.{Found, None, Halted}
 use Rattle.search_call.specs.declared.End.{End}
 use Rattle.search_call.specs.declared.SearchRefusal.{SearchRefusal}
 use Rattle.search_call.specs.declared.SearchRefusal.TheVariants.{Lengths, List, Entry, Number, Untrue}
-use Rattle.search_call.specs.declared.Answer.{Answer}
-use Rattle.search_call.specs.declared.Answer.TheVariants.{Ended, Refused}
-use Rattle.search_call.specs.declared.Checked.{Checked}
-use Rattle.search_call.specs.declared.Checked.TheVariants.{Accepted, Refused as TurnedDown}
 
 abbrev pub ending_of : Ending → meaning.Ending
 ending_of Found = meaning.Found
@@ -30,11 +27,11 @@ search_refusal_outcome (Entry i) = refusal 18 i
 search_refusal_outcome (Number i) = refusal 22 i
 search_refusal_outcome Untrue = refusal 20 0
 
-abbrev pub answer_outcome : Answer → Outcome
-answer_outcome (Ended e) = end_outcome e
-answer_outcome (Refused r) = search_refusal_outcome r
+abbrev pub answer_outcome : Result End SearchRefusal → Outcome
+answer_outcome (Ok e) = end_outcome e
+answer_outcome (Err r) = search_refusal_outcome r
 
 -- where they are accepted the call goes on
-abbrev pub checked_tells : Checked → Outcome → Outcome
-checked_tells Accepted t = t
-checked_tells (TurnedDown r) t = search_refusal_outcome r
+abbrev pub checked_tells : Result Unit SearchRefusal → Outcome → Outcome
+checked_tells (Ok u) t = t
+checked_tells (Err r) t = search_refusal_outcome r

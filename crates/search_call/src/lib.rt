@@ -12,15 +12,15 @@ ghost use Rattle.search_step.specs.Steps.{ListFits};
 ghost use Rattle.search_call.specs.Answers.{ending_of, end_outcome, search_refusal_outcome, answer_outcome, checked_tells};
 ghost use Rattle.search_call.specs.Runs.{hands_run};
 
-use answers::{Outcome, Place, answered, refused};
+use answers::{Outcome, answered, refused};
 use cnf::wrong_list;
 use search_input::{first_wrong_entry, wrong_lengths};
 use search_numbers::wrong_numbers;
 use search_step::{Stepped, step};
-use search_trail::{clear_marks, clear_numbers, clear_trail, pack_values};
+use search_trail::{clear_from, clear_marks, pack_values};
 
 // The answers of the search.
-#[derive(Clone, Copy)]
+#[derive(Clone, Copy, Debug, PartialEq, Eq)]
 pub enum Ending {
     Found,
     None,
@@ -28,7 +28,7 @@ pub enum Ending {
 }
 
 // How a search ended: its answer, the steps that this call made, the used count.
-#[derive(Clone, Copy)]
+#[derive(Clone, Copy, Debug, PartialEq, Eq)]
 pub struct End {
     pub ending: Ending,
     pub steps: u64,
@@ -36,27 +36,13 @@ pub struct End {
 }
 
 // Why a call is turned down: 17, 16 and 18 of document 01's table, 22 of E10, and 20 of E1, which is `next`'s only.
-#[derive(Clone, Copy)]
+#[derive(Clone, Copy, Debug, PartialEq, Eq)]
 pub enum SearchRefusal {
     Lengths,
     List(usize),
     Entry(usize),
     Number(usize),
     Untrue,
-}
-
-// What a call of the search answers.
-#[derive(Clone, Copy)]
-pub enum Answer {
-    Ended(End),
-    Refused(SearchRefusal),
-}
-
-// Whether a list and a trail are accepted, or how they are refused.
-#[derive(Clone, Copy)]
-pub enum Checked {
-    Accepted,
-    Refused(SearchRefusal),
 }
 
 impl Ending {
@@ -72,39 +58,26 @@ impl Ending {
     }
 }
 
-impl End {
-    // Document 01's values.
-    pub fn outcome(self) -> Outcome
-        ensures { result ≡ end_outcome self }
-    {
-        let ending = self.ending;
-        answered(ending.number(), self.steps, self.used as u64)
+// Document 01's values.
+impl From<End> for Outcome {
+    ghost from_gives = { λ e t. t ≡ end_outcome e };
+
+    fn from(end: End) -> Outcome {
+        answered(end.ending.number(), end.steps, end.used as u64)
     }
 }
 
-impl SearchRefusal {
-    // Document 01's number, and the value beside it.
-    pub fn outcome(self) -> Outcome
-        ensures { result ≡ search_refusal_outcome self }
-    {
-        match self {
+// Document 01's number, and the value beside it.
+impl From<SearchRefusal> for Outcome {
+    ghost from_gives = { λ r t. t ≡ search_refusal_outcome r };
+
+    fn from(refusal: SearchRefusal) -> Outcome {
+        match refusal {
             SearchRefusal::Lengths => refused(17, 0),
             SearchRefusal::List(i) => refused(16, i as u64),
             SearchRefusal::Entry(i) => refused(18, i as u64),
             SearchRefusal::Number(i) => refused(22, i as u64),
             SearchRefusal::Untrue => refused(20, 0),
-        }
-    }
-}
-
-impl Answer {
-    // Document 01's number, and the values.
-    pub fn outcome(self) -> Outcome
-        ensures { result ≡ answer_outcome self }
-    {
-        match self {
-            Answer::Ended(e) => e.outcome(),
-            Answer::Refused(r) => r.outcome(),
         }
     }
 }
@@ -117,27 +90,24 @@ pub fn check(
     marks: &[u8],
     numbers: &[u64],
     used: usize,
-) -> Checked
+) -> Result<(), SearchRefusal>
     ensures { (t : Outcome) → checked_tells result t
         ≡ first_refusal (search_rows
         (search_on variables list.now trail.now marks.now numbers.now used)) t }
 {
     if wrong_lengths(variables, trail, marks, used) {
-        return Checked::Refused(SearchRefusal::Lengths);
+        return Err(SearchRefusal::Lengths);
     }
-    let p = wrong_list(list, variables);
-    if let Place::At(i) = p {
-        return Checked::Refused(SearchRefusal::List(i));
+    if let Some(i) = wrong_list(list, variables) {
+        return Err(SearchRefusal::List(i));
     }
-    let p = first_wrong_entry(variables, trail, marks, used);
-    if let Place::At(i) = p {
-        return Checked::Refused(SearchRefusal::Entry(i));
+    if let Some(i) = first_wrong_entry(variables, trail, marks, used) {
+        return Err(SearchRefusal::Entry(i));
     }
-    let p = wrong_numbers(variables, list, trail, marks, numbers, used);
-    if let Place::At(i) = p {
-        return Checked::Refused(SearchRefusal::Number(i));
+    if let Some(i) = wrong_numbers(variables, list, trail, marks, numbers, used) {
+        return Err(SearchRefusal::Number(i));
     }
-    Checked::Accepted
+    Ok(())
 }
 
 // Steps until one answers, or the budget is used up.
@@ -155,11 +125,9 @@ fn run(
         ≡ hands_run list.now budget (slices trail.old marks.old numbers.old) first }
 {
     let mut used = first;
-    let mut n: u64 = 0;
-    while n < budget {
-        let s = step(list, trail, marks, numbers, used);
+    for n in 0..budget {
         let steps = n + 1;
-        match s {
+        match step(list, trail, marks, numbers, used) {
             Stepped::MovedTo(u) => used = u,
             Stepped::Found => {
                 return End {
@@ -176,11 +144,10 @@ fn run(
                 };
             }
         }
-        n = steps;
     }
     End {
         ending: Ending::Halted,
-        steps: n,
+        steps: budget,
         used,
     }
 }
@@ -203,9 +170,9 @@ pub fn searched(
     pack_values(trail, marks, used);
     let end = run(list, trail, marks, numbers, used, budget);
     let last = end.used;
-    clear_trail(trail, last);
+    clear_from(trail, last, 0);
     clear_marks(marks, last);
-    clear_numbers(numbers, last);
+    clear_from(numbers, last, 0);
     end
 }
 
@@ -218,13 +185,10 @@ pub fn search(
     numbers: &mut [u64],
     used: usize,
     budget: u64,
-) -> Answer
+) -> Result<End, SearchRefusal>
     ensures { handed (answer_outcome result) trail.new marks.new numbers.new
         ≡ by_search (search_on variables list.now trail.old marks.old numbers.old used) budget }
 {
-    let c = check(variables, list, trail, marks, numbers, used);
-    if let Checked::Refused(r) = c {
-        return Answer::Refused(r);
-    }
-    Answer::Ended(searched(list, trail, marks, numbers, used, budget))
+    check(variables, list, trail, marks, numbers, used)?;
+    Ok(searched(list, trail, marks, numbers, used, budget))
 }

@@ -1,15 +1,15 @@
 -- What is wrong with an entry. Assumes nothing.
-use Prim.Native.Nat.{ℕ, zero, suc, ◌/◌, ◌≤◌, ◌<◌}
+use Prim.Native.Nat.{ℕ, zero, suc, ◌<◌}
 use lib.Dec.{eqb, ltb}
 use lib.IntN.{ℤ, pos, negsuc}
 use lib.ListN.{get_or}
-use borrow.Author.Tests.{eq-eqb, ne_eqb, ltb-false}
-use mathlib.Core.Path.{◌≡◌, refl, sym, ◌∙◌, ap}
+use borrow.Author.Tests.{ltb-false}
+use mathlib.Core.Path.{◌≡◌, refl}
 use mathlib.Core.Bool.{Bool, true, false, not, ◌||◌, cond, or_comm}
 use mathlib.Core.List.{List}
 use Rattle.answers.proofs.Bools.{or_neither}
-use Rattle.cnf.specs.Literals.{closes, code_of, variable_at}
-use Rattle.cnf.proofs.Lists.{some_variable, code_closes, code_beyond, code_within}
+use Rattle.cnf.specs.Literals.{closes, variable_at}
+use Rattle.cnf.proofs.Lists.{some_variable}
 use Rattle.search.specs.Trail.{slices, is_unassigned, made, trail_of, variable_value}
 use Rattle.search.specs.Call.{wrong_entry_at}
 use Rattle.answers.specs.First.{Until}
@@ -28,25 +28,7 @@ used-before ts ms ns (suc n) x = by (eqb (variable_at ts n) x) (get_or ts n (pos
     by true (negsuc m) e = refl
     by false l e = e
 
--- an entry by its code: the first fault, or what its mark is
-module _ (v : ℕ) (ts : List ℤ) (ms : List ℕ) (i : ℕ) {k : ℕ} (read : k ≡ code_of (get_or ts i (pos 0))) where
-  abbrev here : ℤ
-  here = get_or ts i (pos 0)
-
-  closing : closes here ≡ eqb k 0
-  closing = code_closes here ∙ ap (λ n. eqb n 0) (sym read)
-
-  pub faulty_zero : k ≡ 0 → true ≡ faulty_at v ts ms i
-  faulty_zero z = rw (closing ∙ eq-eqb k 0 z)
-
-  module _ (z : k ≡ 0 → ⊥) where
-    pub faulty_beyond : v < k / 2 → true ≡ faulty_at v ts ms i
-    faulty_beyond h = rw (closing ∙ ne_eqb k 0 z, code_beyond v here read h)
-
-    pub faulty_mark : k / 2 ≤ v → ltb 1 (get_or ms i 0) ≡ faulty_at v ts ms i
-    faulty_mark h = rw (closing ∙ ne_eqb k 0 z, code_within v here read h)
-
--- entries without such a fault stand on variables 1 to V
+-- entries without a fault of their own stand on variables 1 to V
 pub faulty_inside : (v : ℕ) (ts : List ℤ) (ms : List ℕ) {used n : ℕ} → Until (faulty_at v ts ms) used n → Inside v ts n
 faulty_inside v ts ms {used} {n} u = record { low = λ i h. some_variable (get_or ts i (pos 0)) (both i h).0; high = λ i h. ltb-false v _ (both i h).1 }
   where

@@ -1,15 +1,14 @@
 // What the search checks of its sizes and of the trail handed in.
 #![tactic(auto)]
 
-ghost use Rattle.std.specs.Prelude.{◌≡◌, List, ℕ, ◌+◌, ◌<◌, ◌≤◌, length};
-ghost use Rattle.answers.specs.First.{first_where, placed, Until};
+ghost use Rattle.std.specs.Prelude.{◌≡◌, List, ℕ, ◌+◌, ◌^◌, ◌<◌, ◌≤◌, length};
+ghost use Rattle.answers.specs.First.{first_where, Until};
 ghost use Rattle.cnf.specs.Literals.{most_variables};
 ghost use Rattle.search.specs.Trail.{slices};
 ghost use Rattle.search.specs.Call.{wrong_lengths, wrong_entry_at};
 ghost use Rattle.search_input.specs.Entries.{faulty_at, used_at, Inside};
 ghost use Rattle.search_input.specs.Flags.{NoFlag, is_met, met, met_by, again_at};
 
-use answers::Place;
 use cnf::{code_at, too_many_variables};
 
 // 17: V too large, trail or marks not V long, used over V. The clause numbers beside them, ns, are not asked for.
@@ -48,12 +47,10 @@ fn first_faulty(v: usize, trail: &[i32], marks: &[u8], used: usize) -> usize
     requires { (used ≤ length trail.now) × (used ≤ length marks.now) }
     ensures { Until (faulty_at v trail.now marks.now) used result }
 {
-    let mut i: usize = 0;
-    while i < used {
+    for i in 0..used {
         if is_faulty(v, trail, marks, i) {
             return i;
         }
-        i += 1;
     }
     used
 }
@@ -82,32 +79,22 @@ fn first_met(trail: &[i32], n: usize, low: usize, flags: &mut [u8]) -> usize
     ensures until { Until (again_at trail.now low (low + length flags.old)) n result }
     ensures flags_after { flags.new ≡ met_by flags.old low trail.now n result }
 {
-    let mut i: usize = 0;
-    while i < n {
+    for i in 0..n {
         if meet(flags, low, code_at(trail, i) / 2) {
             return i;
         }
-        i += 1;
     }
     n
 }
 
-// The same for the 65,536 variables from `low` on.
-fn in_window(trail: &[i32], n: usize, low: usize) -> usize
-    requires { n ≤ length trail.now }
-    ensures { Until (again_at trail.now low (low + 65536)) n result }
+// The same for the SIZE variables from `low` on.
+fn in_window<const SIZE: usize>(trail: &[i32], n: usize, low: usize) -> usize
+    requires n_in_bounds { n ≤ length trail.now }
+    requires size { SIZE < 2 ^ 63 }
+    ensures { Until (again_at trail.now low (low + SIZE)) n result }
 {
-    let mut flags = [0u8; 65536];
+    let mut flags = [0; SIZE];
     first_met(trail, n, low, &mut flags)
-}
-
-// The same for the first 1,024 variables.
-fn in_few(trail: &[i32], n: usize) -> usize
-    requires { n ≤ length trail.now }
-    ensures { Until (again_at trail.now 1 1025) n result }
-{
-    let mut flags = [0u8; 1024];
-    first_met(trail, n, 1, &mut flags)
 }
 
 // The first of n entries on the variable of an earlier one; n, if there is none. Each window of variables takes one pass over the entries up
@@ -122,27 +109,25 @@ fn first_again(v: usize, trail: &[i32], n: usize) -> usize
         return n;
     }
     if v <= 1024 {
-        return in_few(trail, n);
+        return in_window::<1024>(trail, n, 1);
     }
     let mut first = n;
-    let mut low: usize = 1;
-    while low <= v {
-        first = in_window(trail, first, low);
-        low += 65536;
+    for low in (1..=v).step_by(65536) {
+        first = in_window::<65536>(trail, first, low);
     }
     first
 }
 
 // 18: the first wrong entry of those used, whatever their clause numbers.
-pub fn first_wrong_entry(v: usize, trail: &[i32], marks: &[u8], used: usize) -> Place
+pub fn first_wrong_entry(v: usize, trail: &[i32], marks: &[u8], used: usize) -> Option<usize>
     requires v_le_most_variables { v ≤ most_variables }
     requires used_in_bounds { (used ≤ length trail.now) × (used ≤ length marks.now) }
-    ensures { (ns : List ℕ) → placed result ≡ first_where (wrong_entry_at v (slices trail.now marks.now ns)) used }
+    ensures { (ns : List ℕ) → result ≡ first_where (wrong_entry_at v (slices trail.now marks.now ns)) used }
 {
     let faulty = first_faulty(v, trail, marks, used);
     let first = first_again(v, trail, faulty);
     if first < used {
-        return Place::At(first);
+        return Some(first);
     }
-    Place::Nowhere
+    None
 }

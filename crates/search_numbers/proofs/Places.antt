@@ -1,13 +1,12 @@
 -- Where clauses begin. Assumes nothing.
-use Prim.Native.Nat.{ℕ, suc, ◌+◌, ◌*◌, ◌-◌, ◌/◌, ◌≤◌, ◌<◌}
+use Prim.Native.Nat.{ℕ, suc, ◌+◌, ◌*◌, ◌-◌, ◌/◌, ◌≤◌, ◌<◌, min}
 use native.Mathlib.Omega.{arith}
-use native.Mathlib.Decide.{ℕ_discrete, dec_lt}
+use native.Mathlib.Decide.{ℕ_discrete}
 use native.Mathlib.Nat.{zero-mul, suc-mul, mul-le-mul_right, div-mul-le_self, div-le_self}
 use native.Mathlib.Numerals.{add-one}
 use lib.IntN.{ℤ, pos}
 use lib.ListN.{length, get_or, set, take, drop, length-set, drop_of_length-le}
 use lib.Seq.{drop-cons, length-take-le, get_or-set_same, get_or-set_other, ext_get_or}
-use borrow.Author.Tests.{lt-ltb, le-ltb}
 use mathlib.Core.Path.{◌≡◌, refl, sym, ◌∙◌, ap}
 use mathlib.Core.Bool.{Bool, true, false, cond}
 use mathlib.Core.List.{List, ◌∷◌, ◌++◌}
@@ -17,7 +16,7 @@ use Rattle.answers.proofs.Lists.{many_most}
 use Rattle.cnf.specs.Literals.{closes}
 use Rattle.cnf.specs.Clauses.{clause_count, place_after}
 use Rattle.cnf.proofs.Lists.{place_zero, place-step, place_more}
-use Rattle.search_numbers.specs.Places.{smaller, places_by, places_in, IsTable}
+use Rattle.search_numbers.specs.Places.{places_by, places_in, IsTable}
 
 -- 1. Over some clauses
 
@@ -25,13 +24,10 @@ use Rattle.search_numbers.specs.Places.{smaller, places_by, places_in, IsTable}
 pub record Walking (ls : List ℤ) (i n j left : ℕ) : Type 0 where
   pub rest : j + place_after left (drop j ls) ≡ i + place_after n (drop i ls)
 
-pub walk_start : {ls : List ℤ} {i n : ℕ} → Walking ls i n i n
-walk_start = record { rest = refl }
-
 module _ {ls : List ℤ} {i n j left : ℕ} (w : Walking ls i n j left) where
-  pub walk_end : length ls ≤ j → j ≡ i + place_after n (drop i ls)
+  pub walk_end : {k : ℕ} → length ls ≤ j → k ≡ j → k ≡ i + place_after n (drop i ls)
   unfolding place_after
-  walk_end h = let e : j + 0 ≡ j = omega arith in sym e ∙ (rw (drop_of_length-le ls h) at w.rest)
+  walk_end h q = let e : j + 0 ≡ j = omega arith in q ∙ sym e ∙ (rw (drop_of_length-le ls h) at w.rest)
 
   pub walk_here : left ≡ 0 → j ≡ i + place_after n (drop i ls)
   walk_here z = let r = w.rest in let e : place_after left (drop j ls) ≡ 0 = rw z (place_zero (drop j ls)) in omega arith
@@ -81,23 +77,10 @@ module _ {ls : List ℤ} {stride : ℕ} {table₀ table : List ℕ} {place j : �
       ext_get_or 0 table (places_by stride ls (length table₀)) (n ∙ sym (made_long _ (length table₀)))
       (λ k l. f.done k (omega arith) ∙ sym (made_at _ 0 (length table₀) k (omega arith)))
 
-pub table_filled : {ls : List ℤ} {stride n : ℕ} {table : List ℕ} → 1 ≤ stride → 1 ≤ n → table ≡ places_by stride ls n → IsTable ls stride table
-table_filled {ls} {stride} {n} {table} a b e =
-    let l : length table ≡ n = ap length e ∙ made_long _ n in
-    record { step = a; some = omega arith; holds = e ∙ ap (places_by stride ls) (sym l) }
-
--- of two numbers the smaller
-pub smaller-most : (a b : ℕ) → (smaller a b ≤ a) × (smaller a b ≤ b)
-smaller-most a b = by (dec_lt a b)
-  where
-    by : Dec (a < b) → (smaller a b ≤ a) × (smaller a b ≤ b)
-    by (yes h) = rw (lt-ltb a b h) (omega arith, omega arith)
-    by (no h) = rw (le-ltb a b (omega arith)) (omega arith, omega arith)
-
 -- the part of a table that is filled
-module _ (table : List ℕ) (clauses : ℕ) {places : ℕ} (h : 1 ≤ length table) (p : places ≡ smaller clauses (length table - 1)) where
+module _ (table : List ℕ) (clauses : ℕ) {places : ℕ} (h : 1 ≤ length table) (p : places ≡ min clauses (length table - 1)) where
   pub part_fits : places + 1 ≤ length table
-  part_fits = let m = smaller-most clauses (length table - 1) in omega arith
+  part_fits = omega arith
 
   pub part_long : length (take (places + 1) table) ≡ places + 1
   part_long = length-take-le (places + 1) table part_fits
@@ -107,14 +90,14 @@ module _ (table : List ℕ) (clauses : ℕ) {places : ℕ} (h : 1 ≤ length tab
       → part ++ drop (places + 1) table ≡ filled table (places_in (length table) ls)
   part_filled ls {part} c e = λ j. same j ++ drop (sym long j) table
     where
-      count : places + 1 ≡ smaller (clause_count ls) (length table - 1) + 1
-      count = ap (λ n. n + 1) p ∙ ap (λ n. smaller n (length table - 1) + 1) c
+      count : places + 1 ≡ min (clause_count ls) (length table - 1) + 1
+      count = ap (λ n. n + 1) p ∙ ap (λ n. min n (length table - 1) + 1) c
 
       same : part ≡ places_in (length table) ls
       same = e ∙ (λ j. places_by (c j / length table + 1) ls ((part_long ∙ count) j))
 
       long : length (places_in (length table) ls) ≡ places + 1
-      long = made_long _ (smaller (clause_count ls) (length table - 1) + 1) ∙ sym count
+      long = made_long _ (min (clause_count ls) (length table - 1) + 1) ∙ sym count
 
 pub stride_fits : (ls : List ℤ) (size : ℕ) {clauses : ℕ} → clauses ≡ clause_count ls → clauses / size ≤ length ls
 stride_fits ls size {clauses} c = omega (arith, div-le_self clauses size, many_most closes ls)
@@ -123,13 +106,12 @@ stride_fits ls size {clauses} c = omega (arith, div-le_self clauses size, many_m
 
 -- the place j of the table is before the clause, or where it begins
 module _ {ls : List ℤ} {stride : ℕ} {table : List ℕ} (t : IsTable ls stride table) (clauses : ℕ) {j : ℕ}
-    (h : j ≡ smaller (clauses / stride) (length table - 1)) where
+    (h : j ≡ min (clauses / stride) (length table - 1)) where
   pub look_inside : j < length table
-  look_inside = let s = t.some in let m = smaller-most (clauses / stride) (length table - 1) in omega arith
+  look_inside = let s = t.some in omega arith
 
   pub look_before : j * stride ≤ clauses
   look_before =
-      let m = smaller-most (clauses / stride) (length table - 1) in
       let l : j ≤ clauses / stride = omega arith in
       omega (arith, mul-le-mul_right stride l, div-mul-le_self clauses stride)
 

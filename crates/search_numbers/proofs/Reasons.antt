@@ -1,6 +1,5 @@
 -- Turns of the loops that look for a wrong number. Assumes nothing.
-use Prim.Native.Nat.{ℕ, suc, ◌+◌, ◌-◌, ◌≤◌, ◌<◌}
-use native.Mathlib.Omega.{arith}
+use Prim.Native.Nat.{ℕ, suc, ◌+◌, ◌≤◌, ◌<◌}
 use native.Mathlib.Numerals.{add-one}
 use lib.IntN.{ℤ, pos}
 use lib.ListN.{length, get_or, drop, drop_of_length-le}
@@ -12,12 +11,11 @@ use mathlib.Core.List.{List, [], ◌∷◌}
 use Rattle.answers.proofs.Elements.{made_long}
 use Rattle.answers.proofs.First.{Seeking, seek_start, seek_on}
 use Rattle.cnf.specs.Literals.{closes, code_of}
-use Rattle.cnf.specs.Clauses.{place_after}
-use Rattle.search.specs.Trail.{Entry, Slices, Values, entry_at, trail_of, variable_value}
+use Rattle.search.specs.Trail.{Slices, Values, entry_at, trail_of, variable_value}
 use Rattle.search.specs.Step.{every_literal, passes_but}
 use Rattle.search.specs.Reasons.{differs, is_reason, wrong_number}
 use Rattle.answers.specs.First.{Until}
-use Rattle.answers.proofs.Bounds.{until_here, until_end}
+use Rattle.answers.proofs.Bounds.{until_here}
 use Rattle.search_numbers.specs.Window.{bytes_of, noted, byte_passes, wrong_in}
 use Rattle.search_numbers.proofs.Values.{bytes_noted, passes_same}
 
@@ -27,9 +25,6 @@ use Rattle.search_numbers.proofs.Values.{bytes_noted, passes_same}
 pub record Holding (p : ℤ → Bool) (l : ℤ) (ls : List ℤ) (i j : ℕ) (has : Bool) : Type 0 where
   pub rest : (has || not (every_literal (differs l) (drop j ls))) && every_literal (passes_but p l) (drop j ls)
       ≡ is_reason p l (drop i ls)
-
-pub hold_start : {p : ℤ → Bool} {l : ℤ} {ls : List ℤ} {i : ℕ} → Holding p l ls i i false
-hold_start = record { rest = refl }
 
 module _ {p : ℤ → Bool} {l : ℤ} {ls : List ℤ} {i j : ℕ} {has : Bool} (g : Holding p l ls i j has) where
   pub hold_end : length ls ≤ j → false ≡ is_reason p l (drop i ls)
@@ -70,20 +65,6 @@ module _ {p : ℤ → Bool} {l : ℤ} {ls : List ℤ} {i j : ℕ} {has : Bool} (
 
 -- 2. The entries, by the values of those before them
 
--- the cases of `is_wrong`
-module _ (p : ℤ → Bool) (ls : List ℤ) (e : Entry) where
-  pub wrong_unnumbered : e.number ≡ 0 → false ≡ wrong_number p ls e
-  wrong_unnumbered z = rw (eq-eqb e.number 0 z)
-
-  module _ (z : e.number ≡ 0 → ⊥) where
-    pub wrong_choice : e.mark ≡ 1 → true ≡ wrong_number p ls e
-    wrong_choice m = rw (ne_eqb e.number 0 z, eq-eqb e.mark 1 m)
-
-    pub wrong_reason : (e.mark ≡ 1 → ⊥) → {start : ℕ} {r : Bool} → start ≡ place_after (e.number - 1) ls → r ≡ is_reason p e.literal (drop start ls)
-        → not r ≡ wrong_number p ls e
-    wrong_reason m {start} h k =
-        rw (ne_eqb e.number 0 z, ne_eqb e.mark 1 m) (ap not (k ∙ ap (λ i. is_reason p e.literal (drop i ls)) h))
-
 -- at the head of the loop: the bytes are those of the first i entries, and none of these is wrong
 pub record Noting (ls : List ℤ) (s : Slices) (n low : ℕ) (start bs : List ℕ) (i : ℕ) : Type 0 where
   pub bytes : bs ≡ bytes_of (variable_value (trail_of s i)) low (length start)
@@ -101,12 +82,6 @@ module _ {ls : List ℤ} {s : Slices} {n low : ℕ} {start bs : List ℕ} {i : �
       let w : Values = variable_value (trail_of s i) in
       ap (λ cs. wrong_number (byte_passes low cs) ls (entry_at s i)) g.bytes
       ∙ ap (λ p. wrong_number p ls (entry_at s i)) (λ j k. passes_same low w (length start) k j)
-
-  pub noting_none : n ≤ i → Until (wrong_in low (low + length start) ls s) n n × (bs ≡ bytes_of (variable_value (trail_of s n)) low (length start))
-  noting_none h =
-      let within = g.seeks.within in
-      let same : i ≡ n = omega arith in
-      (until_end g.seeks h, g.bytes ∙ ap (λ m. bytes_of (variable_value (trail_of s m)) low (length start)) same)
 
   module _ (h : i < n) where
     pub noting_found : {b : Bool} → b ≡ wrong_number (byte_passes low bs) ls (entry_at s i) → b ≡ true

@@ -1,11 +1,11 @@
 -- The bytes of a window. Assumes nothing.
-use Prim.Native.Nat.{ℕ, suc, ◌+◌, ◌-◌, ◌/◌, ◌%◌, ◌≤◌, ◌<◌}
+use Prim.Native.Nat.{ℕ, suc, ◌+◌, ◌-◌, ◌/◌, ◌%◌, ◌<◌}
 use native.Mathlib.Omega.{arith}
 use native.Mathlib.Decide.{ℕ_discrete, dec_lt}
 use lib.Dec.{eqb, leb, ltb}
 use lib.IntN.{ℤ, pos, negsuc, nat_abs}
 use lib.ListN.{length, get_or, set, replicate, length-set}
-use lib.Seq.{get_or-set_same, get_or-set_other, set_out, ext_get_or}
+use lib.Seq.{get_or-set_same, get_or-set_other, ext_get_or}
 use borrow.Author.Tests.{eq-eqb, ne_eqb, lt-ltb, le-ltb, le-leb, lt-leb}
 use mathlib.Core.Path.{◌≡◌, refl, sym, ◌∙◌}
 use mathlib.Core.Bool.{Bool, true, false, not, cond, ◌&&◌, ◌||◌}
@@ -17,31 +17,7 @@ use Rattle.search.specs.Trail.{Entry, Trail, Value, True, False, Unassigned, Val
 use Rattle.search.specs.Step.{fails}
 use Rattle.answers.proofs.Lists.{blank}
 use Rattle.search_scan.specs.PackedValues.{number_of}
-use Rattle.search_numbers.specs.Window.{bytes_of, noted, code_passes, byte_passes, passes}
-
--- 1. The cases of `passes` and `note`
-
-module _ (low : ℕ) (bs : List ℕ) (k : ℕ) where
-  pub pass_below : k / 2 < low → true ≡ code_passes low bs k
-  pass_below h = rw (lt-leb low (k / 2) h)
-
-  pub pass_above : low ≤ k / 2 → length bs ≤ k / 2 - low → true ≡ code_passes low bs k
-  pass_above h l = rw (le-leb low (k / 2) h, le-ltb (k / 2) (low + length bs) (omega arith))
-
-  pub pass-inside : low ≤ k / 2 → k / 2 - low < length bs → eqb (get_or bs (k / 2 - low) 0) (2 - k % 2) ≡ code_passes low bs k
-  pass-inside h l = rw (le-leb low (k / 2) h, lt-ltb (k / 2) (low + length bs) (omega arith))
-
-module _ (low : ℕ) (bs : List ℕ) (l : ℤ) {k : ℕ} (read : k ≡ code_of l) where
-  pub note_below : k / 2 < low → bs ≡ noted low bs (code_of l)
-  note_below h = rw (← read, lt-leb low (k / 2) h)
-
-  pub note_above : low ≤ k / 2 → length bs ≤ k / 2 - low → bs ≡ noted low bs (code_of l)
-  note_above h g = rw (← read, le-leb low (k / 2) h) (sym (set_out bs (k / 2 - low) (1 + k % 2) g))
-
-  pub note_inside : low ≤ k / 2 → set bs (k / 2 - low) (1 + k % 2) ≡ noted low bs (code_of l)
-  note_inside h = rw (← read, le-leb low (k / 2) h)
-
--- 2. The bytes of a trail's values
+use Rattle.search_numbers.specs.Window.{bytes_of, noted, byte_passes, passes}
 
 module _ (low : ℕ) where
   -- none before the first entry

@@ -7,9 +7,9 @@ use lib.IntN.{ℤ, pos, nat_abs}
 use lib.ListN.{length, get_or, drop, length-drop}
 use lib.Seq.{get_or-drop}
 use borrow.Author.Tests.{eq-eqb, ne_eqb, lt-ltb, le-ltb, le-leb, lt-leb, ltb-false}
-use mathlib.Core.Path.{◌≡◌, refl, sym, ◌∙◌, ap}
+use mathlib.Core.Path.{◌≡◌, refl, sym, ◌∙◌, ap, subst}
 use mathlib.Core.Bool.{Bool, true, false, not, ◌&&◌, ◌||◌, and-true, or-and_distrib_left}
-use mathlib.Core.Option.{none, some}
+use Rattle.std.specs.Prelude.{None, Some}
 use mathlib.Core.List.{List, [], ◌∷◌}
 use Rattle.answers.specs.First.{first_where, Until}
 use Rattle.cnf.specs.Literals.{closes, code_of}
@@ -22,10 +22,6 @@ use Rattle.search_scan.specs.PackedValues.{Within}
 use Rattle.answers.proofs.Bounds.{until_found, until_none, until_both, until_same}
 use Rattle.search_numbers.specs.Entries.{HasEntries, numbered_at}
 use Rattle.search_numbers.specs.Window.{passes, wrong_in}
-
--- of n entries the first m
-pub fewer : {s : Slices} {n m : ℕ} → HasEntries s n → m ≤ n → HasEntries s m
-fewer h l = record { trail = omega arith; marks = omega arith; numbers = omega arith }
 
 -- 1. Two tests, and both
 
@@ -81,17 +77,37 @@ passes_both low mid high a b w k = by (nat_abs k) (fails w k) (dec_lt (nat_abs k
     by x f (yes h) = rw (lt-ltb x mid h, lt-leb mid x h, lt-ltb x high (omega arith)) (and-true (not (leb low x && true) || f))
     by x f (no h) = rw (le-ltb x mid (omega arith), le-leb mid x (omega arith), le-leb low x (omega arith))
 
-module _ (ls : List ℤ) (s : Slices) where
+-- below `low` no entry before the n-th is wrong, and below 1 none was looked at
+pub record Below (ls : List ℤ) (s : Slices) (n₀ low n : ℕ) : Type 0 where
+  few : n ≤ n₀
+  none : low ≡ 1 → n ≡ n₀
+  some : 1 < low → Until (wrong_in 1 low ls s) n₀ n
+
+module _ {ls : List ℤ} {s : Slices} where
+  pub below_few : {n₀ low n : ℕ} → Below ls s n₀ low n → HasEntries s n₀ → HasEntries s n
+  below_few g h = let f = g.few in record { trail = omega arith; marks = omega arith; numbers = omega arith }
+
+  pub below_start : {n : ℕ} → Below ls s n 1 n
+  below_start = record { few = omega arith; none = λ e. refl; some = λ h. absurd (omega arith) }
+
   -- a window more
-  pub windows_on : {n₀ n m : ℕ} (low mid high : ℕ) → low ≤ mid → mid ≤ high → Until (wrong_in low mid ls s) n₀ n → Until (wrong_in mid high ls s) n m
-      → Until (wrong_in low high ls s) n₀ m
-  windows_on low mid high a b u x = until_same (until_both u x) (λ i h. same i)
+  pub below_on : {n₀ n m low high : ℕ} → Below ls s n₀ low n → Until (wrong_in low high ls s) n m → 1 ≤ low → low < high → Below ls s n₀ high m
+  below_on {n₀} {n} {m} {low} {high} g x a b =
+      let w = x.within in
+      let f = g.few in
+      record { few = omega arith; none = λ e. absurd (omega arith); some = λ h. by (dec_lt 1 low) }
     where
-      same : (i : ℕ) → wrong_in low mid ls s i || wrong_in mid high ls s i ≡ wrong_in low high ls s i
+      same : (i : ℕ) → wrong_in 1 low ls s i || wrong_in low high ls s i ≡ wrong_in 1 high ls s i
       same i =
           let w : Values = variable_value (trail_of s i) in
-          wrong_both (passes low mid w) (passes mid high w) ls (entry_at s i)
-          ∙ ap (λ p. wrong_number p ls (entry_at s i)) (λ j k. passes_both low mid high a b w k j)
+          wrong_both (passes 1 low w) (passes low high w) ls (entry_at s i)
+          ∙ ap (λ p. wrong_number p ls (entry_at s i)) (λ j k. passes_both 1 low high a (omega arith) w k j)
+
+      by : Dec (1 < low) → Until (wrong_in 1 high ls s) n₀ m
+      by (yes h) = until_same (until_both (g.some h) x) (λ i h. same i)
+      by (no h) =
+          let e : low ≡ 1 = omega arith in
+          subst (λ (k : ℕ). Until (wrong_in 1 high ls s) k m) (g.none e) (subst (λ (k : ℕ). Until (wrong_in k high ls s) n m) e x)
 
 -- 3. All variables
 
@@ -107,10 +123,10 @@ every_same p q (l ∷ c) h = by (closes l) refl (every_same p q c (λ j k z. h (
     by true z e = refl
     by false z e = (λ j. h 0 (omega arith) z j && e j)
 
-module _ (v : ℕ) (ls : List ℤ) (s : Slices) (inside : Within v ls) where
+module _ {v : ℕ} {ls : List ℤ} {s : Slices} (inside : Within v ls) where
   -- the windows up to V have all variables of the list
-  pub windows_all : {n m : ℕ} (high : ℕ) → v < high → Until (wrong_in 1 high ls s) n m → Until (wrong_number_at ls s) n m
-  windows_all high h u = until_same u (λ i l. same (variable_value (trail_of s i)) (entry_at s i))
+  pub below_all : {n m : ℕ} (high : ℕ) → 1 < high → v < high → Below ls s n high m → Until (wrong_number_at ls s) n m
+  below_all high o h g = until_same (g.some o) (λ i l. same (variable_value (trail_of s i)) (entry_at s i))
     where
       at : (w : Values) (start j : ℕ) → j < length (drop start ls) → closes (get_or (drop start ls) j (pos 0)) ≡ false
           → passes 1 high w (get_or (drop start ls) j (pos 0)) ≡ fails w (get_or (drop start ls) j (pos 0))
@@ -133,22 +149,22 @@ module _ (v : ℕ) (ls : List ℤ) (s : Slices) (inside : Within v ls) where
 -- 4. The refusal
 
 module _ (v : ℕ) (ls : List ℤ) (s : Slices) (used : ℕ) where
-  pub numbers_long : (length s.numbers ≡ v → ⊥) → some 0 ≡ wrong_numbers v ls s used
+  pub numbers_long : (length s.numbers ≡ v → ⊥) → Some 0 ≡ wrong_numbers v ls s used
   numbers_long h = rw (ne_eqb (length s.numbers) v h)
 
   module _ (h : length s.numbers ≡ v) where
     by_entries : first_where (wrong_number_at ls s) used ≡ wrong_numbers v ls s used
     by_entries = rw (eq-eqb (length s.numbers) v h)
 
-    pub numbers_none : {m : ℕ} → Until (numbered_at s.numbers) used m → m ≡ used → none ≡ wrong_numbers v ls s used
+    pub numbers_none : {m : ℕ} → Until (numbered_at s.numbers) used m → m ≡ used → None ≡ wrong_numbers v ls s used
     numbers_none u e = until_none {n = used} {m = used} whole (omega arith) ∙ by_entries
       where
         whole : Until (wrong_number_at ls s) used used
         whole = record { within = omega arith; none_yet = λ k l. rw (u.none_yet k (omega arith)); stops = λ l. absurd (omega arith) }
 
     module _ {m : ℕ} (u : Until (wrong_number_at ls s) used m) where
-      pub numbers_wrong : m < used → some m ≡ wrong_numbers v ls s used
+      pub numbers_wrong : m < used → Some m ≡ wrong_numbers v ls s used
       numbers_wrong l = until_found u l ∙ by_entries
 
-      pub numbers_right : used ≤ m → none ≡ wrong_numbers v ls s used
+      pub numbers_right : used ≤ m → None ≡ wrong_numbers v ls s used
       numbers_right l = until_none u l ∙ by_entries

@@ -2,18 +2,17 @@
 #![tactic(auto)]
 
 ghost use Rattle.std.specs.Prelude.{◌≡◌, [], ◌+◌, ◌-◌, ◌<◌, ◌≤◌, pos, length, get_or, drop};
-ghost use Rattle.answers.specs.First.{placed, Until};
+ghost use Rattle.answers.specs.First.{Until};
 ghost use Rattle.answers.specs.Lent.{filled};
 ghost use Rattle.cnf.specs.Literals.{most_variables, code_of};
 ghost use Rattle.cnf.specs.Clauses.{place_after};
 ghost use Rattle.search.specs.Trail.{slices, entry_at, trail_of, variable_value};
 ghost use Rattle.search.specs.Reasons.{is_reason, wrong_number, wrong_number_at, wrong_numbers};
 ghost use Rattle.search_scan.specs.PackedValues.{Within};
-ghost use Rattle.search_numbers.specs.Places.{smaller, places_by, places_in, IsTable};
+ghost use Rattle.search_numbers.specs.Places.{places_by, places_in, IsTable};
 ghost use Rattle.search_numbers.specs.Entries.{HasEntries, Readable, numbered_at};
 ghost use Rattle.search_numbers.specs.Window.{bytes_of, noted, code_passes, byte_passes, wrong_in};
 
-use answers::Place;
 use cnf::{clause_count, closes_at, code_at};
 
 // The first of the used entries with a number; `used`, if there is none.
@@ -21,12 +20,10 @@ fn first_numbered(numbers: &[u64], used: usize) -> usize
     requires { used ≤ length numbers.now }
     ensures { Until (numbered_at numbers.now) used result }
 {
-    let mut i: usize = 0;
-    while i < used {
-        if numbers[i] != 0 {
+    for (i, number) in numbers[..used].iter().enumerate() {
+        if *number != 0 {
             return i;
         }
-        i += 1;
     }
     used
 }
@@ -36,27 +33,15 @@ fn after_clauses(list: &[i32], i: usize, n: usize) -> usize
     ensures { result ≡ i + place_after n (drop i list.now) }
 {
     let mut left = n;
-    let mut j = i;
-    while j < list.len() {
+    for j in i..list.len() {
         if left == 0 {
             return j;
         }
-        let end = closes_at(list, j);
-        j += 1;
-        if end {
+        if closes_at(list, j) {
             left -= 1;
         }
     }
-    j
-}
-
-fn smaller(a: usize, b: usize) -> usize
-    ensures { result ≡ smaller a b }
-{
-    if a < b {
-        return a;
-    }
-    b
+    list.len().max(i)
 }
 
 // Fills a table: where the list begins, and then the clause after every `stride` clauses.
@@ -64,11 +49,9 @@ fn fill_table(list: &[i32], stride: usize, table: &mut [usize])
     ensures { table.new ≡ places_by stride list.now (length table.old) }
 {
     let mut place: usize = 0;
-    let mut j: usize = 0;
-    while j < table.len() {
-        table[j] = place;
+    for start in table.iter_mut() {
+        *start = place;
         place = after_clauses(list, place, stride);
-        j += 1;
     }
 }
 
@@ -79,7 +62,7 @@ fn clause_start(list: &[i32], table: &[usize], stride: usize, number: u64) -> us
     ensures { result ≡ place_after (number - 1) list.now }
 {
     let clauses = (number - 1) as usize;
-    let j = smaller(clauses / stride, table.len() - 1);
+    let j = (clauses / stride).min(table.len() - 1);
     after_clauses(list, table[j], clauses - j * stride)
 }
 
@@ -105,18 +88,14 @@ fn is_reason(list: &[i32], start: usize, trail: &[i32], i: usize, values: &[u8],
 {
     let own = code_at(trail, i);
     let mut has = false;
-    let mut j = start;
-    while j < list.len() {
+    for j in start..list.len() {
         let k = code_at(list, j);
         if k == 0 {
             return has;
         }
-        j += 1;
         if k == own {
             has = true;
-            continue;
-        }
-        if !passes(values, low, k) {
+        } else if !passes(values, low, k) {
             return false;
         }
     }
@@ -188,74 +167,13 @@ fn first_wrong(
     ensures values_after { let s = slices trail.now marks.now numbers.now in
         values.new ≡ bytes_of (variable_value (trail_of s result)) low (length values.old) }
 {
-    let mut i: usize = 0;
-    while i < n {
+    for i in 0..n {
         if is_wrong(list, table, stride, trail, marks, numbers, i, values, low) {
             return i;
         }
         note(trail, i, values, low);
-        i += 1;
     }
     n
-}
-
-// The same for the 262,144 variables from `low` on.
-fn in_window(
-    list: &[i32],
-    table: &[usize],
-    stride: usize,
-    trail: &[i32],
-    marks: &[u8],
-    numbers: &[u64],
-    n: usize,
-    low: usize,
-) -> usize
-    requires table { IsTable list.now stride table.now }
-    requires has_entries { HasEntries (slices trail.now marks.now numbers.now) n }
-    ensures { let s = slices trail.now marks.now numbers.now in
-        Until (wrong_in low (low + 262144) list.now s) n result }
-{
-    let mut values = [0u8; 262144];
-    first_wrong(
-        list,
-        table,
-        stride,
-        trail,
-        marks,
-        numbers,
-        n,
-        &mut values,
-        low,
-    )
-}
-
-// The same for the first 1,024 variables.
-fn in_few(
-    list: &[i32],
-    table: &[usize],
-    stride: usize,
-    trail: &[i32],
-    marks: &[u8],
-    numbers: &[u64],
-    n: usize,
-) -> usize
-    requires table { IsTable list.now stride table.now }
-    requires has_entries { HasEntries (slices trail.now marks.now numbers.now) n }
-    ensures { let s = slices trail.now marks.now numbers.now in
-        Until (wrong_in 1 1025 list.now s) n result }
-{
-    let mut values = [0u8; 1024];
-    first_wrong(
-        list,
-        table,
-        stride,
-        trail,
-        marks,
-        numbers,
-        n,
-        &mut values,
-        1,
-    )
 }
 
 // The first of n entries whose number is wrong; n, if there is none. Each window of variables takes one pass over the entries up to the first
@@ -276,13 +194,15 @@ fn in_windows(
         Until (wrong_number_at list.now s) n result }
 {
     if v <= 1024 {
-        return in_few(list, table, stride, trail, marks, numbers, n);
+        let mut bytes = [0; 1024];
+        return first_wrong(list, table, stride, trail, marks, numbers, n, &mut bytes, 1);
     }
-    let mut first = in_window(list, table, stride, trail, marks, numbers, n, 1);
-    let mut low: usize = 262145;
-    while low <= v {
-        first = in_window(list, table, stride, trail, marks, numbers, first, low);
-        low += 262144;
+    let mut first = n;
+    for low in (1..=v).step_by(262144) {
+        let mut bytes = [0; 262144];
+        first = first_wrong(
+            list, table, stride, trail, marks, numbers, first, &mut bytes, low,
+        );
     }
     first
 }
@@ -326,7 +246,7 @@ fn with_table(
 {
     let clauses = clause_count(list);
     let stride = clauses / table.len() + 1;
-    let places = smaller(clauses, table.len() - 1) + 1;
+    let places = clauses.min(table.len() - 1) + 1;
     with_places(
         v,
         list,
@@ -337,40 +257,6 @@ fn with_table(
         numbers,
         n,
     )
-}
-
-// The same with a table of 1,024 places.
-fn with_small_table(
-    v: usize,
-    list: &[i32],
-    trail: &[i32],
-    marks: &[u8],
-    numbers: &[u64],
-    n: usize,
-) -> usize
-    requires { Readable v list.now (slices trail.now marks.now numbers.now) n }
-    ensures { let s = slices trail.now marks.now numbers.now in
-        Until (wrong_number_at list.now s) n result }
-{
-    let mut table = [0usize; 1024];
-    with_table(v, list, &mut table, trail, marks, numbers, n)
-}
-
-// The same with a table of 32,768 places.
-fn with_large_table(
-    v: usize,
-    list: &[i32],
-    trail: &[i32],
-    marks: &[u8],
-    numbers: &[u64],
-    n: usize,
-) -> usize
-    requires { Readable v list.now (slices trail.now marks.now numbers.now) n }
-    ensures { let s = slices trail.now marks.now numbers.now in
-        Until (wrong_number_at list.now s) n result }
-{
-    let mut table = [0usize; 32768];
-    with_table(v, list, &mut table, trail, marks, numbers, n)
 }
 
 // The same: few variables and short lists need no large table.
@@ -386,13 +272,10 @@ fn first_wrong_number(
     ensures { let s = slices trail.now marks.now numbers.now in
         Until (wrong_number_at list.now s) n result }
 {
-    if v <= 1024 {
-        return with_small_table(v, list, trail, marks, numbers, n);
+    if v <= 1024 || list.len() <= 1024 {
+        return with_table(v, list, &mut [0; 1024], trail, marks, numbers, n);
     }
-    if list.len() <= 1024 {
-        return with_small_table(v, list, trail, marks, numbers, n);
-    }
-    with_large_table(v, list, trail, marks, numbers, n)
+    with_table(v, list, &mut [0; 32768], trail, marks, numbers, n)
 }
 
 // 22: there are not V numbers, or the first of the used entries whose number is wrong. If all used entries have 0, the list is not gone through.
@@ -403,23 +286,23 @@ pub fn wrong_numbers(
     marks: &[u8],
     numbers: &[u64],
     used: usize,
-) -> Place
+) -> Option<usize>
     requires v_le_most_variables { v ≤ most_variables }
     requires within { Within v list.now }
     requires used_in_bounds { (used ≤ length trail.now) × (used ≤ length marks.now) }
     requires used_le_v { used ≤ v }
     ensures { let s = slices trail.now marks.now numbers.now in
-        placed result ≡ wrong_numbers v list.now s used }
+        result ≡ wrong_numbers v list.now s used }
 {
     if numbers.len() != v {
-        return Place::At(0);
+        return Some(0);
     }
     if first_numbered(numbers, used) == used {
-        return Place::Nowhere;
+        return None;
     }
     let first = first_wrong_number(v, list, trail, marks, numbers, used);
     if first < used {
-        return Place::At(first);
+        return Some(first);
     }
-    Place::Nowhere
+    None
 }

@@ -4,7 +4,7 @@ use native.Mathlib.Omega.{arith}
 use lib.ListN.{get_or}
 use borrow.Author.Tests.{eq-eqb, ne_eqb}
 use mathlib.Core.Path.{◌≡◌, refl}
-use mathlib.Core.Option.{none, some}
+use Rattle.std.specs.Prelude.{None, Some}
 use mathlib.Core.List.{List}
 use Rattle.search_scan.specs.PackedValues.{last_marked}
 
@@ -17,7 +17,7 @@ pub back_start : {ms : List ℕ} {used : ℕ} → Backing ms used used
 back_start = record { within = omega arith; rest = refl }
 
 module _ {ms : List ℕ} {used i : ℕ} (b : Backing ms used i) where
-  pub back_none : i ≤ 0 → none ≡ last_marked ms used
+  pub back_none : i ≤ 0 → None ≡ last_marked ms used
   unfolding last_marked
   back_none h = let e : i ≡ 0 = omega arith in rw e at b.rest
 
@@ -25,7 +25,7 @@ module _ {ms : List ℕ} {used i : ℕ} (b : Backing ms used i) where
     next : last_marked ms (suc (i - 1)) ≡ last_marked ms used
     next = let e : i ≡ suc (i - 1) = omega arith in rw e at b.rest
 
-    pub back_found : get_or ms (i - 1) 0 % 2 ≡ 1 → some (i - 1) ≡ last_marked ms used
+    pub back_found : get_or ms (i - 1) 0 % 2 ≡ 1 → Some (i - 1) ≡ last_marked ms used
     unfolding last_marked
     back_found e = rw (eq-eqb _ _ e, last_marked) at next
 

@@ -1,5 +1,5 @@
 -- Turns of the loops that seek a failed clause and a forced literal. Assumes nothing.
-use Prim.Native.Nat.{ℕ, suc, ◌+◌, ◌-◌, ◌/◌, ◌≤◌, ◌<◌}
+use Prim.Native.Nat.{ℕ, suc, ◌+◌, ◌-◌, ◌/◌, ◌%◌, ◌≤◌, ◌<◌}
 use native.Mathlib.Omega.{arith}
 use native.Mathlib.Numerals.{add-one}
 use lib.Dec.{ltb}
@@ -9,7 +9,7 @@ use lib.ListN.{length, get_or, drop, drop_of_length-le, length-drop}
 use lib.Seq.{drop-cons, drop-drop}
 use mathlib.Core.Path.{◌≡◌, refl, sym, ◌∙◌, ap}
 use mathlib.Core.Bool.{Bool, true, false, not, ◌&&◌, ◌||◌, cond}
-use mathlib.Core.Option.{Option, none, some}
+use Rattle.std.specs.Prelude.{Option, None, Some}
 use mathlib.Core.List.{List, [], ◌∷◌}
 use Rattle.answers.specs.First.{found, or_else}
 use Rattle.answers.proofs.Bools.{clash, and_both, and_off}
@@ -17,8 +17,9 @@ use Rattle.cnf.specs.Literals.{closes, code_of, variable_at}
 use Rattle.cnf.proofs.Lists.{code_variable}
 use Rattle.search.specs.Trail.{Value, True, False, Unassigned, is_true, is_false, Values, literal_value}
 use Rattle.search.specs.Step.{every_literal, over_clauses, fails, failed_at, fails_but, by_value, forced_at, failed_clause, lower_place, forced_place}
-use Rattle.search_scan.specs.PackedValues.{Within}
+use Rattle.search_scan.specs.PackedValues.{packed_values, Within}
 use Rattle.search_scan.specs.Clause.{forced_up_to, clause_length}
+use Rattle.search_scan.proofs.Literals.{read_fails, read_stands}
 
 -- 1. To the end of a clause
 
@@ -64,16 +65,14 @@ module _ (ls : List ℤ) (i : ℕ) {r : ℕ} (e : r ≡ i + 1 + clause_length (d
 
 -- at j, on the way from i
 pub record Passing (ls : List ℤ) (i j : ℕ) : Type 0 where
-  pub seen : j ≤ length ls
   pub rest : j + clause_length (drop j ls) ≡ i + clause_length (drop i ls)
 
-pub pass-start : {ls : List ℤ} (i : ℕ) → i ≤ length ls → Passing ls i i
-pass-start i h = record { seen = h; rest = refl }
-
 module _ {ls : List ℤ} {i j : ℕ} (p : Passing ls i j) where
-  pub pass_none : length ls ≤ j → j ≡ i + clause_length (drop i ls)
+  pub pass_none : j ≡ length ls → length ls ≡ i + clause_length (drop i ls)
   unfolding clause_length
-  pass_none h = let e : j + 0 ≡ j = omega arith in sym e ∙ (rw (drop_of_length-le ls h) at p.rest)
+  pass_none h =
+      let e : j + 0 ≡ length ls = omega arith in
+      sym e ∙ (rw (drop_of_length-le ls {i = j} (omega arith)) at p.rest)
 
   module _ (h : j < length ls) where
     pass_here : j + clause_length (get_or ls j (pos 0) ∷ drop (suc j) ls) ≡ i + clause_length (drop i ls)
@@ -87,7 +86,6 @@ module _ {ls : List ℤ} {i j : ℕ} (p : Passing ls i j) where
     unfolding clause_length
     pass_on z =
         record {
-          seen = omega arith;
           rest =
               rw add-one (let e : suc j + clause_length (drop (suc j) ls) ≡ j + suc (clause_length (drop (suc j) ls)) = omega arith in e ∙ (rw z at pass_here));
         }
@@ -107,7 +105,7 @@ unfolding over_clauses every_literal
 begin w i [] = refl
 begin w i (l ∷ r) = by (closes l || (fails w l && every_literal (fails w) r)) (next_failed w (closes l) (suc i) r)
   where
-    by : (b : Bool) (o : Option ℕ) → found b i o ≡ or_else (found b i none) o
+    by : (b : Bool) (o : Option ℕ) → found b i o ≡ or_else (found b i None) o
     by true o = refl
     by false o = refl
 
@@ -116,7 +114,7 @@ unfolding failed_clause
 fail_start {w} {ls} = record { seen = omega arith; rest = begin w 0 ls }
 
 module _ {w : Values} {ls : List ℤ} {start i : ℕ} (f : Failing w ls start i) where
-  pub fail_none : length ls ≤ i → none ≡ failed_clause w ls
+  pub fail_none : length ls ≤ i → None ≡ failed_clause w ls
   unfolding over_clauses every_literal
   fail_none h = rw (drop_of_length-le ls h) at f.rest
 
@@ -125,7 +123,7 @@ module _ {w : Values} {ls : List ℤ} {start i : ℕ} (f : Failing w ls start i)
         ≡ failed_clause w ls
     here = rw (drop-cons ls i (pos 0) h) at f.rest
 
-    pub fail_found : closes (get_or ls i (pos 0)) ≡ true → some start ≡ failed_clause w ls
+    pub fail_found : closes (get_or ls i (pos 0)) ≡ true → Some start ≡ failed_clause w ls
     unfolding every_literal
     fail_found z = rw (z, every_literal) at here
 
@@ -144,21 +142,21 @@ module _ {w : Values} {ls : List ℤ} {start i : ℕ} (f : Failing w ls start i)
 -- 3. Forced literals
 
 module _ (ls : List ℤ) where
-  lower_none : (o : Option ℕ) → lower_place ls o none ≡ o
-  lower_none none = refl
-  lower_none (some p) = refl
+  lower_none : (o : Option ℕ) → lower_place ls o None ≡ o
+  lower_none None = refl
+  lower_none (Some p) = refl
 
   lower_assoc : (a b c : Option ℕ) → lower_place ls (lower_place ls a b) c ≡ lower_place ls a (lower_place ls b c)
-  lower_assoc none b c = refl
-  lower_assoc (some p) none c = refl
-  lower_assoc (some p) (some q) none = lower_none (lower_place ls (some p) (some q))
-  lower_assoc (some p) (some q) (some r) = by (variable_at ls p) refl (variable_at ls q) refl (variable_at ls r) refl
+  lower_assoc None b c = refl
+  lower_assoc (Some p) None c = refl
+  lower_assoc (Some p) (Some q) None = lower_none (lower_place ls (Some p) (Some q))
+  lower_assoc (Some p) (Some q) (Some r) = by (variable_at ls p) refl (variable_at ls q) refl (variable_at ls r) refl
     where
       by : (x : ℕ) → variable_at ls p ≡ x → (y : ℕ) → variable_at ls q ≡ y → (z : ℕ) → variable_at ls r ≡ z
-          → lower_place ls (lower_place ls (some p) (some q)) (some r) ≡ lower_place ls (some p) (lower_place ls (some q) (some r))
+          → lower_place ls (lower_place ls (Some p) (Some q)) (Some r) ≡ lower_place ls (Some p) (lower_place ls (Some q) (Some r))
       by x a y b z c = rw (a, b, c) (at (ltb y x) refl (ltb z y) refl)
         where
-          at : (s : Bool) → ltb y x ≡ s → (t : Bool) → ltb z y ≡ t → lower_place ls (found s q (some p)) (some r) ≡ lower_place ls (some p) (found t r (some q))
+          at : (s : Bool) → ltb y x ≡ s → (t : Bool) → ltb z y ≡ t → lower_place ls (found s q (Some p)) (Some r) ≡ lower_place ls (Some p) (found t r (Some q))
           at true e true f = let h = ltb-true y x e in let k = ltb-true z y f in rw (a, b, c, f, lt-ltb z x (omega arith))
           at true e false f = rw (a, b, c, e, f)
           at false e true f = refl
@@ -166,13 +164,13 @@ module _ (ls : List ℤ) where
 
   -- a place of the list goes before `lowest` exactly if its variable is at most `most`
   pub record UpTo (lowest : Option ℕ) (most : ℕ) : Type 0 where
-    lower : (q : ℕ) → q < length ls → variable_at ls q < suc most → lower_place ls lowest (some q) ≡ some q
-    other : (q : ℕ) → q < length ls → suc most ≤ variable_at ls q → lower_place ls lowest (some q) ≡ lowest
+    lower : (q : ℕ) → q < length ls → variable_at ls q < suc most → lower_place ls lowest (Some q) ≡ Some q
+    other : (q : ℕ) → q < length ls → suc most ≤ variable_at ls q → lower_place ls lowest (Some q) ≡ lowest
 
-  up_to_all : {v : ℕ} → Within v ls → UpTo none v
+  up_to_all : {v : ℕ} → Within v ls → UpTo None v
   up_to_all {v} w = record { lower = λ q h l. refl; other = λ q h l. let a = ltb-false v (variable_at ls q) (w.each q h) in absurd (omega arith) }
 
-  up_to_lower : {m : ℕ} (p : ℕ) → suc m ≡ variable_at ls p → UpTo (some p) m
+  up_to_lower : {m : ℕ} (p : ℕ) → suc m ≡ variable_at ls p → UpTo (Some p) m
   up_to_lower p e =
       record {
         lower = λ q h l. rw (lt-ltb (variable_at ls q) (variable_at ls p) (omega arith));
@@ -221,7 +219,7 @@ module _ (w : Values) (ls : List ℤ) where
   fresh i [] = refl
   fresh i (l ∷ r) = refl
 
-  pub force_start : {v : ℕ} → Within v ls → Forcing 0 none v
+  pub force_start : {v : ℕ} → Within v ls → Forcing 0 None v
   unfolding forced_place
   force_start h = record { seen = omega arith; up_to = up_to_all ls h; rest = fresh 0 ls }
 
@@ -255,7 +253,7 @@ module _ {w : Values} {ls : List ℤ} {i : ℕ} {lowest : Option ℕ} {most : �
       force_false k = record { seen = omega arith; up_to = f.up_to; rest = rw add-one (by (literal_value w literal) k (rw z at here_forced)) }
         where
           by : (x : Value) → is_false x ≡ true
-              → lower_place ls lowest (lower_place ls (by_value x (found (every_literal (fails_but w literal) after) i none) (forced_at w (suc i) after))
+              → lower_place ls lowest (lower_place ls (by_value x (found (every_literal (fails_but w literal) after) i None) (forced_at w (suc i) after))
               (later w ls false (suc i) after))
               ≡ forced_place w ls
               → lower_place ls lowest (forced_rest w ls (suc i) after) ≡ forced_place w ls
@@ -265,12 +263,12 @@ module _ {w : Values} {ls : List ℤ} {i : ℕ} {lowest : Option ℕ} {most : �
 
       -- the first literal that is not false: what the clause forces, and then the next clause
       module _ (k : fails w literal ≡ false) {r : ℕ} (e : r ≡ i + 1 + clause_length (drop (i + 1) ls)) where
-        forced_here : forced_at w i (literal ∷ after) ≡ found (alone w ls i) i none
+        forced_here : forced_at w i (literal ∷ after) ≡ found (alone w ls i) i None
         unfolding forced_at
         forced_here = rw z (by (literal_value w literal) k)
           where
-            by : (x : Value) → is_false x ≡ false → by_value x (found (every_literal (fails_but w literal) after) i none) (forced_at w (suc i) after)
-                ≡ found (not (is_true x) && every_literal (fails_but w literal) after) i none
+            by : (x : Value) → is_false x ≡ false → by_value x (found (every_literal (fails_but w literal) after) i None) (forced_at w (suc i) after)
+                ≡ found (not (is_true x) && every_literal (fails_but w literal) after) i None
             by True q = refl
             by False q = clash refl q
             by Unassigned q = refl
@@ -279,17 +277,17 @@ module _ {w : Values} {ls : List ℤ} {i : ℕ} {lowest : Option ℕ} {most : �
         unfolding over_clauses
         next = rw z (sym (fresh w ls r (drop r ls) ∙ past_clause ls i e (lower_place ls) (forced_at w)))
 
-        goes_on : {o : Option ℕ} {b : ℕ} → UpTo ls o b → o ≡ lower_place ls lowest (found (alone w ls i) i none) → Forcing w ls r o b
+        goes_on : {o : Option ℕ} {b : ℕ} → UpTo ls o b → o ≡ lower_place ls lowest (found (alone w ls i) i None) → Forcing w ls r o b
         goes_on {o} c q =
             let rest : Option ℕ = forced_rest w ls r (drop r ls) in
             record {
               seen = past_inside ls i e h;
               up_to = c;
-              rest = ap (λ x. lower_place ls x rest) q ∙ lower_assoc ls lowest (found (alone w ls i) i none) rest
+              rest = ap (λ x. lower_place ls x rest) q ∙ lower_assoc ls lowest (found (alone w ls i) i None) rest
                   ∙ ap (lower_place ls lowest) (sym (λ j. lower_place ls (forced_here j) (next j))) ∙ here_forced;
             }
 
-        pub force_taken : forced_up_to w most (drop i ls) ≡ true → {k m : ℕ} → k ≡ code_of literal → 2 ≤ k → m ≡ k / 2 - 1 → Forcing w ls r (some i) m
+        pub force_taken : forced_up_to w most (drop i ls) ≡ true → {k m : ℕ} → k ≡ code_of literal → 2 ≤ k → m ≡ k / 2 - 1 → Forcing w ls r (Some i) m
         force_taken t {k} c two q =
             let (low, left) = and_both (ltb (variable_at ls i) (suc most)) (alone w ls i) (sym (forced-up-to w ls i most h) ∙ t) in
             let v : k / 2 ≡ variable_at ls i = ap (λ n. n / 2) c ∙ code_variable literal in
@@ -298,27 +296,30 @@ module _ {w : Values} {ls : List ℤ} {i : ℕ} {lowest : Option ℕ} {most : �
         pub force_passed : forced_up_to w most (drop i ls) ≡ false → Forcing w ls r lowest most
         force_passed t = goes_on f.up_to (by (ltb (variable_at ls i) (suc most)) refl (alone w ls i) (sym (forced-up-to w ls i most h) ∙ t))
           where
-            by : (b : Bool) → ltb (variable_at ls i) (suc most) ≡ b → (a : Bool) → (b && a) ≡ false → lowest ≡ lower_place ls lowest (found a i none)
+            by : (b : Bool) → ltb (variable_at ls i) (suc most) ≡ b → (a : Bool) → (b && a) ≡ false → lowest ≡ lower_place ls lowest (found a i None)
             by true q true u = clash refl u
             by b q false u = sym (lower_none ls lowest)
             by false q true u = sym (f.up_to.other i h (ltb-false (variable_at ls i) (suc most) q))
 
 -- 4. The literals after the first that is not false
 
-module _ (w : Values) (l k : ℤ) where
-  pub but_same : code_of k ≡ code_of l → fails_but w l k ≡ true
-  but_same e = rw (eq-eqb (code_of k) (code_of l) e)
+module _ (ms : List ℕ) (l k : ℤ) {same code : ℕ} (e : same ≡ code_of l) (read : code ≡ code_of k) where
+  pub same_fails : code ≡ same → fails_but (packed_values ms) l k ≡ true
+  same_fails q = rw (eq-eqb (code_of k) (code_of l) (sym read ∙ q ∙ e))
 
-  pub but_other : (code_of k ≡ code_of l → ⊥) → fails_but w l k ≡ fails w k
-  but_other n = rw (ne_eqb (code_of k) (code_of l) n)
+  module _ (z : code ≡ 0 → ⊥) {n : ℕ} (value : n ≡ get_or ms (code / 2 - 1) 0 / 2) (other : code ≡ same → ⊥) where
+    is_other : fails_but (packed_values ms) l k ≡ fails (packed_values ms) k
+    is_other = rw (ne_eqb (code_of k) (code_of l) (λ q. other (read ∙ q ∙ sym e)))
+
+    pub other_fails : n ≡ 2 - code % 2 → fails_but (packed_values ms) l k ≡ true
+    other_fails q = is_other ∙ read_fails k (record { code = read; some = z; number = value }) q
+
+    pub other_stands : (n ≡ 2 - code % 2 → ⊥) → fails_but (packed_values ms) l k ≡ false
+    other_stands q = is_other ∙ read_stands k (record { code = read; some = z; number = value }) q
 
 -- at j, on the way from i
 pub record Testing (p : ℤ → Bool) (ls : List ℤ) (i j : ℕ) : Type 0 where
-  pub seen : j ≤ length ls
   pub rest : every_literal p (drop j ls) ≡ every_literal p (drop i ls)
-
-pub test_start : {p : ℤ → Bool} {ls : List ℤ} (i : ℕ) → i < length ls → Testing p ls (suc i) (i + 1)
-test_start i h = record { seen = omega arith; rest = rw add-one refl }
 
 module _ {p : ℤ → Bool} {ls : List ℤ} {i j : ℕ} (f : Testing p ls i j) where
   pub test_end : length ls ≤ j → false ≡ every_literal p (drop i ls)
@@ -336,7 +337,7 @@ module _ {p : ℤ → Bool} {ls : List ℤ} {i j : ℕ} (f : Testing p ls i j) w
     module _ (z : closes (get_or ls j (pos 0)) ≡ false) where
       pub test_on : p (get_or ls j (pos 0)) ≡ true → Testing p ls i (j + 1)
       unfolding every_literal
-      test_on k = record { seen = omega arith; rest = rw add-one (rw (z, k) at test_here) }
+      test_on k = record { rest = rw add-one (rw (z, k) at test_here) }
 
       pub test_not : p (get_or ls j (pos 0)) ≡ false → false ≡ every_literal p (drop i ls)
       unfolding every_literal

@@ -1,6 +1,5 @@
 -- While a call runs, byte k of the marks has the mark of entry k in its lowest bit, and above it the value of variable k + 1.
-use Rattle.std.specs.Prelude.{ℕ, zero, suc, ◌+◌, ◌*◌, ◌/◌, ◌%◌, ◌<◌, eqb, ℤ, length, get_or, ◌≡◌, false, cond, List, map}
-use Rattle.std.proofs.Math.Option.{Option, none, some}
+use Rattle.std.specs.Prelude.{ℕ, zero, suc, ◌+◌, ◌*◌, ◌/◌, ◌%◌, ◌<◌, eqb, ℤ, length, get_or, ◌≡◌, false, cond, List, map, Option, None, Some}
 use Rattle.answers.specs.Lists.{up_to}
 use Rattle.cnf.specs.Literals.{beyond_at}
 use Rattle.search.specs.Trail.{Value, True, False, Unassigned, Values}
@@ -30,10 +29,10 @@ packed w ms = map (λ k. get_or ms k 0 + number_of (w (suc k)) * 2) (up_to (leng
 
 -- the last of the first n marks that is 1
 unfoldable pub last_marked : List ℕ → ℕ → Option ℕ
-last_marked ms zero = none
+last_marked ms zero = None
 last_marked ms (suc n) =
     let before : Option ℕ = last_marked ms n in
-    cond (eqb (get_or ms n 0 % 2) 1) (some n) before
+    cond (eqb (get_or ms n 0 % 2) 1) (Some n) before
 
 -- no literal of the list is beyond V
 pub record Within (v : ℕ) (ls : List ℤ) : Type 0 where

@@ -2,7 +2,6 @@
 #![tactic(auto)]
 
 ghost use Rattle.std.specs.Prelude.{◌≡◌, suc, ◌+◌, ◌-◌, ◌/◌, ◌≤◌, ◌<◌, pos, length, get_or, drop, false};
-ghost use Rattle.answers.specs.First.{placed};
 ghost use Rattle.cnf.specs.Literals.{closes};
 ghost use Rattle.cnf.specs.Clauses.{clause_number};
 ghost use Rattle.search.specs.Trail.{is_unassigned};
@@ -10,7 +9,6 @@ ghost use Rattle.search.specs.Step.{every_literal, fails_but, failed_clause, for
 ghost use Rattle.search_scan.specs.PackedValues.{value_of, packed_values, last_marked, Within};
 ghost use Rattle.search_scan.specs.Clause.{forced_up_to, clause_length};
 
-use answers::Place;
 use cnf::{clause_count, closes_at, code_at};
 
 // The number of the value of a code's variable: 1 true, 2 false, else unassigned.
@@ -26,33 +24,31 @@ fn after_clause(list: &[i32], i: usize) -> usize
     requires { i ≤ length list.now }
     ensures { result ≡ i + clause_length (drop i list.now) }
 {
-    let mut j = i;
-    while j < list.len() {
-        let end = closes_at(list, j);
-        j += 1;
-        if end {
-            return j;
+    for j in i..list.len() {
+        if closes_at(list, j) {
+            return j + 1;
         }
     }
-    j
+    list.len()
 }
 
-// Where the first failed clause begins. At the first literal that is not false the rest of its clause is passed over.
-pub fn first_failed(list: &[i32], marks: &[u8]) -> Place
+// Where the first failed clause begins. At the first literal that is not false the rest of its clause is passed over: so these are no `for`
+// loops.
+pub fn first_failed(list: &[i32], marks: &[u8]) -> Option<usize>
     requires { Within (length marks.now) list.now }
-    ensures { placed result ≡ failed_clause (packed_values marks.now) list.now }
+    ensures { result ≡ failed_clause (packed_values marks.now) list.now }
 {
     let mut start: usize = 0;
-    let found: Place = 'clauses: loop {
+    let found: Option<usize> = 'clauses: loop {
         let mut i = start;
         loop {
             if i >= list.len() {
-                break 'clauses Place::Nowhere;
+                break 'clauses None;
             }
             let k = code_at(list, i);
             i += 1;
             if k == 0 {
-                break 'clauses Place::At(start);
+                break 'clauses Some(start);
             }
             if number(marks, k) != 2 - k % 2 {
                 start = after_clause(list, i);
@@ -71,17 +67,12 @@ fn others_fail(list: &[i32], marks: &[u8], place: usize) -> bool
         result ≡ every_literal (fails_but (packed_values marks.now) (get_or ls place (pos 0))) (drop (suc place) ls) }
 {
     let same = code_at(list, place);
-    let mut i = place + 1;
-    while i < list.len() {
+    for i in place + 1..list.len() {
         let k = code_at(list, i);
         if k == 0 {
             return true;
         }
-        i += 1;
-        if k == same {
-            continue;
-        }
-        if number(marks, k) != 2 - k % 2 {
+        if k != same && number(marks, k) != 2 - k % 2 {
             return false;
         }
     }
@@ -106,12 +97,13 @@ fn is_forced(list: &[i32], marks: &[u8], place: usize, most: usize) -> bool
 }
 
 // The place of the literal to append: of the clauses that force one, that with the lowest variable, and the earliest of those.
-// The variables up to `most` are lower than the lowest so far. At its first literal that is not false a clause is settled, and its rest passed over.
-pub fn forced_place(list: &[i32], marks: &[u8]) -> Place
+// The variables up to `most` are lower than the lowest so far. At its first literal that is not false a clause is settled, and its rest passed over:
+// so this is no `for` loop.
+pub fn forced_place(list: &[i32], marks: &[u8]) -> Option<usize>
     requires { Within (length marks.now) list.now }
-    ensures { placed result ≡ forced_place (packed_values marks.now) list.now }
+    ensures { result ≡ forced_place (packed_values marks.now) list.now }
 {
-    let mut lowest = Place::Nowhere;
+    let mut lowest = None;
     let mut most = marks.len();
     let mut i: usize = 0;
     while i < list.len() {
@@ -125,7 +117,7 @@ pub fn forced_place(list: &[i32], marks: &[u8]) -> Place
             continue;
         }
         if is_forced(list, marks, i, most) {
-            lowest = Place::At(i);
+            lowest = Some(i);
             most = k / 2 - 1;
         }
         i = after_clause(list, i + 1);
@@ -144,38 +136,30 @@ pub fn clause_number(list: &[i32], place: usize) -> u64
 fn is_unassigned(byte: u8) -> bool
     ensures { result ≡ is_unassigned (value_of (byte / 2)) }
 {
-    let n = byte / 2;
-    if n == 1 {
-        return false;
-    }
-    n != 2
+    !matches!(byte / 2, 1 | 2)
 }
 
 // The lowest unassigned variable, by its index from 0.
-pub fn lowest_unassigned(marks: &[u8]) -> Place
-    ensures { placed result ≡ lowest_unassigned (length marks.now) (packed_values marks.now) }
+pub fn lowest_unassigned(marks: &[u8]) -> Option<usize>
+    ensures { result ≡ lowest_unassigned (length marks.now) (packed_values marks.now) }
 {
-    let mut index: usize = 0;
-    while index < marks.len() {
-        if is_unassigned(marks[index]) {
-            return Place::At(index);
+    for (index, byte) in marks.iter().enumerate() {
+        if is_unassigned(*byte) {
+            return Some(index);
         }
-        index += 1;
     }
-    Place::Nowhere
+    None
 }
 
 // The last of the used entries that is marked 1.
-pub fn last_mark(marks: &[u8], used: usize) -> Place
+pub fn last_mark(marks: &[u8], used: usize) -> Option<usize>
     requires { used ≤ length marks.now }
-    ensures { placed result ≡ last_marked marks.now used }
+    ensures { result ≡ last_marked marks.now used }
 {
-    let mut i = used;
-    while i > 0 {
-        i -= 1;
+    for i in (0..used).rev() {
         if marks[i] % 2 == 1 {
-            return Place::At(i);
+            return Some(i);
         }
     }
-    Place::Nowhere
+    None
 }

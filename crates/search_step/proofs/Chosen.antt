@@ -4,7 +4,7 @@ use native.Mathlib.Omega.{arith}
 use lib.IntN.{ℤ, pos, negsuc}
 use lib.ListN.{length, get_or}
 use mathlib.Core.Path.{◌≡◌, refl, sym, ◌∙◌, ap, subst, fun_ext}
-use mathlib.Core.Option.{Option, none, some}
+use Rattle.std.specs.Prelude.{Option, None, Some}
 use mathlib.Core.List.{List}
 use Rattle.cnf.specs.Clauses.{clause_number}
 use Rattle.search.specs.Trail.{Entry, entry, Trail, Slices, Values, variable_value}
@@ -63,23 +63,23 @@ module _ {ls : List ℤ} {s : Slices} {used : ℕ} (at : Standing ls s used) whe
     free_as : o ≡ lowest_unassigned (length s.marks) (packed_values s.marks) → lowest_unassigned v (variable_value t) ≡ o
     free_as f = sym (f ∙ ap (λ (w : Values). lowest_unassigned v w) same)
 
-  pub on-failed : {i : ℕ} → some i ≡ failed_clause (packed_values s.marks) ls → step (length s.marks) ls t ≡ undoes t
+  pub on-failed : {i : ℕ} → Some i ≡ failed_clause (packed_values s.marks) ls → step (length s.marks) ls t ≡ undoes t
   unfolding step
   on-failed f = rw (failed_as f)
 
-  module _ (f : none ≡ failed_clause (packed_values s.marks) ls) where
-    pub on-forced : {p : ℕ} → some p ≡ forced_place (packed_values s.marks) ls
+  module _ (f : None ≡ failed_clause (packed_values s.marks) ls) where
+    pub on-forced : {p : ℕ} → Some p ≡ forced_place (packed_values s.marks) ls
         → step (length s.marks) ls t ≡ appends (entry (get_or ls p (pos 0)) 0 (clause_number ls p)) t
     unfolding step
     on-forced g = rw (failed_as f, forced_as g)
 
-    module _ (g : none ≡ forced_place (packed_values s.marks) ls) where
-      pub on_free : {n : ℕ} → some n ≡ lowest_unassigned (length s.marks) (packed_values s.marks)
+    module _ (g : None ≡ forced_place (packed_values s.marks) ls) where
+      pub on_free : {n : ℕ} → Some n ≡ lowest_unassigned (length s.marks) (packed_values s.marks)
           → step (length s.marks) ls t ≡ appends (entry (negsuc n) 1 0) t
       unfolding step
       on_free h = rw (failed_as f, forced_as g, free_as h)
 
-      pub on_full : none ≡ lowest_unassigned (length s.marks) (packed_values s.marks)
+      pub on_full : None ≡ lowest_unassigned (length s.marks) (packed_values s.marks)
           → step_handed Found s.trail s.marks s.numbers ≡ hands_next (step (length s.marks) ls) s used
       unfolding step
       on_full h = rw (failed_as f, forced_as g, free_as h) refl

@@ -1,15 +1,14 @@
 // One step of the search: document 01's "Search", the first of its listed steps that applies.
 #![tactic(auto)]
 
-ghost use Rattle.std.specs.Prelude.{◌≡◌, pos, negsuc, length, get_or};
+ghost use Rattle.std.specs.Prelude.{◌≡◌, ◌<◌, ◌≤◌, pos, negsuc, neg_ℤ, length, get_or, set};
+ghost use Rattle.cnf.specs.Literals.{most_variables};
 ghost use Rattle.cnf.specs.Clauses.{clause_number};
 ghost use Rattle.search.specs.Trail.{slices, entry};
 ghost use Rattle.search.specs.Step.{undoes, step};
 ghost use Rattle.search_trail.specs.Packed.{Running};
 ghost use Rattle.search_step.specs.Steps.{ListFits, Allows, appends, step_handed, hands_next};
 
-use answers::Place;
-use cnf::put_not;
 use search_scan::{clause_number, first_failed, forced_place, last_mark, lowest_unassigned};
 use search_trail::{assign, copy_at, negate_at, unassign};
 
@@ -27,8 +26,7 @@ fn undo(trail: &mut [i32], marks: &mut [u8], numbers: &mut [u64], used: usize) -
     ensures { step_handed result trail.new marks.new numbers.new
         ≡ hands_next undoes (slices trail.old marks.old numbers.old) used }
 {
-    let p = last_mark(marks, used);
-    let Place::At(i) = p else {
+    let Some(i) = last_mark(marks, used) else {
         return Stepped::None;
     };
     unassign(trail, marks, used, i);
@@ -57,6 +55,14 @@ fn append_forced(
     assign(trail, marks, used, 0);
     numbers[used] = clause_number(list, place);
     Stepped::MovedTo(used + 1)
+}
+
+// Writes "not" a variable at a place of the trail.
+fn put_not(trail: &mut [i32], i: usize, variable: usize)
+    requires { (i < length trail.old) × (variable ≤ most_variables) }
+    ensures { trail.new ≡ set trail.old i (neg_ℤ (pos variable)) }
+{
+    trail[i] = -(variable as i32);
 }
 
 // Appends a variable, by its index from 0, negated and marked 1, with the number 0.
@@ -92,16 +98,13 @@ pub fn step(
         ≡ hands_next (step (length marks.old) list.now)
         (slices trail.old marks.old numbers.old) used }
 {
-    let failed = first_failed(list, marks);
-    if let Place::At(_) = failed {
+    if let Some(_) = first_failed(list, marks) {
         return undo(trail, marks, numbers, used);
     }
-    let forced = forced_place(list, marks);
-    if let Place::At(place) = forced {
+    if let Some(place) = forced_place(list, marks) {
         return append_forced(list, trail, marks, numbers, used, place);
     }
-    let free = lowest_unassigned(marks);
-    let Place::At(index) = free else {
+    let Some(index) = lowest_unassigned(marks) else {
         return Stepped::Found;
     };
     append_choice(trail, marks, numbers, used, index)

@@ -8,7 +8,8 @@ use lib.ListN.{length, replicate, length-replicate}
 use borrow.Author.Tests.{eqb-true, ltb-false, eq-eqb, le-ltb, not-false}
 use mathlib.Core.Path.{◌≡◌, refl, sym, ap, subst}
 use mathlib.Core.Bool.{false, not}
-use mathlib.Core.Option.{Option, none, some, some-ne-none}
+use Rattle.std.specs.Prelude.{Option, None, Some}
+use Rattle.answers.proofs.Options.{some-none}
 use mathlib.Core.List.{List}
 use Rattle.answers.specs.First.{first_where, or_else}
 use Rattle.answers.specs.Lists.{All}
@@ -29,9 +30,9 @@ use Rattle.search_theory.proofs.Legal.{read_legal, legal_read}
 use Rattle.search_theory.proofs.Full.{legal_length}
 use Rattle.search_theory.proofs.Reasons.{read_explained, explained_read}
 
-neither : (o p : Option ℕ) → or_else o p ≡ none → (o ≡ none) × (p ≡ none)
-neither none p h = (refl, h)
-neither (some i) p h = absurd (some-ne-none i h)
+neither : (o p : Option ℕ) → or_else o p ≡ None → (o ≡ None) × (p ≡ None)
+neither None p h = (refl, h)
+neither (Some i) p h = absurd (some-none i h)
 
 -- the image of a legal trail has V elements
 length-image : {A : Type 0} (f : Entry → A) (d : A) (v : ℕ) (t : Trail) → Legal v t → length (image_by f d v t) ≡ v
@@ -75,14 +76,14 @@ module _ {v : ℕ} (s : Slices) {used : ℕ} where
       rw (le-ltb most_variables v z.few, trail, marks, le-ltb v used z.inside)
 
 -- 16 has no cause
-pub right_list : (v : ℕ) (ls : List ℤ) → wrong_list v ls ≡ none → ((i : ℕ) → i < length ls → beyond_at v ls i ≡ false) × (unclosed ls ≡ false)
+pub right_list : (v : ℕ) (ls : List ℤ) → wrong_list v ls ≡ None → ((i : ℕ) → i < length ls → beyond_at v ls i ≡ false) × (unclosed ls ≡ false)
 right_list v ls h =
     let n = neither (first_where (beyond_at v ls) (length ls)) _ h in
     (first_none (beyond_at v ls) (length ls) n.0, not_found (unclosed ls) (length ls) n.1)
 
 -- 22 has no cause
 pub right_numbers : {v : ℕ} (ls : List ℤ) → unclosed ls ≡ false → (s : Slices) (used : ℕ) → length s.numbers ≡ v → AllExplained ls (trail_of s used)
-    → wrong_numbers v ls s used ≡ none
+    → wrong_numbers v ls s used ≡ None
 right_numbers {v} ls closed s used long x = rw (eq-eqb (length s.numbers) v long) (none_first _ used (explained_read ls closed s used x))
 
 -- the search's rows are the first of either call

@@ -5,7 +5,7 @@ use lib.IntN.{ℤ}
 use mathlib.Core.Path.{◌≡◌, refl, ap}
 use mathlib.Core.Bool.{Bool, false}
 use mathlib.Core.Logic.{◌↔◌, inr}
-use mathlib.Core.Option.{Option, none, some}
+use Rattle.std.specs.Prelude.{Option, None as none, Some as some}
 use mathlib.Core.List.{List}
 use Rattle.answers.specs.Lists.{All}
 use Rattle.cnf.specs.Literals.{unclosed}

@@ -5,7 +5,7 @@ use borrow.Author.Tests.{eqb-true, eq-eqb, not-false}
 use mathlib.Core.Path.{◌≡◌, refl, sym, ◌∙◌, ap, subst}
 use mathlib.Core.Bool.{false, not}
 use mathlib.Core.Logic.{◌↔◌}
-use mathlib.Core.Option.{Option, none, some}
+use Rattle.std.specs.Prelude.{Option, None, Some}
 use Rattle.answers.specs.declared.Outcome.{Outcome}
 use Rattle.answers.specs.Outcome.{cause}
 use Rattle.answers.specs.Lent.{unless_refused}
@@ -41,9 +41,9 @@ taken_answered x s budget = (
   λ e. record { clear = answered_rows x s budget e },
 )
 
-none_found : (o : Option ℕ) → is_found o ≡ false → o ≡ none
-none_found none h = refl
-none_found (some i) h = clash refl h
+none_found : (o : Option ℕ) → is_found o ≡ false → o ≡ None
+none_found None h = refl
+none_found (Some i) h = clash refl h
 
 module _ {s : Search} where
   -- an accepted trail with all V entries used is one assignment
@@ -80,8 +80,8 @@ module _ {s : Search} where
           record { clear = (c17, (c16, (c18, (c22, (rw (eq-eqb s.used s.variables e) untrue, tt))))) }
         where
           by : (o : Option ℕ) → failed_clause (variable_value (begins s)) s.list ≡ o → is_found o ≡ false
-          by none q = refl
-          by (some i) q =
+          by None q = refl
+          by (Some i) q =
               absurd (refuted (begins s) (choice_laws s.variables s.list (variable_value (begins s)) (taken_closed ok)) (taken_proper ok) (taken_legal ok)
               q (given s) h (full_trail ok e).agrees)
 

@@ -6,7 +6,9 @@ use lib.IntN.{ℤ, pos, negsuc}
 use lib.ListN.{get_or}
 use mathlib.Core.Path.{◌≡◌, refl, sym, subst}
 use mathlib.Core.Bool.{Bool, true, false, cond}
-use mathlib.Core.Option.{Option, none, some, some-injective, some-ne-none}
+use Rattle.std.specs.Prelude.{Option, None, Some}
+use Rattle.std.proofs.lemmas.Option.{same_Some}
+use Rattle.answers.proofs.Options.{some-none}
 use mathlib.Core.List.{List, [], ◌∷◌}
 use Rattle.cnf.specs.Clauses.{clause_number}
 use Rattle.search.specs.Trail.{Entry, entry, Trail, variable_value}
@@ -22,38 +24,38 @@ KeptNext P AnsweredFound = Unit
 KeptNext P AnsweredNone = Unit
 
 module _ (P : Trail → Entry → Type 0) (negates : (t : Trail) (e : Entry) → P t (negated e)) where
-  pub kept_undo : (t u : Trail) → undo t ≡ some u → EachEntry P t → EachEntry P u
+  pub kept_undo : (t u : Trail) → undo t ≡ Some u → EachEntry P t → EachEntry P u
   unfolding undo
-  kept_undo [] u h c = absurd (some-ne-none u (sym h))
+  kept_undo [] u h c = absurd (some-none u (sym h))
   kept_undo (e ∷ t) u h c = by (eqb e.mark 1) h (kept_undo t u)
     where
-      by : (b : Bool) → cond b (some (negated e ∷ t)) (undo t) ≡ some u → (undo t ≡ some u → EachEntry P t → EachEntry P u) → EachEntry P u
-      by true h go = subst (EachEntry P) (some-injective _ u h) (negates t e, c.1)
+      by : (b : Bool) → cond b (Some (negated e ∷ t)) (undo t) ≡ Some u → (undo t ≡ Some u → EachEntry P t → EachEntry P u) → EachEntry P u
+      by true h go = subst (EachEntry P) (same_Some _ u h) (negates t e, c.1)
       by false h go = go h c.1
 
   module _ (v : ℕ) (ls : List ℤ)
-      (forces : (t : Trail) (i : ℕ) → forced_place (variable_value t) ls ≡ some i → P t (entry (get_or ls i (pos 0)) 0 (clause_number ls i)))
-      (chooses : (t : Trail) (n : ℕ) → lowest_unassigned v (variable_value t) ≡ some n → P t (entry (negsuc n) 1 0)) where
+      (forces : (t : Trail) (i : ℕ) → forced_place (variable_value t) ls ≡ Some i → P t (entry (get_or ls i (pos 0)) 0 (clause_number ls i)))
+      (chooses : (t : Trail) (n : ℕ) → lowest_unassigned v (variable_value t) ≡ Some n → P t (entry (negsuc n) 1 0)) where
     pub kept_step : (t : Trail) → EachEntry P t → KeptNext P (step v ls t)
     unfolding step
     kept_step t c = by (failed_clause (variable_value t) ls)
       where
         undoing : (o : Option Trail) → undo t ≡ o → KeptNext P (undone o)
-        undoing none e = tt
-        undoing (some u) e = kept_undo t u e c
+        undoing None e = tt
+        undoing (Some u) e = kept_undo t u e c
 
         last : (o : Option ℕ) → lowest_unassigned v (variable_value t) ≡ o → KeptNext P (on_unassigned o t)
-        last none e = tt
-        last (some n) e = (chooses t n e, c)
+        last None e = tt
+        last (Some n) e = (chooses t n e, c)
 
         on : (o : Option ℕ) → forced_place (variable_value t) ls ≡ o → KeptNext P (on_forced o ls t (on_unassigned (lowest_unassigned v (variable_value t)) t))
-        on (some i) e = (forces t i e, c)
-        on none e = last (lowest_unassigned v (variable_value t)) refl
+        on (Some i) e = (forces t i e, c)
+        on None e = last (lowest_unassigned v (variable_value t)) refl
 
         by : (o : Option ℕ)
             → KeptNext P (on_failed o t (on_forced (forced_place (variable_value t) ls) ls t (on_unassigned (lowest_unassigned v (variable_value t)) t)))
-        by (some i) = undoing (undo t) refl
-        by none = on (forced_place (variable_value t) ls) refl
+        by (Some i) = undoing (undo t) refl
+        by None = on (forced_place (variable_value t) ls) refl
 
     pub kept_run : (b : ℕ) (t : Trail) → EachEntry P t → EachEntry P (run v ls b t).trail
     unfolding run

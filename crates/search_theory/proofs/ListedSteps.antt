@@ -4,7 +4,7 @@ use native.Mathlib.Omega.{arith}
 use lib.IntN.{ℤ, pos, neg_ℤ}
 use mathlib.Core.Path.{◌≡◌, refl, sym, ◌∙◌, ap}
 use mathlib.Core.Bool.{false}
-use mathlib.Core.Option.{Option, none, some}
+use Rattle.std.specs.Prelude.{Option, None, Some}
 use mathlib.Core.List.{List, ◌∷◌}
 use Rattle.cnf.specs.Literals.{unclosed}
 use Rattle.search.specs.Trail.{entry, Trail, variable_value}
@@ -34,18 +34,18 @@ module _ (v : ℕ) (ls : List ℤ) (closed : unclosed ls ≡ false) where
       where
         last : NoneFailed (variable_value t) ls → NoneForcing (variable_value t) ls
             → (o : Option ℕ) → lowest_unassigned v (variable_value t) ≡ o → ListedStep v ls t (on_unassigned o t)
-        last f g (some n) e = chooses f g (law.free e)
-        last f g none e = finds f g (law.none_free e)
+        last f g (Some n) e = chooses f g (law.free e)
+        last f g None e = finds f g (law.none_free e)
 
         rest : NoneFailed (variable_value t) ls → (o : Option ℕ) → forced_place (variable_value t) ls ≡ o
             → ListedStep v ls t (on_forced o ls t (on_unassigned (lowest_unassigned v (variable_value t)) t))
-        rest f (some i) e = forces f (law.forced e)
-        rest f none e = last f (law.none_forced e) (lowest_unassigned v (variable_value t)) refl
+        rest f (Some i) e = forces f (law.forced e)
+        rest f None e = last f (law.none_forced e) (lowest_unassigned v (variable_value t)) refl
 
         by : (o : Option ℕ) → failed_clause (variable_value t) ls ≡ o
             → ListedStep v ls t (on_failed o t (on_forced (forced_place (variable_value t) ls) ls t (on_unassigned (lowest_unassigned v (variable_value t)) t)))
-        by (some i) e = undoes (law.failed e).1 (undoing t)
-        by none e = rest (law.none_failed e) (forced_place (variable_value t) ls) refl
+        by (Some i) e = undoes (law.failed e).1 (undoing t)
+        by None e = rest (law.none_failed e) (forced_place (variable_value t) ls) refl
 
     -- and no other
     pub only_step : {x : Next} → ListedStep v ls t x → x ≡ step v ls t

@@ -6,7 +6,9 @@ use lib.ListN.{length}
 use mathlib.Core.Path.{◌≡◌, refl, sym}
 use mathlib.Core.Bool.{Bool, true, false}
 use mathlib.Core.Logic.{inl, inr}
-use mathlib.Core.Option.{none, some, some-injective, some-ne-none}
+use Rattle.std.specs.Prelude.{None as none, Some as some}
+use Rattle.std.proofs.lemmas.Option.{same_Some}
+use Rattle.answers.proofs.Options.{some-none}
 use mathlib.Core.List.{List, [], ◌∷◌}
 use Rattle.answers.specs.First.{found}
 use Rattle.answers.specs.Lists.{All, Some}
@@ -16,10 +18,10 @@ use Rattle.search_theory.specs.Legal.{Proper}
 
 -- found nowhere, found somewhere
 pub nothing : {A : Type 0} {i : ℕ} → none ≡ some i → A
-nothing {i = i} h = absurd (some-ne-none i (sym h))
+nothing {i = i} h = absurd (some-none i (sym h))
 
 pub found_some : (b : Bool) (n : ℕ) {i : ℕ} → found b n none ≡ some i → (b ≡ true) × (n ≡ i)
-found_some true n {i} h = (refl, some-injective n i h)
+found_some true n {i} h = (refl, same_Some n i h)
 found_some false n h = nothing h
 
 pub all_map : {A : Type 0} {P Q : A → Type 0} → ((x : A) → P x → Q x) → (xs : List A) → All P xs → All Q xs

@@ -7,7 +7,7 @@ use lib.ListN.{length, get_or, replicate}
 use mathlib.Core.Path.{◌≡◌, sym, ◌∙◌, ap, subst}
 use mathlib.Core.Bool.{Bool, false, not, ◌||◌}
 use mathlib.Core.Logic.{⊎_elim}
-use mathlib.Core.Option.{none}
+use Rattle.std.specs.Prelude.{None}
 use mathlib.Core.List.{List, [], ◌∷◌, ◌++◌}
 use Rattle.answers.specs.First.{or_else, first_where}
 use Rattle.answers.specs.Lists.{All}
@@ -80,7 +80,7 @@ module _ (c : Search) (ns : List ℕ) (long : length ns ≡ length c.slices.numb
     -- and where it is taken it leaves the same
     pub unused_left : IsTaken x c → hands x (renumbered c ns) budget ≡ hands x c budget
     unused_left ok =
-        let taken : IsTaken x (renumbered c ns) = record { clear = subst (All (λ (r : Row). r.beside ≡ none)) (sym (same_rows x)) ok.clear } in
+        let taken : IsTaken x (renumbered c ns) = record { clear = subst (All (λ (r : Row). r.beside ≡ None)) (sym (same_rows x)) ok.clear } in
         hands-done taken budget ∙ (λ j. hands_done c.variables (comes_to x c.variables c.list budget (same_begin j))) ∙ sym (hands-done ok budget)
 
 -- 2. Those of unused entries are written 0

@@ -8,7 +8,7 @@ use borrow.Author.Tests.{not-false}
 use mathlib.Core.Path.{◌≡◌, refl, sym, ◌∙◌, ap, subst}
 use mathlib.Core.Bool.{Bool, true, false, ◌&&◌, ◌||◌, cond}
 use mathlib.Core.Logic.{inl, inr}
-use mathlib.Core.Option.{Option, none}
+use Rattle.std.specs.Prelude.{Option, None as none}
 use mathlib.Core.List.{List, [], ◌∷◌}
 use Rattle.answers.specs.Lists.{All, Some}
 use Rattle.cnf.specs.Literals.{closes, unclosed}

@@ -9,7 +9,7 @@ use borrow.Author.Tests.{eqb-true, eqb-false, ltb-true, lt-ltb, not-false}
 use mathlib.Core.Path.{◌≡◌, refl, sym, ◌∙◌, ap, subst}
 use mathlib.Core.Bool.{Bool, true, false, not, ◌||◌, cond}
 use mathlib.Core.Logic.{⊎_elim, ◌↔◌}
-use mathlib.Core.Option.{Option, none, some}
+use Rattle.std.specs.Prelude.{Option, None, Some}
 use mathlib.Core.List.{List, [], ◌∷◌, ◌++◌}
 use Rattle.answers.specs.First.{found, or_else, first_where, LeastWith, NoneBelow}
 use Rattle.answers.proofs.Bools.{clash, off, or_cases, or_left, or_right}
@@ -56,24 +56,24 @@ module _ (v : ℕ) (ls : List ℤ) where
   abbrev first : Option ℕ
   first = first_where (beyond_at v ls) (length ls)
 
-  first_beyond : (i : ℕ) → first ≡ some i ↔ LeastWith (BeyondAt v ls) (length ls) i
+  first_beyond : (i : ℕ) → first ≡ Some i ↔ LeastWith (BeyondAt v ls) (length ls) i
   first_beyond = first_with (beyond_at v ls) (BeyondAt v ls) (length ls) tests
 
-  none_beyond : first ≡ none ↔ NoneBelow (BeyondAt v ls) (length ls)
+  none_beyond : first ≡ None ↔ NoneBelow (BeyondAt v ls) (length ls)
   none_beyond = none_with (beyond_at v ls) (BeyondAt v ls) (length ls) tests
 
-  fault_of : (i : ℕ) (o : Option ℕ) → first ≡ o → or_else o (found (unclosed ls) (length ls) none) ≡ some i → ListFault v ls i
-  fault_of i (some m) q h = literal_beyond ((first_beyond i).0 (q ∙ h))
-  fault_of i none q h =
+  fault_of : (i : ℕ) (o : Option ℕ) → first ≡ o → or_else o (found (unclosed ls) (length ls) None) ≡ Some i → ListFault v ls i
+  fault_of i (Some m) q h = literal_beyond ((first_beyond i).0 (q ∙ h))
+  fault_of i None q h =
       let (u, e) = found_some (unclosed ls) (length ls) h in
       subst (ListFault v ls) e (not_ending (none_beyond.0 q) (λ r. clash u (ap unclosed r)) (λ front r. clash u (ap unclosed r ∙ ends-closed front)))
 
-  of_fault : {i : ℕ} → ListFault v ls i → wrong_list v ls ≡ some i
+  of_fault : {i : ℕ} → ListFault v ls i → wrong_list v ls ≡ Some i
   of_fault {i} (literal_beyond l) = rw ((first_beyond i).1 l) refl
   of_fault (not_ending f e g) = rw (none_beyond.1 f, is_unclosed ls e g) refl
 
   -- beside 16 stands the first index of a literal beyond V, else the length of a list that does not end in 0
-  pub list_place : (i : ℕ) → wrong_list v ls ≡ some i ↔ ListFault v ls i
+  pub list_place : (i : ℕ) → wrong_list v ls ≡ Some i ↔ ListFault v ls i
   list_place i = (fault_of i first refl, of_fault)
 
 -- 2. Row 18
@@ -151,7 +151,7 @@ module _ (v : ℕ) (s : Slices) where
     wrong_at (entry_mark f g) = or_right (outside || again) _ (lt-ltb 1 mark (mark_over mark f g))
 
   -- beside 18 stands the first used entry with a fault
-  pub entry_place : (used i : ℕ) → first_where (wrong_entry_at v s) used ≡ some i ↔ LeastWith (EntryFault v s) used i
+  pub entry_place : (used i : ℕ) → first_where (wrong_entry_at v s) used ≡ Some i ↔ LeastWith (EntryFault v s) used i
   entry_place used i = first_with (wrong_entry_at v s) (EntryFault v s) used (λ k h. (fault_at k, wrong_at k)) i
 
   -- a trail is legal exactly if no used entry has one

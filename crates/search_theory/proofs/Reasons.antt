@@ -10,7 +10,8 @@ use borrow.Author.Tests.{eqb-true, eqb-false, eq-eqb, ne_eqb, not-true, not-fals
 use mathlib.Core.Path.{◌≡◌, refl, sym, ◌∙◌, ap, subst}
 use mathlib.Core.Bool.{Bool, true, false, not, ◌&&◌, ◌||◌, cond}
 use mathlib.Core.Logic.{◌⊎◌, inl, inr, ⊎_elim, ◌↔◌}
-use mathlib.Core.Option.{some, some-injective}
+use Rattle.std.specs.Prelude.{Some as some}
+use Rattle.std.proofs.lemmas.Option.{same_Some}
 use mathlib.Core.List.Memᴰ
 use mathlib.Core.List.{List, [], ◌∷◌}
 use Rattle.answers.specs.First.{or_else, first_where, LeastWith}
@@ -189,7 +190,7 @@ module _ (ls : List ℤ) (closed : unclosed ls ≡ false) where
 
         by : (z : Bool) → eqb (length s.numbers) v ≡ z
             → or_else (cause (not z)) (first_where (wrong_number_at ls s) used) ≡ some i ↔ NumbersFault v ls s used i
-        by false q = (λ e. subst (NumbersFault v ls s used) (some-injective 0 i e) (not_long (eqb-false (length s.numbers) v q)), from i)
+        by false q = (λ e. subst (NumbersFault v ls s used) (same_Some 0 i e) (not_long (eqb-false (length s.numbers) v q)), from i)
           where
             from : (j : ℕ) → NumbersFault v ls s used j → some 0 ≡ some j
             from j (not_long n) = refl

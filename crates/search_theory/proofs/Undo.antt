@@ -8,7 +8,9 @@ use borrow.Author.Tests.{eqb-true, eqb-false, not-true}
 use mathlib.Core.Path.{◌≡◌, refl, sym, ◌∙◌, ap, subst}
 use mathlib.Core.Bool.{Bool, true, false, not, cond}
 use mathlib.Core.Logic.{inl, inr, ⊎_elim}
-use mathlib.Core.Option.{Option, none, some, some-injective, some-ne-none}
+use Rattle.std.specs.Prelude.{Option, None, Some}
+use Rattle.std.proofs.lemmas.Option.{same_Some}
+use Rattle.answers.proofs.Options.{some-none}
 use mathlib.Core.List.{List, [], ◌∷◌}
 use Rattle.answers.specs.First.{NoneIn, here, later}
 use Rattle.answers.proofs.Bools.{clash}
@@ -33,7 +35,7 @@ undoing (e ∷ t) = by (eqb e.mark 1) refl (undoing t)
     back n (negates f) = negates (later n f)
     back n (none_marked h) = none_marked (n, h)
 
-    by : (b : Bool) → eqb e.mark 1 ≡ b → Undoes t (undone (undo t)) → Undoes (e ∷ t) (undone (cond b (some (negated e ∷ t)) (undo t)))
+    by : (b : Bool) → eqb e.mark 1 ≡ b → Undoes t (undone (undo t)) → Undoes (e ∷ t) (undone (cond b (Some (negated e ∷ t)) (undo t)))
     by true q go = negates (here (eqb-true e.mark 1 q))
     by false q go = back (eqb-false e.mark 1 q) go
 
@@ -44,19 +46,19 @@ only_undoing (none_marked h) (negates f) = absurd (not_none f h)
 only_undoing (none_marked h) (none_marked k) = refl
 
 -- by the definition
-pub undoes_to : {t u : Trail} → Undoes t (Moved u) → undo t ≡ some u
+pub undoes_to : {t u : Trail} → Undoes t (Moved u) → undo t ≡ Some u
 undoes_to {t} {u} h = by (undo t) refl (only_undoing h (undoing t))
   where
-    by : (o : Option Trail) → undo t ≡ o → Moved u ≡ undone o → undo t ≡ some u
-    by (some x) e q = let r : x ≡ u = cc in e ∙ ap some r
-    by none e q = let z : ◌≡◌ {A = ℕ} 0 1 = cc in absurd (omega arith)
+    by : (o : Option Trail) → undo t ≡ o → Moved u ≡ undone o → undo t ≡ Some u
+    by (Some x) e q = let r : x ≡ u = cc in e ∙ ap Some r
+    by None e q = let z : ◌≡◌ {A = ℕ} 0 1 = cc in absurd (omega arith)
 
-pub undoes_nothing : (t : Trail) → NoneIn MarkedOne t → undo t ≡ none
+pub undoes_nothing : (t : Trail) → NoneIn MarkedOne t → undo t ≡ None
 undoes_nothing t h = by (undo t) refl (only_undoing (none_marked h) (undoing t))
   where
-    by : (o : Option Trail) → undo t ≡ o → AnsweredNone ≡ undone o → undo t ≡ none
-    by (some x) e q = let z : ◌≡◌ {A = ℕ} 0 1 = cc in absurd (omega arith)
-    by none e q = e
+    by : (o : Option Trail) → undo t ≡ o → AnsweredNone ≡ undone o → undo t ≡ None
+    by (Some x) e q = let z : ◌≡◌ {A = ℕ} 0 1 = cc in absurd (omega arith)
+    by None e q = e
 
 -- 2. What it keeps
 
@@ -113,13 +115,13 @@ module _ (v : ℕ) where
       was_open a (inr (inl o)) = let z = o.0 in absurd (omega arith)
       was_open a (inr (inr o)) = inr o
 
-  pub undo_some : (t u : Trail) → Legal v t → undo t ≡ some u → Undone v t u
+  pub undo_some : (t u : Trail) → Legal v t → undo t ≡ Some u → Undone v t u
   unfolding undo
-  undo_some [] u l h = absurd (some-ne-none u (sym h))
+  undo_some [] u l h = absurd (some-none u (sym h))
   undo_some (e ∷ t) u l h = by (eqb e.mark 1) refl (undo_some t u l.1) h
     where
-      by : (b : Bool) → eqb e.mark 1 ≡ b → (undo t ≡ some u → Undone v t u) → cond b (some (negated e ∷ t)) (undo t) ≡ some u → Undone v (e ∷ t) u
-      by true q go h = subst (Undone v (e ∷ t)) (some-injective _ u h) (undone_here e t l (eqb-true e.mark 1 q))
+      by : (b : Bool) → eqb e.mark 1 ≡ b → (undo t ≡ Some u → Undone v t u) → cond b (Some (negated e ∷ t)) (undo t) ≡ Some u → Undone v (e ∷ t) u
+      by true q go h = subst (Undone v (e ∷ t)) (same_Some _ u h) (undone_here e t l (eqb-true e.mark 1 q))
       by false q go h =
           let r = go h in
           let m = choices_more v e t in
@@ -131,12 +133,12 @@ module _ (v : ℕ) where
             falls = omega arith;
           }
 
-pub undo_none : (a : List Bool) (t : Trail) → undo t ≡ none → Turned a t → ⊥
+pub undo_none : (a : List Bool) (t : Trail) → undo t ≡ None → Turned a t → ⊥
 unfolding undo
 undo_none a [] h o = o
 undo_none a (e ∷ t) h o = by (eqb e.mark 1) refl (undo_none a t) h o
   where
-    by : (b : Bool) → eqb e.mark 1 ≡ b → (undo t ≡ none → Turned a t → ⊥) → cond b (some (negated e ∷ t)) (undo t) ≡ none → Turned a (e ∷ t) → ⊥
-    by true q go h o = some-ne-none _ h
+    by : (b : Bool) → eqb e.mark 1 ≡ b → (undo t ≡ None → Turned a t → ⊥) → cond b (Some (negated e ∷ t)) (undo t) ≡ None → Turned a (e ∷ t) → ⊥
+    by true q go h o = some-none _ h
     by false q go h (inl o) = eqb-false e.mark 1 q o.0
     by false q go h (inr o) = go h o

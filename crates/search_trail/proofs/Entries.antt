@@ -198,6 +198,3 @@ module _ {ts : List ℤ} {ms₀ : List ℕ} {used : ℕ} {ms : List ℕ} {i : �
             ∙ values_less (entry_at s (i - 1)) (trail_of s (i - 1)) b (rw same (g.is ∙ ap (packed_marks ts ms₀) z)) free
             ∙ ap (packed (variable_value (trail_of s (i - 1)))) (bare_value ms code 0 ∙ same);
       }
-
-  pub value_end : {n : ℕ} → i ≡ n → ms ≡ packed_marks ts ms₀ n
-  value_end e = g.is ∙ ap (packed_marks ts ms₀) e

@@ -1,5 +1,5 @@
 -- What the three buffers hold while a search runs, and how an entry is written into them.
-use Rattle.std.specs.Prelude.{ℕ, ◌+◌, ◌*◌, ◌-◌, ◌/◌, ◌%◌, ◌≤◌, ltb, ℤ, pos, length, get_or, set, ◌≡◌, cond, List, []}
+use Rattle.std.specs.Prelude.{ℕ, ◌+◌, ◌*◌, ◌-◌, ◌/◌, ◌%◌, ◌≤◌, ℤ, pos, length, get_or, set, ◌≡◌, List, []}
 use Rattle.cnf.specs.Literals.{most_variables, code_of}
 use Rattle.search.specs.Trail.{Trail, Slices, slices, filled_slices, image, trail_of, variable_value}
 use Rattle.search_theory.specs.Legal.{Legal}
@@ -60,7 +60,3 @@ made_true ts ms i = with_value ms (code_of (get_or ts i (pos 0))) (1 + code_of (
 -- an entry is used: its literal is made true, and it is marked
 abbrev pub assigned : List ℤ → List ℕ → ℕ → ℕ → List ℕ
 assigned ts ms i m = with_mark (made_true ts ms i) i m
-
--- a byte without its value, and 0 if it is not used
-abbrev pub cleared_byte : ℕ → ℕ → ℕ → ℕ
-cleared_byte byte i used = cond (ltb i used) (byte % 2) 0

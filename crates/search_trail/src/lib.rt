@@ -5,7 +5,7 @@ ghost use Rattle.std.specs.Prelude.{◌≡◌, ◌++◌, ◌-◌, ◌<◌, ◌�
 ghost use Rattle.cnf.specs.Literals.{code_of};
 ghost use Rattle.search_theory.specs.Legal.{Legal};
 ghost use Rattle.search_scan.specs.PackedValues.{bare_marks};
-ghost use Rattle.search_trail.specs.Packed.{packed_trail, packed_marks, Packed, HasByte, with_value, made_true, assigned, cleared_byte};
+ghost use Rattle.search_trail.specs.Packed.{packed_trail, packed_marks, Packed, HasByte, with_value, made_true, assigned};
 
 use cnf::code_at;
 
@@ -64,9 +64,7 @@ pub fn unassign(trail: &[i32], marks: &mut [u8], used: usize, to: usize)
     requires to_le_used { to ≤ used }
     ensures { marks.new ≡ packed_marks trail.now marks.old to }
 {
-    let mut i = used;
-    while i > to {
-        i -= 1;
+    for i in (to..used).rev() {
         let k = code_at(trail, i);
         set_value(marks, k, 0);
     }
@@ -78,45 +76,19 @@ pub fn pack_values(trail: &[i32], marks: &mut [u8], used: usize)
     requires legal { Legal (length marks.old) (packed_trail trail.now marks.old used) }
     ensures { marks.new ≡ packed_marks trail.now marks.old used }
 {
-    let mut i: usize = 0;
-    while i < used {
+    for i in 0..used {
         make_true(trail, marks, i);
-        i += 1;
     }
 }
 
-// Writes 0 from a place of the trail on.
-pub fn clear_trail(trail: &mut [i32], used: usize)
-    requires { used ≤ length trail.old }
-    ensures { trail.new ≡ take used trail.old ++ replicate (length trail.old - used) (pos 0) }
+// Writes a zero from a place on.
+pub fn clear_from<T: Copy>(buffer: &mut [T], used: usize, zero: T)
+    requires { used ≤ length buffer.old }
+    ensures { buffer.new ≡ take used buffer.old ++ replicate (length buffer.old - used) zero }
 {
-    let mut i = used;
-    while i < trail.len() {
-        trail[i] = 0;
-        i += 1;
+    for element in buffer[used..].iter_mut() {
+        *element = zero;
     }
-}
-
-// Writes 0 from a place of 64-bit numbers on.
-pub fn clear_numbers(numbers: &mut [u64], used: usize)
-    requires { used ≤ length numbers.old }
-    ensures { numbers.new ≡ take used numbers.old ++ replicate (length numbers.old - used) 0 }
-{
-    let mut i = used;
-    while i < numbers.len() {
-        numbers[i] = 0;
-        i += 1;
-    }
-}
-
-// A byte without its value, and 0 if it is not used.
-fn cleared(byte: u8, i: usize, used: usize) -> u8
-    ensures { result ≡ cleared_byte byte i used }
-{
-    if i < used {
-        return byte % 2;
-    }
-    0
 }
 
 // Takes the values away from the used marks, and writes 0 from there on.
@@ -124,9 +96,8 @@ pub fn clear_marks(marks: &mut [u8], used: usize)
     requires { used ≤ length marks.old }
     ensures { marks.new ≡ take used (bare_marks marks.old) ++ replicate (length marks.old - used) 0 }
 {
-    let mut i: usize = 0;
-    while i < marks.len() {
-        marks[i] = cleared(marks[i], i, used);
-        i += 1;
+    for mark in marks[..used].iter_mut() {
+        *mark %= 2;
     }
+    clear_from(marks, used, 0);
 }

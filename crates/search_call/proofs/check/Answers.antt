@@ -1,116 +1,68 @@
--- `search_call::check` meets its contract. Assumes nothing.
+-- `search_call::check` meets its contract: the rows of the table are passed in its order. Assumes nothing.
 use native.Mathlib.Omega.{arith}
+use Prim.Native.Nat.{ℕ}
+use lib.IntN.{ℤ}
 use lib.ListN.{drop}
-use mathlib.Core.Path.{sym, ◌∙◌, ap}
+use mathlib.Core.Path.{◌≡◌, sym, ◌∙◌, ap}
+use mathlib.Core.Bool.{false}
 use mathlib.Core.List.{List}
 use Rattle.answers.specs.declared.Outcome.{Outcome}
-use Rattle.answers.specs.Outcome.{Row, cause}
-use Rattle.answers.proofs.First.{found_at, found_none}
+use Rattle.answers.specs.Outcome.{cause}
 use Rattle.answers.proofs.Rows.{Left, left_all, left_next, left_turn, left_done}
 use Rattle.search.specs.Trail.{Slices, slices}
-use Rattle.search.specs.Call.{search_on, search_rows}
-use Rattle.search_theory.proofs.Accepted.{Sized, sized, right_list}
+use Rattle.search.specs.Call.{Search, search_on, search_rows, wrong_lengths}
+use Rattle.search_theory.proofs.Accepted.{sized, right_list}
 use Rattle.search_call.proofs.check.Goals as goal
+
+-- row 17 is passed
+past_lengths : (q : Search) (t : Outcome) → false ≡ wrong_lengths q.variables q.slices q.used → Left (search_rows q) t (drop 1 (search_rows q))
+past_lengths q t e = left_next (left_all (search_rows q) t) (ap cause e)
 
 pub returns-then-wrong_lengths : goal.returns-then-wrong_lengths
 returns-then-wrong_lengths c t =
-    let rows : List Row = search_rows (search_on c.args.variables c.args.list.now c.args.trail.now c.args.marks.now c.args.numbers.now c.args.used) in
-    let wrong = c.wrong_lengths.ensures c.args.numbers.now in
-    left_turn (left_all rows t) (sym (ap cause c.if-wrong_lengths.true) ∙ ap cause wrong)
+    let rows = search_rows (search_on c.args.variables c.args.list.now c.args.trail.now c.args.marks.now c.args.numbers.now c.args.used) in
+    left_turn (left_all rows t) (ap cause (sym c.if-wrong_lengths.true ∙ c.wrong_lengths.ensures c.args.numbers.now))
 
-pub returns-in-At : goal.returns-in-At
-returns-in-At c t =
-    let rows : List Row = search_rows (search_on c.args.variables c.args.list.now c.args.trail.now c.args.marks.now c.args.numbers.now c.args.used) in
-    let past-lengths : (t : Outcome) → Left rows t (drop 1 rows) = λ t. let wrong = c.wrong_lengths.ensures c.args.numbers.now in left_next (left_all rows t) (sym (ap cause c.if-wrong_lengths.false) ∙ ap cause wrong) in
-    left_turn (past-lengths t) (found_at c.in-At.is c.wrong_list-p.ensures)
+pub returns-in-Some : goal.returns-in-Some
+returns-in-Some c t =
+    let q = search_on c.args.variables c.args.list.now c.args.trail.now c.args.marks.now c.args.numbers.now c.args.used in
+    left_turn (past_lengths q t (sym c.if-wrong_lengths.false ∙ c.wrong_lengths.ensures c.args.numbers.now)) c.in-Some.ensures
 
-pub first_wrong_entry-p-requires-clause-v_le_most_variables : goal.first_wrong_entry-p-requires-clause-v_le_most_variables
-first_wrong_entry-p-requires-clause-v_le_most_variables c =
-    let lent : Slices = slices c.args.trail.now c.args.marks.now c.args.numbers.now in
-    let lengths : Sized c.args.variables lent c.args.used = sized _ (sym (c.wrong_lengths.ensures c.args.numbers.now) ∙ c.if-wrong_lengths.false) in
-    let z = lengths in
+pub first_wrong_entry-requires : goal.first_wrong_entry-requires
+first_wrong_entry-requires c =
+    let z = sized (slices c.args.trail.now c.args.marks.now c.args.numbers.now) (sym (c.wrong_lengths.ensures c.args.numbers.now) ∙ c.if-wrong_lengths.false) in
     let i = z.inside in
     let n = z.trail in
     let m = z.marks in
-    z.few
+    record { v_le_most_variables = z.few; used_in_bounds = (omega arith, omega arith) }
 
-pub first_wrong_entry-p-requires-clause-used_in_bounds : goal.first_wrong_entry-p-requires-clause-used_in_bounds
-first_wrong_entry-p-requires-clause-used_in_bounds c =
-    let lent : Slices = slices c.args.trail.now c.args.marks.now c.args.numbers.now in
-    let lengths : Sized c.args.variables lent c.args.used = sized _ (sym (c.wrong_lengths.ensures c.args.numbers.now) ∙ c.if-wrong_lengths.false) in
-    let z = lengths in
+pub returns-in-Some-first_wrong_entry : goal.returns-in-Some-first_wrong_entry
+returns-in-Some-first_wrong_entry c t =
+    let q = search_on c.args.variables c.args.list.now c.args.trail.now c.args.marks.now c.args.numbers.now c.args.used in
+    let past = left_next (past_lengths q t (sym c.if-wrong_lengths.false ∙ c.wrong_lengths.ensures c.args.numbers.now)) c.in_default.ensures in
+    left_turn past (c.in-Some-first_wrong_entry.ensures c.args.numbers.now)
+
+pub wrong_numbers-requires : goal.wrong_numbers-requires
+wrong_numbers-requires c =
+    let z = sized (slices c.args.trail.now c.args.marks.now c.args.numbers.now) (sym (c.wrong_lengths.ensures c.args.numbers.now) ∙ c.if-wrong_lengths.false) in
     let i = z.inside in
     let n = z.trail in
     let m = z.marks in
-    (omega arith, omega arith)
+    record {
+      v_le_most_variables = z.few;
+      within = record { each = (right_list c.args.variables c.args.list.now (sym c.in_default.ensures)).0 };
+      used_in_bounds = (omega arith, omega arith);
+      used_le_v = i;
+    }
 
-pub returns-in-At-p : goal.returns-in-At-p
-returns-in-At-p c t =
-    let rows : List Row = search_rows (search_on c.args.variables c.args.list.now c.args.trail.now c.args.marks.now c.args.numbers.now c.args.used) in
-    let past-lengths : (t : Outcome) → Left rows t (drop 1 rows) = λ t. let wrong = c.wrong_lengths.ensures c.args.numbers.now in left_next (left_all rows t) (sym (ap cause c.if-wrong_lengths.false) ∙ ap cause wrong) in
-    let past-list : (t : Outcome) → Left rows t (drop 2 rows) = λ t. left_next (past-lengths t) (found_none c.in_default.is c.wrong_list-p.ensures) in
-    left_turn (past-list t) (found_at c.in-At-p.is (c.first_wrong_entry-p.ensures c.args.numbers.now))
-
-pub wrong_numbers-p-requires-clause-v_le_most_variables : goal.wrong_numbers-p-requires-clause-v_le_most_variables
-wrong_numbers-p-requires-clause-v_le_most_variables c =
-    let lent : Slices = slices c.args.trail.now c.args.marks.now c.args.numbers.now in
-    let lengths : Sized c.args.variables lent c.args.used = sized _ (sym (c.wrong_lengths.ensures c.args.numbers.now) ∙ c.if-wrong_lengths.false) in
-    let z = lengths in
-    let i = z.inside in
-    let n = z.trail in
-    let m = z.marks in
-    let none-wrong = sym (found_none c.in_default.is c.wrong_list-p.ensures) in
-    let right = right_list c.args.variables c.args.list.now none-wrong in
-    z.few
-
-pub wrong_numbers-p-requires-clause-within : goal.wrong_numbers-p-requires-clause-within
-wrong_numbers-p-requires-clause-within c =
-    let lent : Slices = slices c.args.trail.now c.args.marks.now c.args.numbers.now in
-    let lengths : Sized c.args.variables lent c.args.used = sized _ (sym (c.wrong_lengths.ensures c.args.numbers.now) ∙ c.if-wrong_lengths.false) in
-    let z = lengths in
-    let i = z.inside in
-    let n = z.trail in
-    let m = z.marks in
-    let none-wrong = sym (found_none c.in_default.is c.wrong_list-p.ensures) in
-    let right = right_list c.args.variables c.args.list.now none-wrong in
-    record { each = right.0 }
-
-pub wrong_numbers-p-requires-clause-used_in_bounds : goal.wrong_numbers-p-requires-clause-used_in_bounds
-wrong_numbers-p-requires-clause-used_in_bounds c =
-    let lent : Slices = slices c.args.trail.now c.args.marks.now c.args.numbers.now in
-    let lengths : Sized c.args.variables lent c.args.used = sized _ (sym (c.wrong_lengths.ensures c.args.numbers.now) ∙ c.if-wrong_lengths.false) in
-    let z = lengths in
-    let i = z.inside in
-    let n = z.trail in
-    let m = z.marks in
-    let none-wrong = sym (found_none c.in_default.is c.wrong_list-p.ensures) in
-    let right = right_list c.args.variables c.args.list.now none-wrong in
-    (omega arith, omega arith)
-
-pub wrong_numbers-p-requires-clause-used_le_v : goal.wrong_numbers-p-requires-clause-used_le_v
-wrong_numbers-p-requires-clause-used_le_v c =
-    let lent : Slices = slices c.args.trail.now c.args.marks.now c.args.numbers.now in
-    let lengths : Sized c.args.variables lent c.args.used = sized _ (sym (c.wrong_lengths.ensures c.args.numbers.now) ∙ c.if-wrong_lengths.false) in
-    let z = lengths in
-    let i = z.inside in
-    let n = z.trail in
-    let m = z.marks in
-    let none-wrong = sym (found_none c.in_default.is c.wrong_list-p.ensures) in
-    let right = right_list c.args.variables c.args.list.now none-wrong in
-    z.inside
-
-pub returns-in-At-p-2 : goal.returns-in-At-p-2
-returns-in-At-p-2 c t =
-    let rows : List Row = search_rows (search_on c.args.variables c.args.list.now c.args.trail.now c.args.marks.now c.args.numbers.now c.args.used) in
-    let past-lengths : (t : Outcome) → Left rows t (drop 1 rows) = λ t. let wrong = c.wrong_lengths.ensures c.args.numbers.now in left_next (left_all rows t) (sym (ap cause c.if-wrong_lengths.false) ∙ ap cause wrong) in
-    let past-list : (t : Outcome) → Left rows t (drop 2 rows) = λ t. left_next (past-lengths t) (found_none c.in_default.is c.wrong_list-p.ensures) in
-    let past-entries : (t : Outcome) → Left rows t (drop 3 rows) = λ t. left_next (past-list t) (found_none c.in_default-p.is (c.first_wrong_entry-p.ensures c.args.numbers.now)) in
-    left_turn (past-entries t) (found_at c.in-At-p-2.is c.wrong_numbers-p.ensures)
+pub returns-in-Some-wrong_numbers : goal.returns-in-Some-wrong_numbers
+returns-in-Some-wrong_numbers c t =
+    let q = search_on c.args.variables c.args.list.now c.args.trail.now c.args.marks.now c.args.numbers.now c.args.used in
+    let past = left_next (past_lengths q t (sym c.if-wrong_lengths.false ∙ c.wrong_lengths.ensures c.args.numbers.now)) c.in_default.ensures in
+    left_turn (left_next past (c.in_default-first_wrong_entry.ensures c.args.numbers.now)) c.in-Some-wrong_numbers.ensures
 
 pub returns : goal.returns
 returns c t =
-    let rows : List Row = search_rows (search_on c.args.variables c.args.list.now c.args.trail.now c.args.marks.now c.args.numbers.now c.args.used) in
-    let past-lengths : (t : Outcome) → Left rows t (drop 1 rows) = λ t. let wrong = c.wrong_lengths.ensures c.args.numbers.now in left_next (left_all rows t) (sym (ap cause c.if-wrong_lengths.false) ∙ ap cause wrong) in
-    let past-list : (t : Outcome) → Left rows t (drop 2 rows) = λ t. left_next (past-lengths t) (found_none c.in_default.is c.wrong_list-p.ensures) in
-    let past-entries : (t : Outcome) → Left rows t (drop 3 rows) = λ t. left_next (past-list t) (found_none c.in_default-p.is (c.first_wrong_entry-p.ensures c.args.numbers.now)) in
-    left_done (left_next (past-entries t) (found_none c.in_default-p-2.is c.wrong_numbers-p.ensures))
+    let q = search_on c.args.variables c.args.list.now c.args.trail.now c.args.marks.now c.args.numbers.now c.args.used in
+    let past = left_next (past_lengths q t (sym c.if-wrong_lengths.false ∙ c.wrong_lengths.ensures c.args.numbers.now)) c.in_default.ensures in
+    left_done (left_next (left_next past (c.in_default-first_wrong_entry.ensures c.args.numbers.now)) c.in_default-wrong_numbers.ensures)

@@ -40,8 +40,8 @@ run-end-requires-clause-list_fits c =
     let packed : ValuesPackedAt c.clear_marks.new.marks c.pack_values.new.marks = record { cleared = cleared; packs = c.pack_values.ensures } in
     values_packed_listed packed
 
-pub clear_trail-requires : goal.clear_trail-requires
-clear_trail-requires c =
+pub clear_from-requires : goal.clear_from-requires
+clear_from-requires c =
     let lent : Slices = slices c.args.trail.now c.args.marks.now c.args.numbers.now in
     let ClearedAt : List ℕ → Type 0 = λ ns. Cleared c.args.list.now lent c.args.used ns in
     let cleared : ClearedAt c.clear_marks.new.marks = record { accepted = c.requires; clears = c.clear_marks.ensures } in
@@ -62,8 +62,8 @@ clear_marks-requires-2 c =
     let ran : RanAt c.clear_marks.new.marks c.pack_values.new.marks c.run-end.result (slices c.run-end.new.trail c.run-end.new.marks c.run-end.new.numbers) = record { values_packed = packed; ran = c.run-end.ensures } in
     omega (arith, ended_bytes ran)
 
-pub clear_numbers-requires : goal.clear_numbers-requires
-clear_numbers-requires c =
+pub clear_from-requires-2 : goal.clear_from-requires-2
+clear_from-requires-2 c =
     let lent : Slices = slices c.args.trail.now c.args.marks.now c.args.numbers.now in
     let ClearedAt : List ℕ → Type 0 = λ ns. Cleared c.args.list.now lent c.args.used ns in
     let cleared : ClearedAt c.clear_marks.new.marks = record { accepted = c.requires; clears = c.clear_marks.ensures } in
@@ -82,5 +82,4 @@ returns c =
     let packed : ValuesPackedAt c.clear_marks.new.marks c.pack_values.new.marks = record { cleared = cleared; packs = c.pack_values.ensures } in
     let RanAt : List ℕ → List ℕ → End → Slices → Type 0 = λ ns ws r after. Ran c.args.list.now lent c.args.used c.args.budget ns ws r after in
     let ran : RanAt c.clear_marks.new.marks c.pack_values.new.marks c.run-end.result (slices c.run-end.new.trail c.run-end.new.marks c.run-end.new.numbers) = record { values_packed = packed; ran = c.run-end.ensures } in
-    ended ran c.clear_trail.ensures c.clear_marks-2.ensures
-    c.clear_numbers.ensures
+    ended ran c.clear_from.ensures c.clear_marks-2.ensures c.clear_from-2.ensures

@@ -4,4 +4,4 @@ use Rattle.search_numbers.proofs.Places.{look_on}
 use Rattle.search_numbers.proofs.clause_start.Goals as goal
 
 pub returns : goal.returns
-returns c = look_on c.requires.table (c.args.number - 1) c.smaller-j.ensures c.after_clauses.ensures
+returns c = look_on c.requires.table (c.args.number - 1) c.min-j.ensures c.after_clauses.ensures

@@ -4,11 +4,11 @@ use mathlib.Core.Path.{sym, ◌∙◌}
 use Rattle.search_scan.proofs.Scans.{pass_none, pass_end, pass_on}
 use Rattle.search_scan.proofs.after_clause.Goals as goal
 
-pub returns-then-end : goal.returns-then-end
-returns-then-end c = pass_end c.loop-j.invariant (omega arith) (sym c.closes_at-end.ensures ∙ c.if-end.true)
+pub returns-then-closes_at : goal.returns-then-closes_at
+returns-then-closes_at c = pass_end c.loop-j.invariant (omega arith) (sym c.closes_at.ensures ∙ c.if-closes_at.true)
 
 pub loop-j-preserved : goal.loop-j-preserved
-loop-j-preserved c = pass_on c.loop-j.invariant (omega arith) (sym c.closes_at-end.ensures ∙ c.if-end.false)
+loop-j-preserved c = pass_on c.loop-j.invariant (omega arith) (sym c.closes_at.ensures ∙ c.if-closes_at.false)
 
 pub returns : goal.returns
 returns c = pass_none c.loop-j.invariant (omega arith)

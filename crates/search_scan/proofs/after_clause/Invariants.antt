@@ -1,11 +1,6 @@
 -- `search_scan::after_clause` meets its contract. Assumes nothing.
-use Prim.Native.Nat.{◌-◌}
-use lib.ListN.{length}
 use Rattle.search_scan.proofs.Scans.{Passing}
 use Rattle.search_scan.proofs.after_clause.Given as goal
 
 abbrev pub invariant-loop-j : goal.invariant-loop-j
 invariant-loop-j l = Passing l.list l.i l.j
-
-abbrev pub decreases-loop-j : goal.decreases-loop-j
-decreases-loop-j l = length l.list - l.j

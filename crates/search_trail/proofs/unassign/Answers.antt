@@ -4,12 +4,10 @@ use native.Mathlib.Omega.{arith}
 use Rattle.search_trail.proofs.unassign.Goals as goal
 
 pub code_at-k-requires : goal.code_at-k-requires
-code_at-k-requires c = value-inside c.loop-i.invariant.1 (let w = c.loop-i.invariant.1.within in omega arith)
+code_at-k-requires c = let v = c.loop-i.invariant.1 in value-inside v (omega arith)
 
 pub set_value-requires-clause-has_byte : goal.set_value-requires-clause-has_byte
-set_value-requires-clause-has_byte c =
-    let w = c.loop-i.invariant.1.within in
-    rw c.code_at-k.ensures (value_byte c.loop-i.invariant.1 (omega arith))
+set_value-requires-clause-has_byte c = let v = c.loop-i.invariant.1 in rw c.code_at-k.ensures (value_byte v (omega arith))
 
 pub loop-i-preserved : goal.loop-i-preserved
 loop-i-preserved c = (omega arith, value_less c.loop-i.invariant.1 (omega arith) c.code_at-k.ensures c.set_value.ensures)

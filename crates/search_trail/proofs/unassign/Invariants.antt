@@ -5,6 +5,3 @@ use Rattle.search_trail.proofs.unassign.Given as goal
 
 abbrev pub invariant-loop-i : goal.invariant-loop-i
 invariant-loop-i l = (l.to ≤ l.i) × Valuing l.trail l.initial.marks l.used l.marks l.i
-
-abbrev pub decreases-loop-i : goal.decreases-loop-i
-decreases-loop-i l = l.i

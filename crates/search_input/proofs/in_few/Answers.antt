@@ -1,6 +1,0 @@
--- `search_input::in_few` meets its contract. Assumes nothing.
-use Rattle.search_input.proofs.Flags.{no_flags}
-use Rattle.search_input.proofs.in_few.Goals as goal
-
-pub first_met-requires-clause-no_flag : goal.first_met-requires-clause-no_flag
-first_met-requires-clause-no_flag c = no_flags 1024
