@@ -5,7 +5,7 @@ use lib.IntN.{ℤ}
 use lib.ListN.{length, take, drop, length-append}
 use lib.Seq.{take_at}
 use mathlib.Core.Path.{◌≡◌, refl, ◌∙◌, ap}
-use mathlib.Core.Option.{none}
+use Rattle.std.specs.Prelude.{None}
 use mathlib.Core.List.{List, [], ◌∷◌}
 use Rattle.answers.specs.declared.Outcome.{Outcome}
 use Rattle.answers.specs.Outcome.{answer, row}
@@ -18,7 +18,7 @@ use Rattle.encoder.specs.Variables.{variable_count}
 use Rattle.encoder.specs.Clauses.{clauses, clause_list}
 use Rattle.encoder.specs.Encoding.{encoder_answer, encoder_leaves}
 
-module _ (s : List ℕ) (acc : IsAccepted s) (out : List ℤ) {new : List ℤ} (room : too_short (length out) (length (clause_list (board_of s))) ≡ none)
+module _ (s : List ℕ) (acc : IsAccepted s) (out : List ℤ) {new : List ℤ} (room : too_short (length out) (length (clause_list (board_of s))) ≡ None)
     (wrote : new ≡ encoder_leaves s out) where
   abbrev cs : List ℤ
   cs = clause_list (board_of s)

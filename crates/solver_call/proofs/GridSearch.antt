@@ -19,7 +19,7 @@ use Rattle.encoder.specs.Decoding.{decoded, decoder_leaves, decoder_grid_rows}
 use Rattle.search.specs.Trail.{Slices, filled_slices, image}
 use Rattle.search.specs.Run.{Ending, Found as DoneFound, None as DoneNone, Halted as DoneHalted, Done, done_outcome}
 use Rattle.search.specs.Call.{Search, Handed, Searching, IsTaken, hands_done, hands_taken}
-use Rattle.search.proofs.Endings.{same_ending, other_ending}
+use Rattle.search.proofs.Endings.{same_ending}
 use Rattle.search_call.specs.declared.Ending.{Ending as Answer}
 use Rattle.search_call.specs.declared.Ending.TheVariants.{Found, None, Halted}
 use Rattle.search_call.specs.declared.End.{End}
@@ -37,8 +37,8 @@ use Rattle.solver_call.specs.GridSearch.{Fits, Ends}
 -- a search that ends as found says so
 is_found : (x : Answer) → ending_of x ≡ DoneFound → x ≡ Found
 is_found Found e = refl
-is_found None e = other_ending e refl
-is_found Halted e = other_ending e refl
+is_found None e = cc
+is_found Halted e = cc
 
 kept : {A : Type 0} (x : Ending) (before after : A) → (x ≡ DoneFound → ⊥) → before ≡ at_found x before after
 kept DoneFound before after n = absurd (n refl)
@@ -47,10 +47,10 @@ kept DoneHalted before after n = refl
 
 module _ {g : Grid} {s : List ℕ} {needed : Needs} {ls : List ℤ} {lent : Slices} {vs ds : List ℕ} (fits : Fits g s needed ls lent vs ds) (budget : ℕ) where
   accepted : IsAccepted s
-  accepted = is_accepted s {g = g} refl fits.read
+  accepted = is_accepted s g fits.read
 
   pub may_decode : RecordFits g s
-  may_decode = read_fits s {g = g} refl fits.read
+  may_decode = read_fits s g fits.read
 
   abbrev v : ℕ
   v = variable_count (board_of s)
@@ -107,8 +107,8 @@ module _ {g : Grid} {s : List ℕ} {needed : Needs} {ls : List ℤ} {lent : Slic
   grid-leaves : (values lent : List ℕ) → grid_leaves g values lent ≡ decoder_leaves s values lent
   grid-leaves values lent =
       λ i.
-      unless_refused (goes_on s {g = g} refl fits.read (λ g. decoder_grid_rows (grid_board g s) values lent) says_yes i) lent
-      (decoded (grid_board (read_grid s {g = g} refl fits.read i) s) values)
+      unless_refused (goes_on s g fits.read (λ g. decoder_grid_rows (grid_board g s) values lent) says_yes i) lent
+      (decoded (grid_board (read_grid s g fits.read i) s) values)
 
   -- after the search: what it leaves in those parts
   module _ (e : End) {after : Slices} (h : record { outcome = end_outcome e; slices = after } ≡ hands_taken Searching gets budget)

@@ -4,14 +4,14 @@ use native.Mathlib.Omega.{arith}
 use lib.Dec.{eqb, leb}
 use mathlib.Core.Path.{◌≡◌, refl, ap}
 use mathlib.Core.Bool.{cond}
+use Rattle.std.specs.Prelude.{Result, Ok, Err}
 use Rattle.answers.specs.declared.Outcome.{Outcome}
 use Rattle.answers.proofs.OneToOne.{OneToOne, one_to_one, Between, number-eqb, number_under}
 use Rattle.rules.proofs.Outcomes.{record_numbers, record_refusals}
+use Rattle.search_call.specs.declared.End.{End}
 use Rattle.search_call.proofs.OneToOne.{end_from, end_back}
 use Rattle.solver_call.specs.declared.SolveRefusal.{SolveRefusal}
 use Rattle.solver_call.specs.declared.SolveRefusal.TheVariants.{Record, TooShort}
-use Rattle.solver_call.specs.declared.Solved.{Solved}
-use Rattle.solver_call.specs.declared.Solved.TheVariants.{Ended, Refused}
 use Rattle.solver_call.specs.Answer.{solve_refusal_outcome, solved_outcome}
 
 -- the refusals are the reader's, and 6
@@ -32,12 +32,12 @@ solve_refusals = record { from = from; back = back }
     back (Record r) = rw (number_under record_numbers r {n = 5} (omega arith)) (ap Record (record_refusals.back r))
     back (TooShort n) = refl
 
-pub solved_outcome_one_to_one : (a b : Solved) → solved_outcome a ≡ solved_outcome b → a ≡ b
+pub solved_outcome_one_to_one : (a b : Result End SolveRefusal) → solved_outcome a ≡ solved_outcome b → a ≡ b
 solved_outcome_one_to_one = one_to_one (record { from = from; back = back })
   where
-    from : Outcome → Solved
-    from t = cond (eqb t.number 0) (Ended (end_from t)) (Refused (solve_refusals.from t))
+    from : Outcome → Result End SolveRefusal
+    from t = cond (eqb t.number 0) (Ok (end_from t)) (Err (solve_refusals.from t))
 
-    back : (x : Solved) → from (solved_outcome x) ≡ x
-    back (Ended e) = ap Ended (end_back e)
-    back (Refused r) = rw (number-eqb solve_numbers r {n = 0} (omega arith)) (ap Refused (solve_refusals.back r))
+    back : (x : Result End SolveRefusal) → from (solved_outcome x) ≡ x
+    back (Ok e) = ap Ok (end_back e)
+    back (Err r) = rw (number-eqb solve_numbers r {n = 0} (omega arith)) (ap Err (solve_refusals.back r))

