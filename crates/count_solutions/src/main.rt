@@ -7,23 +7,23 @@ ghost use Rattle.answers.specs.Lent.{Wrote};
 ghost use Rattle.solver_count.specs.Answer.{meant};
 ghost use Rattle.count_solutions.specs.Printed.{count_line, printed_count};
 
-use encoder_call::{Encoded, encode};
+use answers::Outcome;
+use encoder_call::encode;
 use program_io::read_full;
-use program_text::{BUDGET, ELEMENT_LIMIT, VARIABLE_LIMIT, put_refused};
+use program_text::{BUDGET, ELEMENT_LIMIT, VARIABLE_LIMIT, put_line, put_refused};
 use solver_count::{SolutionCount, count_solutions};
 use std::io;
 use std::io::Write;
-use text::put_word;
 
 // The line of an answer.
 fn put_count(text: &mut [u8], many: SolutionCount) -> usize
     ensures { Wrote text.old 0 (count_line (meant many)) text.new result }
 {
     match many {
-        SolutionCount::NoSolution => put_word(text, 0, b"none\n"),
-        SolutionCount::OneSolution => put_word(text, 0, b"one\n"),
-        SolutionCount::SeveralSolutions => put_word(text, 0, b"several\n"),
-        SolutionCount::Unknown => put_word(text, 0, b"halted\n"),
+        SolutionCount::NoSolution => put_line(text, b"none\n"),
+        SolutionCount::OneSolution => put_line(text, b"one\n"),
+        SolutionCount::SeveralSolutions => put_line(text, b"several\n"),
+        SolutionCount::Unknown => put_line(text, b"halted\n"),
     }
 }
 
@@ -33,12 +33,11 @@ fn count_text(record: &[u8], text: &mut [u8; 4096]) -> usize
     ensures prefix_len { IsPrefixLen result text.new }
 {
     let mut list = [0i32; ELEMENT_LIMIT];
-    let e = encode(record, &mut list);
-    let Encoded::Written(c) = e else {
-        return put_refused(text, e.outcome().number as usize);
+    let counts = match encode(record, &mut list) {
+        Ok(counts) => counts,
+        Err(refusal) => return put_refused(text, Outcome::from(refusal).number as usize),
     };
-    let elements = c.elements;
-    let v = c.variables;
+    let v = counts.variables;
     if v > VARIABLE_LIMIT {
         return put_refused(text, 6);
     }
@@ -46,7 +45,7 @@ fn count_text(record: &[u8], text: &mut [u8; 4096]) -> usize
     let mut marks = [0u8; VARIABLE_LIMIT];
     let mut numbers = [0u64; VARIABLE_LIMIT];
     let many = count_solutions(
-        &list[..elements],
+        &list[..counts.elements],
         &mut trail[..v],
         &mut marks[..v],
         &mut numbers[..v],

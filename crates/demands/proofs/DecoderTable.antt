@@ -4,7 +4,7 @@ use lib.ListN.{drop, length-map}
 use borrow.Author.Tests.{eq-eqb}
 use mathlib.Core.Path.{◌≡◌, refl, sym, ◌∙◌, ap, subst}
 use mathlib.Core.Bool.{not}
-use mathlib.Core.Option.{none}
+use Rattle.std.specs.Prelude.{None}
 use mathlib.Core.List.{List, ◌∷◌, ◌++◌, map}
 use Rattle.answers.specs.Outcome.{Row, row, cause, first_refusal}
 use Rattle.answers.specs.Lent.{unless_refused}
@@ -20,7 +20,7 @@ use Rattle.answers.proofs.Elements.{length_from}
 use Rattle.demands.specs.DecoderTable.{decoder_table}
 
 -- what the decoder draws has N bytes
-drawn_right : (b : Board) (values : List ℕ) → wrong_drawing b (decoded b values) ≡ none
+drawn_right : (b : Board) (values : List ℕ) → wrong_drawing b (decoded b values) ≡ None
 drawn_right b values = ap (λ t. cause (not t)) (eq-eqb _ _ (length-map (up_to b.size) _ ∙ length_from 0 b.size))
 
 decoder_outcome : (s values lent : List ℕ) → first_refusal (decoder_table s values lent) says_yes ≡ decoder_answer s values lent

@@ -5,7 +5,7 @@ use native.Mathlib.Omega.{arith}
 use lib.ListN.{get_or, get_or-eq_default}
 use mathlib.Core.Path.{◌≡◌, refl}
 use mathlib.Core.Bool.{true}
-use mathlib.Core.Option.{Option, none, some}
+use Rattle.std.specs.Prelude.{Option, None, Some}
 use Rattle.answers.proofs.Bools.{clash}
 use Rattle.rules.specs.declared.Direction.{Direction}
 use Rattle.rules.specs.declared.Kind.{Kind}
@@ -23,12 +23,12 @@ is_three One e = clash e refl
 is_three Two e = clash e refl
 is_three Three e = refl
 
-from_edge : (p : Puzzle) (d : Direction) (x : ℕ) → x < size p.grid → (p.grid.kind ≡ Three → ⊥) → neighbour p.grid d (get_or (line p d x) 0 x) ≡ none
+from_edge : (p : Puzzle) (d : Direction) (x : ℕ) → x < size p.grid → (p.grid.kind ≡ Three → ⊥) → neighbour p.grid d (get_or (line p d x) 0 x) ≡ None
 from_edge p d x h k = by (neighbour p.grid d (get_or (line p d x) 0 x)) refl
   where
-    by : (o : Option ℕ) → neighbour p.grid d (get_or (line p d x) 0 x) ≡ o → o ≡ none
-    by none e = refl
-    by (some y) e = absurd (k (is_three p.grid.kind (beyond_far_end p d x h y e).0))
+    by : (o : Option ℕ) → neighbour p.grid d (get_or (line p d x) 0 x) ≡ o → o ≡ None
+    by None e = refl
+    by (Some y) e = absurd (k (is_three p.grid.kind (beyond_far_end p d x h y e).0))
 
 pub request_e3 : RequestE3
 request_e3 =

@@ -3,7 +3,8 @@ use Prim.Native.Nat.{ℕ}
 use lib.ListN.{get_or}
 use mathlib.Core.Path.{◌≡◌, refl, sym, ◌∙◌, ap}
 use mathlib.Core.Bool.{true}
-use mathlib.Core.Option.{some, some-injective}
+use Rattle.std.specs.Prelude.{Some}
+use Rattle.std.proofs.lemmas.Option.{same_Some}
 use mathlib.Core.List.{List, [], ◌∷◌, map}
 use Rattle.answers.specs.First.{first_from}
 use Rattle.answers.specs.Lists.{All, ◌∈◌}
@@ -76,10 +77,10 @@ module _ (s : List ℕ) (x : ℕ) (h : ShadedAt s x) where
       by (Q y k) o e = not_this y o.0 e
       by (T y j t) k e = shaded.no_clue s x h k.0 k.1 (k.2 ∙ e)
 
-  none_to : (y : ℕ) (d : Direction) → (board_of s).next d y ≡ some x → E y d ∈ variables (board_of s) → ⊥
+  none_to : (y : ℕ) (d : Direction) → (board_of s).next d y ≡ Some x → E y d ∈ variables (board_of s) → ⊥
   none_to y d e m =
       let (o, (z, next, opened)) = of_variables (board_of s) (E y d) m in
-      not_this z opened (some-injective z x (sym next ∙ e))
+      not_this z opened (same_Some z x (sym next ∙ e))
 
   decoded_byte : (values : List ℕ) → get_or (decoded (board_of s) values) x 0 ≡ 0x20
   decoded_byte values =

@@ -1,7 +1,7 @@
 -- Document 02's request E6 holds. What it says stands in specs/RequestE6.antt; what is cited here is proved in dimacs_theory. Assumes nothing.
 use Prim.Native.Nat.{ℕ}
 use mathlib.Core.Path.{◌≡◌, refl, subst}
-use mathlib.Core.Option.{some}
+use Rattle.std.specs.Prelude.{Some}
 use mathlib.Core.List.{List, [], ◌++◌, map}
 use Rattle.answers.specs.Lists.{All}
 use Rattle.answers.proofs.Elements.{all_in, all_at}
@@ -27,7 +27,7 @@ abbrev TextIsRead : TextRead → Type 0
 TextIsRead s = ReadAs (read_text s) s.variables s.list
 
 abbrev TextIsRefused : TextRefused → Type 0
-TextIsRefused s = refused_at (refused_text s) ≡ some s.place
+TextIsRefused s = refused_at (refused_text s) ≡ Some s.place
 
 read_as : All TextIsRead texts_read
 unfolding decimal_in end_from refused_from list_from
@@ -42,7 +42,7 @@ read_as = (
   ),
 )
 
-refused-at : map (λ s. refused_at (refused_text s)) texts_refused ≡ map (λ (s : TextRefused). some s.place) texts_refused
+refused-at : map (λ s. refused_at (refused_text s)) texts_refused ≡ map (λ (s : TextRefused). Some s.place) texts_refused
 unfolding decimal_in refused_from
 refused-at = refl
 
@@ -52,7 +52,7 @@ taken = all_in IsRead texts_read (λ s m out room. reader_answers (read_text s) 
 
 turned_down : All IsRefused texts_refused
 turned_down =
-    let places = at_each (λ s. refused_at (refused_text s)) (λ (s : TextRefused). some s.place) texts_refused refused-at in
+    let places = at_each (λ s. refused_at (refused_text s)) (λ (s : TextRefused). Some s.place) texts_refused refused-at in
     all_in IsRefused texts_refused (λ s m out. (reader_refused (refused_text s) out s.place).1 (all_at TextIsRefused places m))
 
 pub request_e6 : RequestE6

@@ -8,8 +8,7 @@
 --   by_search, all that it hands out         the search, `search_call::search`
 --   writer_answer, writer_leaves              the text writer, `dimacs_writer::write`
 --   reader_answer, reader_leaves              the text reader, `dimacs_reader::read`
-use Rattle.std.specs.Prelude.{ℕ, ◌+◌, ◌-◌, ◌≤◌, ◌<◌, ◌^◌, ℤ, length, ◌≡◌, Bool, ◌↔◌, ◌⊎◌, List, [], ◌∷◌, ◌++◌}
-use Rattle.std.proofs.Math.Option.{none, some}
+use Rattle.std.specs.Prelude.{ℕ, ◌+◌, ◌-◌, ◌≤◌, ◌<◌, ◌^◌, ℤ, length, ◌≡◌, Bool, ◌↔◌, ◌⊎◌, List, [], ◌∷◌, ◌++◌, None as none, Some as some}
 use Rattle.answers.specs.First.{first_where, Least, LeastWith}
 use Rattle.answers.specs.Outcome.{answer}
 use Rattle.answers.specs.Lent.{capped, too_short, filled}

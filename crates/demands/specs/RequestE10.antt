@@ -1,8 +1,7 @@
 -- Document 02, E10, "The clause behind each entry", as one statement, in its order and words; what is in quotation marks is the request's.
 -- What a search gets and hands out has three slices: trail, marks and numbers (`Slices`). Entry i of slices s is `entry_at s i`, and the entries before it are
 -- `trail_of s i`. Where a step alone is spoken of, it is asked of the list only that its last clause is closed, as it is in each that is accepted.
-use Rattle.std.specs.Prelude.{ℕ, suc, ◌≤◌, ◌<◌, ℤ, pos, neg_ℤ, length, get_or, drop, ◌≡◌, Bool, false, ◌↔◌, List, [], ◌∷◌}
-use Rattle.std.proofs.Math.Option.{none, some}
+use Rattle.std.specs.Prelude.{ℕ, suc, ◌≤◌, ◌<◌, ℤ, pos, neg_ℤ, length, get_or, drop, ◌≡◌, Bool, false, ◌↔◌, List, [], ◌∷◌, None, Some}
 use Rattle.answers.specs.ByRows.{ByRows}
 use Rattle.answers.specs.First.{first_where, FirstIn}
 use Rattle.answers.specs.Lists.{All}
@@ -23,8 +22,8 @@ use Rattle.demands.specs.RequestE9.{RequestE9}
 -- 17, 16 and 18 have no cause
 pub record NoneBefore22 (c : Search) : Type 0 where
   pub none_17 : wrong_lengths c.variables c.slices c.used ≡ false
-  pub none_16 : wrong_list c.variables c.list ≡ none
-  pub none_18 : first_where (wrong_entry_at c.variables c.slices) c.used ≡ none
+  pub none_16 : wrong_list c.variables c.list ≡ None
+  pub none_18 : first_where (wrong_entry_at c.variables c.slices) c.used ≡ None
 
 -- what was said of trails before
 pub record EarlierTrails : Type 0 where
@@ -64,7 +63,7 @@ pub record RequestE10 : Type 0 where
       → (n : ℕ) (u : Trail) → Leads c.variables c.list t n u → AllExplained c.list u
   pub when_left : (x : Call) (c : Search) → IsTaken x c → (budget : ℕ) → AllExplained c.list (ends_at (hands x c budget))
   -- "A search refuses slices whose used entries break this or have a non-zero number beside a mark 1"
-  pub refuses : (v : ℕ) (ls : List ℤ) → unclosed ls ≡ false → (s : Slices) (used i : ℕ) → wrong_numbers v ls s used ≡ some i ↔ NumbersFault v ls s used i
+  pub refuses : (v : ℕ) (ls : List ℤ) → unclosed ls ≡ false → (s : Slices) (used i : ℕ) → wrong_numbers v ls s used ≡ Some i ↔ NumbersFault v ls s used i
   -- (So a search takes what 17, 16 and 18 do not refuse exactly if there are V numbers and each used entry keeps to it.)
   pub takes : (c : Search) → IsTaken Searching c ↔ (NoneBefore22 c × (length c.slices.numbers ≡ c.variables) × AllExplained c.list (begins c))
   -- "(numbers at unused entries aren't looked at on the way in),"

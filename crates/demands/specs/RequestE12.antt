@@ -1,8 +1,7 @@
 -- Document 02, E12, "The new house rule for sight lines", as one statement, in its order and words; what is in quotation marks is the request's.
 -- `line_of s d x` is the line of an arrow in cell x of a record's grid, in direction d: its cells, the far end first, by `line` of rules/specs/Board.antt.
 -- `to_edge` is every cell from x's neighbour in that direction to the board's edge.
-use Rattle.std.specs.Prelude.{ℕ, ◌≤◌, ◌<◌, length, get_or, ◌≡◌, Bool, ◌↔◌, ◌⊎◌, List, [], ◌∷◌}
-use Rattle.std.proofs.Math.Option.{none, some}
+use Rattle.std.specs.Prelude.{ℕ, ◌≤◌, ◌<◌, length, get_or, ◌≡◌, Bool, ◌↔◌, ◌⊎◌, List, [], ◌∷◌, None, Some}
 use Rattle.answers.specs.Lists.{All, ◌∈◌, ApartBy}
 use Rattle.answers.specs.Outcome.{refusal, answer}
 use Rattle.rules.specs.declared.Direction.{Direction}
@@ -54,9 +53,9 @@ pub record Matched (b : Board) : Type 0 where
 abbrev pub kind_three_grids : List GridStar
 kind_three_grids =
     -- 1×3 `21 10 00`: the line of the first clue is empty; in kind 1 V = 10 (`grid_case 5`)
-    record { grid = grid_case 9; solutions = []; says = answer 2 3 2; text = none } ∷
+    record { grid = grid_case 9; solutions = []; says = answer 2 3 2; text = None } ∷
     -- 1×3 `20 50 00`: the line goes on past the shaded cell, as in kind 1
-    record { grid = grid_case 10; solutions = []; says = answer 2 3 2; text = none } ∷
+    record { grid = grid_case 10; solutions = []; says = answer 2 3 2; text = None } ∷
     []
 
 -- 3×3 `20 10 00 / 00 00 00 / 00 00 00` of a kind, and a drawing of it: the first clue's line has a black cell in kind 1, and no cell in kind 3
@@ -78,7 +77,7 @@ pub record RequestE12 : Type 0 where
   -- (So a clue next to a clue, in its direction, has an empty line.)
   pub stop : (s : List ℕ) → OfKind kind_three s → (d : Direction) (x : ℕ)
       → BeforeFirst (HasClue (puzzle (grid_of s) s)) (to_edge (grid_of s) d x) (line_of s d x)
-  pub next_to_clue : (s : List ℕ) → OfKind kind_three s → (d : Direction) (x y : ℕ) → neighbour (grid_of s) d x ≡ some y
+  pub next_to_clue : (s : List ℕ) → OfKind kind_three s → (d : Direction) (x y : ℕ) → neighbour (grid_of s) d x ≡ Some y
       → HasClue (puzzle (grid_of s) s) y → line_of s d x ≡ []
   -- "that far end then standing for the edge in all counting,"
   -- (E3 is about the lines of every kind: the judge's count and T go from the far end to the clue, cell by cell. Beyond the far end is the edge or a clue.)
@@ -87,7 +86,7 @@ pub record RequestE12 : Type 0 where
   -- (A shaded neighbour, in the line's direction, of the clue's own cell or of one on the line is on the line. As in E3, `get_or line j x` comes after j cells of
   -- the line, and the clue's own cell after all of them.)
   pub not_shaded : (s : List ℕ) → OfKind kind_three s → (d : Direction) (x : ℕ) → x < size (grid_of s)
-      → (j y : ℕ) → j ≤ length (line_of s d x) → neighbour (grid_of s) d (get_or (line_of s d x) j x) ≡ some y → ShadedAt s y → y ∈ line_of s d x
+      → (j y : ℕ) → j ≤ length (line_of s d x) → neighbour (grid_of s) d (get_or (line_of s d x) j x) ≡ Some y → ShadedAt s y → y ∈ line_of s d x
   -- "Refusal 2 is given for a kind other than 1, 2 or 3."
   pub other_kind : (s : List ℕ) → record_answer s ≡ refusal 2 0 ↔ OfOtherKind s
   pub each_kind : (s : List ℕ) → IsAccepted s → EitherKind s ⊎ OfKind kind_three s

@@ -1,8 +1,7 @@
 -- Document 02, E3, "Line count in the text's order", as one statement, in its order and words; what is in quotation marks is the request's.
 -- "The text" is document 004. The judge's counting is `judge_cells::cells::blacks_nearest`: by its contract it hands out `blacks_nearest` of the line for
 -- each j from 0 to the line's length. After j cells of the line of a clue in cell x comes `get_or line j x`, the clue's own cell x after all of them.
-use Rattle.std.specs.Prelude.{ℕ, suc, ◌≤◌, ◌<◌, length, get_or, ◌≡◌, Bool, true, ◌↔◌, List}
-use Rattle.std.proofs.Math.Option.{none, some}
+use Rattle.std.specs.Prelude.{ℕ, suc, ◌≤◌, ◌<◌, length, get_or, ◌≡◌, Bool, true, ◌↔◌, List, None, Some}
 use Rattle.answers.specs.Lists.{tally, how_many}
 use Rattle.rules.specs.declared.Direction.{Direction}
 use Rattle.rules.specs.declared.Cell.TheVariants.{Clue as Clued}
@@ -20,12 +19,12 @@ pub record RequestE3 : Type 0 where
   -- "Document 004 counts a line from the board's edge"
   -- (So in kinds 1 and 2. In kind 3, which is E12's, it is counted from its far end: beyond that is the edge, or the clue that stops the line.)
   pub from_edge : (p : Puzzle) (d : Direction) (x : ℕ) → x < size p.grid → (p.grid.kind ≡ Three → ⊥)
-      → neighbour p.grid d (get_or (line p d x) 0 x) ≡ none
-  pub from_far_end : (p : Puzzle) (d : Direction) (x y : ℕ) → x < size p.grid → neighbour p.grid d (get_or (line p d x) 0 x) ≡ some y
+      → neighbour p.grid d (get_or (line p d x) 0 x) ≡ None
+  pub from_far_end : (p : Puzzle) (d : Direction) (x y : ℕ) → x < size p.grid → neighbour p.grid d (get_or (line p d x) 0 x) ≡ Some y
       → (p.grid.kind ≡ Three) × HasClue p y
   -- "towards the clue. However it goes now, the judge's counting is to go the same way, cell by cell in the order of that text,"
   pub cell_by_cell : (p : Puzzle) (d : Direction) (x j : ℕ) → j < length (line p d x)
-      → neighbour p.grid (opposite d) (get_or (line p d x) j x) ≡ some (get_or (line p d x) (suc j) x)
+      → neighbour p.grid (opposite d) (get_or (line p d x) j x) ≡ Some (get_or (line p d x) (suc j) x)
   pub to_clue : (p : Puzzle) (d : Direction) (x : ℕ) → get_or (line p d x) (length (line p d x)) x ≡ x
   -- "so that the two can be read side by side:"
   -- (Of an assignment that satisfies a grid's clauses and the drawing that it decodes to, and a clue in cell x with its direction and number: T(j,t),

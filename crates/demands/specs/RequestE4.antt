@@ -1,8 +1,7 @@
 -- Document 02, E4, "Larger sheets, larger numbers", as one statement, in its order and words; what is in quotation marks is the request's.
 -- What a record of a kind is, and what the reader tells of it, is said in rules_theory/specs/RecordKinds.antt, over the six numbers that set a kind apart.
 -- The reader is `rules::record::read`; by its contract the outcome of what it hands out is `record_answer`, which has the kind as its third value.
-use Rattle.std.specs.Prelude.{ℕ, ◌≤◌, ◌<◌, ◌^◌, ℤ, length, ◌≡◌, ◌↔◌, ◌⊎◌, List}
-use Rattle.std.proofs.Math.Option.{none}
+use Rattle.std.specs.Prelude.{ℕ, ◌≤◌, ◌<◌, ◌^◌, ℤ, length, ◌≡◌, ◌↔◌, ◌⊎◌, List, None}
 use Rattle.answers.specs.Outcome.{refusal}
 use Rattle.rules.specs.Record.{record_answer, IsAccepted}
 use Rattle.rules.specs.Board.{board_of}
@@ -56,4 +55,4 @@ pub record RequestE4 : Type 0 where
   pub larger_limits : (s : List ℕ) → IsAccepted s → BoundedBoard (board_of s)
   pub few_variables : (s : List ℕ) → IsAccepted s → variable_count (board_of s) ≤ most_variables
   pub short_list : (s : List ℕ) → IsAccepted s → length (clause_list (board_of s)) < 2 ^ 30
-  pub list_taken : (s : List ℕ) → IsAccepted s → wrong_list (variable_count (board_of s)) (clause_list (board_of s)) ≡ none
+  pub list_taken : (s : List ℕ) → IsAccepted s → wrong_list (variable_count (board_of s)) (clause_list (board_of s)) ≡ None

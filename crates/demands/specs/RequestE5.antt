@@ -1,7 +1,6 @@
 -- Document 02, E5, "Shaded cells with no arrow", as one statement, in its order and words; what is in quotation marks is the request's.
 -- A shaded cell of a grid is `ShadedAt` of rules_theory/specs/Shaded.antt. The records of each kind are `kind_one` and `kind_two` of RequestE4.
-use Rattle.std.specs.Prelude.{ℕ, ◌≤◌, ◌<◌, get_or, ◌≡◌, false, ◌↔◌, ◌⊎◌, List, [], ◌∷◌}
-use Rattle.std.proofs.Math.Option.{none, some}
+use Rattle.std.specs.Prelude.{ℕ, ◌≤◌, ◌<◌, get_or, ◌≡◌, false, ◌↔◌, ◌⊎◌, List, [], ◌∷◌, None, Some}
 use Rattle.answers.specs.Lists.{how_many, All, ◌∈◌}
 use Rattle.answers.specs.Outcome.{refusal, answer}
 use Rattle.rules.specs.declared.Direction.{Direction}
@@ -35,11 +34,11 @@ variable_cell (T x j t) = x
 abbrev pub shaded_grids : List GridStar
 shaded_grids =
     -- 1×1 shaded: V = 0, the list is `0`, "none" at step 1
-    record { grid = grid_case 6; solutions = []; says = answer 2 1 0; text = none } ∷
+    record { grid = grid_case 6; solutions = []; says = answer 2 1 0; text = None } ∷
     -- 1×3 `20 50 00`: the line of the clue goes on past the shaded cell
-    record { grid = grid_case 7; solutions = []; says = answer 2 3 2; text = none } ∷
+    record { grid = grid_case 7; solutions = []; says = answer 2 3 2; text = None } ∷
     -- 2×3 `00 00 50 / 00 00 50`: the loop of the open 2×2 grid
-    record { grid = grid_case 8; solutions = (0x06 ∷ 0x0C ∷ 0x20 ∷ 0x03 ∷ 0x09 ∷ 0x20 ∷ []) ∷ []; says = answer 1 33 32; text = none } ∷
+    record { grid = grid_case 8; solutions = (0x06 ∷ 0x0C ∷ 0x20 ∷ 0x03 ∷ 0x09 ∷ 0x20 ∷ []) ∷ []; says = answer 1 33 32; text = None } ∷
     []
 
 -- the demands and requests before this one
@@ -78,7 +77,7 @@ pub record RequestE5 : Type 0 where
   -- "has no T variables,"
   -- (Nor has it another variable, and no E leads to it: those are of open cells.)
   pub no_variable : (s : List ℕ) (x : ℕ) → ShadedAt s x → (v : Variable) → v ∈ variables (board_of s) → variable_cell v ≡ x → ⊥
-  pub none_to : (s : List ℕ) (x : ℕ) → ShadedAt s x → (y : ℕ) (d : Direction) → (board_of s).next d y ≡ some x → E y d ∈ variables (board_of s) → ⊥
+  pub none_to : (s : List ℕ) (x : ℕ) → ShadedAt s x → (y : ℕ) (d : Direction) → (board_of s).next d y ≡ Some x → E y d ∈ variables (board_of s) → ⊥
   -- "and in a clue's line acts as a clue cell."
   -- (Of two grids that differ in a cell x that is a clue in the first and shaded in the second: the clues of the second are those of the first but the one in
   -- x, with their lines, and each has the same clauses, by the letters of the variables; and the solutions of the first are those of the second in which the

@@ -1,8 +1,7 @@
 -- Document 02, E8, "Sixty-four value lists in one reading", as one statement, in its order and words; what is in quotation marks is the request's.
 -- The call is `cnf_batch::satisfied`; by its contract what it tells of V, a clause list and the words is `batch_answer`. It is lent no buffer. `bit_set i` of a
 -- word tells whether bit i is set, the one of weight 2^i. `Satisfies` is that of cnf/specs/Clauses.antt, on which demand 3 rests too.
-use Rattle.std.specs.Prelude.{ℕ, suc, ◌-◌, ◌^◌, ◌≤◌, ◌<◌, ℤ, pos, length, get_or, ◌≡◌, Bool, true, ◌↔◌, List, [], ◌∷◌, ◌++◌}
-use Rattle.std.proofs.Math.Option.{none, some}
+use Rattle.std.specs.Prelude.{ℕ, suc, ◌-◌, ◌^◌, ◌≤◌, ◌<◌, ℤ, pos, length, get_or, ◌≡◌, Bool, true, ◌↔◌, List, [], ◌∷◌, ◌++◌, None, Some}
 use Rattle.answers.specs.Lists.{All, ◌∈◌}
 use Rattle.answers.specs.Outcome.{answer, refusal}
 use Rattle.answers.specs.ByRows.{ByRows}
@@ -22,7 +21,7 @@ pub record RequestE8 : Type 0 where
   -- "a single pass over the clauses answers a word whose bit i is set exactly when list i satisfies all of them."
   -- (The word has 64 bits, and no other word has these. Every list satisfies the empty clause list, none a list with an empty clause. That there is one pass is
   -- seen in the code: the only loop of the call is that of `read_clauses` over the list.)
-  pub answered : (v : ℕ) (ls : List ℤ) (words : List ℕ) → v ≤ most_variables → length words ≡ v → wrong_list v ls ≡ none
+  pub answered : (v : ℕ) (ls : List ℤ) (words : List ℕ) → v ≤ most_variables → length words ≡ v → wrong_list v ls ≡ None
       → batch_answer v ls words ≡ answer (satisfied_word words ls) 0 0
   pub set_exactly : (words : List ℕ) (ls : List ℤ) (i : ℕ) → i < 64 → bit_set i (satisfied_word words ls) ≡ true ↔ Satisfies (value_list words i) ls
   pub one_word : (words : List ℕ) (ls : List ℤ) → satisfied_word words ls < 2 ^ 64
@@ -40,7 +39,7 @@ pub record RequestE8 : Type 0 where
   pub by_rows : (v : ℕ) (ls : List ℤ) (words : List ℕ) → ByRows (17 ∷ 21 ∷ 16 ∷ []) (batch_rows v ls words) (batch_answer v ls words) Unit
   pub refused-variables : (v : ℕ) (ls : List ℤ) (words : List ℕ) → most_variables < v → batch_answer v ls words ≡ refusal 17 0
   pub refused-words : (v : ℕ) (ls : List ℤ) (words : List ℕ) → v ≤ most_variables → (length words ≡ v → ⊥) → batch_answer v ls words ≡ refusal 21 0
-  pub refused_list : (v : ℕ) (ls : List ℤ) (words : List ℕ) → v ≤ most_variables → length words ≡ v → {i : ℕ} → wrong_list v ls ≡ some i
+  pub refused_list : (v : ℕ) (ls : List ℤ) (words : List ℕ) → v ≤ most_variables → length words ≡ v → {i : ℕ} → wrong_list v ls ≡ Some i
       → batch_answer v ls words ≡ refusal 16 i
   -- (Calls, computed.)
   pub samples : All CaseHolds batch_cases

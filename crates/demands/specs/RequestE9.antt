@@ -2,8 +2,7 @@
 -- A step of `search`, and of `next` after its drop, is `step`, of V, a clause list and a trail. A clause forces a literal if it has no true literal and its
 -- unassigned literals are all that one: `Forces` of search_theory/specs/Choices.antt. Where a step alone is spoken of, it is asked of the list only that its
 -- last clause is closed, as it is in each that is accepted.
-use Rattle.std.specs.Prelude.{ℕ, suc, ℤ, ◌≡◌, Bool, false, List, [], ◌∷◌}
-use Rattle.std.proofs.Math.Option.{none, some}
+use Rattle.std.specs.Prelude.{ℕ, suc, ℤ, ◌≡◌, Bool, false, List, [], ◌∷◌, None as none, Some as some}
 use Rattle.answers.specs.Lists.{All, Some}
 use Rattle.answers.specs.Outcome.{answer}
 use Rattle.cnf.specs.Literals.{unclosed}

@@ -1,6 +1,5 @@
 -- The starred cases of document 01's "Grids to try": what is said of each, over a list of them.
-use Rattle.std.specs.Prelude.{ℕ, ℤ, get_or, ◌≡◌, List, [], ◌∷◌, ◌++◌, map}
-use Rattle.std.proofs.Math.Option.{Option, none, some}
+use Rattle.std.specs.Prelude.{ℕ, ℤ, get_or, ◌≡◌, List, [], ◌∷◌, ◌++◌, map, Option, None, Some}
 use Rattle.answers.specs.declared.Outcome.{Outcome}
 use Rattle.answers.specs.Outcome.{answer}
 use Rattle.rules.specs.Record.{record_answer, IsAccepted}
@@ -22,8 +21,8 @@ pub record GridStar : Type 0 where
 
 -- the text of V and a list, where one is given
 abbrev pub TextIs : ℕ → List ℤ → Option (List ℕ) → Type 0
-TextIs v ls none = Unit
-TextIs v ls (some text) = text_of v ls ≡ text
+TextIs v ls None = Unit
+TextIs v ls (Some text) = text_of v ls ≡ text
 
 -- V and the list, searched
 abbrev pub search_of : GridStar → lists.Case
@@ -54,14 +53,14 @@ grid_case k = get_or grids.cases k (record { bytes = []; outcome = answer 0 0 0;
 abbrev pub grid_stars : List GridStar
 grid_stars =
     -- 1×1 open, record `07 00 01 00 01 01 00`: no solution. Search from empty: "none" at step 3.
-    record { grid = grid_case 0; solutions = []; says = answer 2 3 2; text = some one_cell_text } ∷
+    record { grid = grid_case 0; solutions = []; says = answer 2 3 2; text = Some one_cell_text } ∷
     -- 1×1 with 0x10 (V = 1) and with 0x11: none; F = 0 gives an empty clause.
-    record { grid = grid_case 1; solutions = []; says = answer 2 1 0; text = none } ∷
-    record { grid = grid_case 2; solutions = []; says = answer 2 1 0; text = none } ∷
+    record { grid = grid_case 1; solutions = []; says = answer 2 1 0; text = None } ∷
+    record { grid = grid_case 2; solutions = []; says = answer 2 1 0; text = None } ∷
     -- 1×2 open: none.
-    record { grid = grid_case 3; solutions = []; says = answer 2 7 6; text = none } ∷
+    record { grid = grid_case 3; solutions = []; says = answer 2 7 6; text = None } ∷
     -- 2×2 open: one.
-    record { grid = grid_case 4; solutions = (0x06 ∷ 0x0C ∷ 0x03 ∷ 0x09 ∷ []) ∷ []; says = answer 1 33 32; text = none } ∷
+    record { grid = grid_case 4; solutions = (0x06 ∷ 0x0C ∷ 0x03 ∷ 0x09 ∷ []) ∷ []; says = answer 1 33 32; text = None } ∷
     []
 
 -- the starred cases: these grids; cells 0x0F and 0x51 refused (document 01 has 0x50), sides 0 and 25 refused, and beside them 0 and 46 of kind 2; the lists

@@ -6,7 +6,8 @@ use mathlib.Core.Path.{◌≡◌}
 use mathlib.Core.List.{List}
 use Rattle.answers.specs.Lent.{Wrote}
 use Rattle.answers.proofs.Lent.{wrote_recast}
-use Rattle.rules.specs.declared.Grid.{Grid}
+use Rattle.rules.specs.declared.board.Board as code
+use Rattle.rules.specs.Read.{puzzle_on}
 use Rattle.rules.specs.Record.{grid_of, size, puzzle}
 use Rattle.sheet.specs.Sheet.{sheet_text, sheet_of}
 use Rattle.sheet.proofs.Widths.{sheet_length}
@@ -23,9 +24,9 @@ text s = sheet_of s (solution_drawing s)
 pub ends-line : {s ds bs es cs : List ℕ} {n : ℕ} → WroteLine s ds bs n es cs → Wrote bs 0 (printed_sheet s) cs n
 ends-line {s} w = printing.ends-line (text s) w
 
-pub ends-drawn : {s ds bs es cs out : List ℕ} {g : Grid} {n r : ℕ} → WroteDrawing s ds bs g es cs → n ≡ size g
-    → Wrote cs 0 (sheet_text (puzzle g s) (take n es)) out r → Wrote bs 0 (printed_sheet s) out r
-ends-drawn {s} w e p = printing.ends-drawn w (wrote_recast (λ i. sheet_text (puzzle (w.grid i) s) (drawn_cells w e i)) p)
+pub ends-drawn : {s ds bs es cs out : List ℕ} {b : code.Board} {n r : ℕ} → WroteDrawing s ds bs b es cs → n ≡ size b.grid
+    → Wrote cs 0 (sheet_text (puzzle_on b) (take n es)) out r → Wrote bs 0 (printed_sheet s) out r
+ends-drawn w e p = printing.ends-drawn w (wrote_recast (λ i. sheet_text (puzzle (w.grid i) (w.same_record i)) (drawn_cells w e i)) p)
 
 -- what the program prints fits 65,536 bytes
 pub sheet_fits : (s : List ℕ) → length (printed_sheet s) ≤ 65536

@@ -9,6 +9,7 @@ ghost use Rattle.draw.specs.Printed.{printed_sheet};
 use program_io::read_full;
 use program_solution::{ToPrint, solve_record};
 use rules::MOST_CELLS;
+use rules::board::Drawn;
 use sheet_call::lines::put_sheet;
 use std::io;
 use std::io::Write;
@@ -19,12 +20,14 @@ fn sheet_text(record: &[u8], text: &mut [u8; 65536]) -> usize
     ensures prefix_len { IsPrefixLen result text.new }
 {
     let mut drawing = [0u8; MOST_CELLS];
-    let to_print = solve_record(record, &mut drawing, text);
-    match to_print {
+    match solve_record(record, &mut drawing, text) {
         ToPrint::Line(n) => n,
-        ToPrint::Drawing(g) => {
-            let n = g.size();
-            put_sheet(text, g, record, &drawing[..n])
+        ToPrint::Drawing(board) => {
+            let drawn = Drawn {
+                board,
+                drawing: &drawing[..board.grid.size()],
+            };
+            put_sheet(text, &drawn)
         }
     }
 }

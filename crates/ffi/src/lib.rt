@@ -15,6 +15,8 @@ ghost use Rattle.search.specs.Call.{search_on, by_search, by_next};
 ghost use Rattle.solver.specs.Tally.{tally_answer, tally_leaves};
 ghost use Rattle.solver_tally.specs.Answer.{asked, lent_of};
 
+use answers::Outcome;
+
 // Is the drawing a solution of the record's grid? Answered: yes, four zeros.
 #[unsafe(no_mangle)]
 pub extern "C" fn yajilin_judge(record: &[u8], drawing: &[u8], answer: &mut [u64; 4]) -> u64
@@ -22,7 +24,7 @@ pub extern "C" fn yajilin_judge(record: &[u8], drawing: &[u8], answer: &mut [u64
     ensures answer_after { answer.new ≡ words (judge_answer «record».now drawing.now) }
 {
     let verdict = judge::judge(record, drawing);
-    verdict.outcome().write(answer)
+    Outcome::from(verdict).write(answer)
 }
 
 // The proof sheet of a drawing that the judge agrees with. Answered: the count of bytes written.
@@ -38,7 +40,7 @@ pub extern "C" fn yajilin_sheet(
     ensures sheet_after { sheet.new ≡ sheet_leaves «record».now drawing.now sheet.old }
 {
     let written = sheet_call::write(record, drawing, sheet);
-    written.outcome().write(answer)
+    Outcome::from(written).write(answer)
 }
 
 // The DIMACS text of V and a clause list. Answered: the count of bytes written.
@@ -54,7 +56,7 @@ pub extern "C" fn yajilin_write(
     ensures text_after { text.new ≡ writer_leaves variables list.now text.old }
 {
     let written = dimacs_writer::write(variables as usize, list, text);
-    written.outcome().write(answer)
+    Outcome::from(written).write(answer)
 }
 
 // Which of sixty-four value lists satisfy a clause list? Bit i of a variable's word is its value in list i. Answered: the word whose bit i says
@@ -70,7 +72,7 @@ pub extern "C" fn yajilin_satisfied(
     ensures answer_after { answer.new ≡ four_words (batch_answer variables list.now words.now) }
 {
     let satisfied = cnf_batch::satisfied(variables as usize, list, words);
-    satisfied.outcome().write(answer)
+    Outcome::from(satisfied).write(answer)
 }
 
 // The clause list of a DIMACS text. Answered: the count of elements written, V, the number of clauses.
@@ -81,7 +83,7 @@ pub extern "C" fn yajilin_read(text: &[u8], list: &mut [i32], answer: &mut [u64;
     ensures list_after { list.new ≡ reader_leaves text.now list.old }
 {
     let reading = dimacs_reader::read(text, list);
-    reading.outcome().write(answer)
+    Outcome::from(reading).write(answer)
 }
 
 // The clauses of the record's grid. Answered: the count of elements written, V, the number of clauses.
@@ -92,7 +94,7 @@ pub extern "C" fn yajilin_encode(record: &[u8], list: &mut [i32], answer: &mut [
     ensures list_after { list.new ≡ encoder_leaves «record».now list.old }
 {
     let encoded = encoder_call::encode(record, list);
-    encoded.outcome().write(answer)
+    Outcome::from(encoded).write(answer)
 }
 
 // Draws the values of a grid's variables. Answered: the drawing is a solution and stands in `drawing`; four zeros.
@@ -108,7 +110,7 @@ pub extern "C" fn yajilin_decode(
     ensures drawing_after { drawing.new ≡ decoder_leaves «record».now values.now drawing.old }
 {
     let decoded = decoder::decode(record, values, drawing);
-    decoded.outcome().write(answer)
+    Outcome::from(decoded).write(answer)
 }
 
 // The search from a trail. Answered: 1 found, 2 none, 3 halted; the steps that this call made; the used count; 0.
@@ -132,7 +134,7 @@ pub extern "C" fn yajilin_search(
 {
     let v = variables as usize;
     let found = search_call::search(v, list, trail, marks, numbers, used as usize, budget);
-    found.outcome().write(answer)
+    Outcome::from(found).write(answer)
 }
 
 // The search from a full trail on to the following solution: drops that assignment first. Answered: as by the search.
@@ -156,7 +158,7 @@ pub extern "C" fn yajilin_next(
 {
     let v = variables as usize;
     let found = search_next::next(v, list, trail, marks, numbers, used as usize, budget);
-    found.outcome().write(answer)
+    Outcome::from(found).write(answer)
 }
 
 // For a shaded cell and a direction: counter n becomes how many of the solutions found have n black cells on that line. Answered: 2 none (all
@@ -185,5 +187,5 @@ pub extern "C" fn yajilin_tally(
     let x = cell as usize;
     let d = direction as usize;
     let tallied = solver_tally::tally(record, x, d, counters, list, trail, marks, numbers, budget);
-    tallied.outcome().write(answer)
+    Outcome::from(tallied).write(answer)
 }

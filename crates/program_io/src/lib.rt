@@ -15,6 +15,7 @@ pub fn read_full<R: Read>(reader: &mut R, buf: &mut [u8]) -> io::Result<usize>
     ensures end { IfOk result (λ n. n < length buf.new → IsAtEnd (R.remaining reader.new)) }
 {
     let mut at = 0;
+    // a `while`: the reader gives any number of bytes at a time
     while at < buf.len() {
         let n = reader.read(&mut buf[at..])?;
         if n == 0 {

@@ -8,15 +8,14 @@ use borrow.Author.Tests.{eq-eqb, ne_eqb, le-ltb}
 use mathlib.Core.Path.{◌≡◌, refl, sym, ◌∙◌, ap}
 use mathlib.Core.Bool.{Bool, true, false, cond}
 use mathlib.Core.List.{List, [], ◌∷◌}
+use Rattle.std.specs.Prelude.{Result, Err, Ok}
 use Rattle.answers.specs.declared.Outcome.{Outcome}
 use Rattle.answers.specs.Outcome.{answer, row, cause, first_refusal}
 use Rattle.answers.specs.Lent.{Wrote, filled}
 use Rattle.answers.proofs.Rows.{answered_clear, clear_answered}
-use Rattle.rules.specs.declared.Grid.{Grid}
+use Rattle.rules.specs.declared.board.Board as code
 use Rattle.rules.specs.declared.RecordRefusal.{RecordRefusal}
-use Rattle.rules.specs.declared.Parsed.{Parsed}
-use Rattle.rules.specs.declared.Parsed.TheVariants.{Refused as TurnedDown}
-use Rattle.rules.specs.Record.{grid_of, size, most_cells, record_answer, record_refusal_outcome, parsed_outcome}
+use Rattle.rules.specs.Record.{grid_of, size, most_cells, record_answer, record_refusal_outcome}
 use Rattle.rules.specs.Board.{board_of}
 use Rattle.rules.proofs.Records.{accepted_fits, clear_accepted, refusal-number, passes_up}
 use Rattle.encoder.specs.Variables.{variable_count}
@@ -31,8 +30,6 @@ use Rattle.search_call.specs.declared.End.{End}
 use Rattle.search_call.specs.Answers.{ending_of}
 use Rattle.solver_call.specs.declared.SolveRefusal.{SolveRefusal}
 use Rattle.solver_call.specs.declared.SolveRefusal.TheVariants.{Record, TooShort}
-use Rattle.solver_call.specs.declared.Solved.{Solved}
-use Rattle.solver_call.specs.declared.Solved.TheVariants.{Ended, Refused}
 use Rattle.solver_call.specs.Answer.{solve_refusal_outcome, solved_outcome}
 use Rattle.program_text.specs.Lines.{refused_line}
 use Rattle.program_text.specs.Programs.{element_limit, variable_limit, needs_more, program_number, budget, searched, end_text, solution_text}
@@ -41,10 +38,10 @@ use Rattle.program_solution.specs.Solutions.{solution_drawing, WroteLine, WroteD
 use Rattle.program_solution.proofs.Printing.{text_refused, text_ended}
 
 -- a record that is turned down
-pub ends_unread : (s ds : List ℕ) {p : Parsed} {u : RecordRefusal} {t : Outcome} {bs cs : List ℕ} {n : ℕ} → p ≡ TurnedDown u
-    → parsed_outcome p ≡ record_answer s → t ≡ record_refusal_outcome u → Wrote bs 0 (refused_line t.number) cs n → WroteLine s ds bs n ds cs
-ends_unread s ds {u = u} q e h wrote =
-    let n = ap (λ (t : Outcome). t.number) (passes_up s (row 6 (cause (needs_more (board_of s))) ∷ []) (answer 0 0 0) q e) in
+pub ends_unread : (s ds : List ℕ) (u : RecordRefusal) {t : Outcome} {bs cs : List ℕ} {n : ℕ} → record_refusal_outcome u ≡ record_answer s
+    → t ≡ record_refusal_outcome u → Wrote bs 0 (refused_line t.number) cs n → WroteLine s ds bs n ds cs
+ends_unread s ds u e h wrote =
+    let n = ap (λ (t : Outcome). t.number) (passes_up s (row 6 (cause (needs_more (board_of s))) ∷ []) (answer 0 0 0) u e) in
     record {
       line = _;
       prints = λ text. text_refused s text (ap (λ (t : Outcome). t.number) h ∙ n) (λ z. refusal-number u (n ∙ z));
@@ -63,10 +60,20 @@ lent ds =
     }
 
 -- what the solver's call tells, and leaves of the drawing
-pub record Called (s ds : List ℕ) (r : Solved) (es : List ℕ) : Type 0 where
+pub record Called (s ds : List ℕ) (r : Result End SolveRefusal) (es : List ℕ) : Type 0 where
   pub room : length ds ≡ most_cells
   pub outcome : solved_outcome r ≡ solver_answer s budget (lent ds)
   pub left : es ≡ (solver_leaves s budget (lent ds)).drawing
+
+-- it is called with the board that was read, whose record is the one that was given
+pub called : {s read ds : List ℕ} {r : Result End SolveRefusal} {after : Lent} → length ds ≡ most_cells → read ≡ s
+    → solved_outcome r ≡ solver_answer read budget (lent ds) → after ≡ solver_leaves read budget (lent ds) → Called s ds r after.drawing
+called {ds = ds} room same told leaves =
+    record {
+      room = room;
+      outcome = told ∙ ap (λ s. solver_answer s budget (lent ds)) same;
+      left = ap (λ (l : Lent). l.drawing) leaves ∙ ap (λ s. (solver_leaves s budget (lent ds)).drawing) same;
+    }
 
 unsolved_number : (u : SolveRefusal) → (solve_refusal_outcome u).number ≡ 0 → ⊥
 unsolved_number (Record r) e = refusal-number r e
@@ -88,7 +95,7 @@ same_refusal s ds room =
     by false h true k n = rw (h, k)
     by false h false k n = rw (h, k, n)
 
-module _ {s ds es : List ℕ} {r : Solved} (w : Called s ds r es) where
+module _ {s ds es : List ℕ} {r : Result End SolveRefusal} (w : Called s ds r es) where
   number_told : (solved_outcome r).number ≡ (solver_answer s budget (lent ds)).number
   number_told = ap (λ (t : Outcome). t.number) w.outcome
 
@@ -100,19 +107,20 @@ module _ {s ds es : List ℕ} {r : Solved} (w : Called s ds r es) where
       → es ≡ (cond b (written (board_of s) (searched (board_of s)) (lent ds)) (lent ds)).drawing
   left_by e = w.left ∙ ap (λ b. (cond b (written (board_of s) (searched (board_of s)) (lent ds)) (lent ds)).drawing) e
 
-  pub ends-refused : {u : SolveRefusal} {t : Outcome} {bs cs : List ℕ} {n : ℕ} → r ≡ Refused u → t ≡ solved_outcome r
+  pub ends-refused : {u : SolveRefusal} {t : Outcome} {bs cs : List ℕ} {n : ℕ} → r ≡ Err u → t ≡ solve_refusal_outcome u
       → Wrote bs 0 (refused_line t.number) cs n → WroteLine s ds bs n es cs
   ends-refused {u} q t wrote =
-      let refused : (solved_outcome r).number ≡ 0 → ⊥ = λ z. unsolved_number u (sym (ap (λ r. (solved_outcome r).number) q) ∙ z) in
+      let is : (solve_refusal_outcome u).number ≡ (solved_outcome r).number = sym (ap (λ r. (solved_outcome r).number) q) in
+      let refused : (solved_outcome r).number ≡ 0 → ⊥ = λ z. unsolved_number u (is ∙ z) in
       record {
         line = _;
-        prints = λ text. text_refused s text (ap (λ (t : Outcome). t.number) t ∙ number_is) (λ z. refused (number_is ∙ z));
+        prints = λ text. text_refused s text (ap (λ (t : Outcome). t.number) t ∙ is ∙ number_is) (λ z. refused (number_is ∙ z));
         wrote = wrote;
         kept = left_by (ne_eqb _ 0 (λ z. refused (number_told ∙ z)));
       }
 
   -- answered: the search ends as told
-  module _ {e : End} (q : r ≡ Ended e) {x : Ending} (k : e.ending ≡ x) where
+  module _ {e : End} (q : r ≡ Ok e) {x : Ending} (k : e.ending ≡ x) where
     answered : (solved_outcome r).number ≡ 0
     answered = ap (λ r. (solved_outcome r).number) q
 
@@ -137,6 +145,14 @@ module _ {s ds es : List ℕ} {r : Solved} (w : Called s ds r es) where
         → ((after : List ℕ) → at_found (ending_of x) ds after ≡ ds) → Wrote bs 0 line cs n → WroteLine s ds bs n es cs
     ends_unfound e kept wrote = record { line = _; prints = λ text. prints text ∙ e text; wrote = wrote; kept = left_at ∙ kept _ }
 
-  pub ends_found : {e : End} {g : Grid} {bs : List ℕ} → r ≡ Ended e → e.ending ≡ Found → g ≡ grid_of s → WroteDrawing s ds bs g es bs
-  ends_found q k grid =
-      record { accepted = (unrefused s (unrefused_number q k)).0; prints = prints q k; grid = grid; wrote = left_at q k; kept = refl }
+  pub ends_found : {e : End} {b : code.Board} {bs : List ℕ} → r ≡ Ok e → e.ending ≡ Found → b.grid ≡ grid_of s → b.record.now ≡ s
+      → WroteDrawing s ds bs b es bs
+  ends_found q k grid same =
+      record {
+        accepted = (unrefused s (unrefused_number q k)).0;
+        prints = prints q k;
+        grid = grid;
+        same_record = same;
+        wrote = left_at q k;
+        kept = refl;
+      }

@@ -8,10 +8,9 @@ use mathlib.Core.List.{List}
 use Rattle.answers.specs.Lent.{Wrote}
 use Rattle.answers.proofs.Elements.{made_long}
 use Rattle.answers.proofs.Lent.{wrote_recast}
-use Rattle.rules.specs.declared.Grid.{Grid}
-use Rattle.rules.specs.Record.{grid_of, size, RecordFits, IsAccepted}
+use Rattle.rules.specs.declared.board.Board as code
+use Rattle.rules.specs.Record.{grid_of, size, IsAccepted}
 use Rattle.rules.specs.Board.{board_of}
-use Rattle.rules.proofs.Records.{accepted_fits}
 use Rattle.search.specs.Run.{Ending, Found, None, Halted}
 use Rattle.program_text.specs.Lines.{refused_line}
 use Rattle.program_text.specs.Programs.{program_number, searched, end_text, solution_text}
@@ -45,12 +44,9 @@ pub ends-line : {s ds bs es cs : List ℕ} {n : ℕ} (text : List ℕ) → Wrote
 ends-line text w = wrote_recast (sym (w.prints text)) w.wrote
 
 -- after a call that wrote a drawing
-module _ {s ds bs es cs : List ℕ} {g : Grid} (w : WroteDrawing s ds bs g es cs) where
-  pub drawn_fits : RecordFits g s
-  drawn_fits = rw w.grid (accepted_fits s w.accepted)
-
+module _ {s ds bs es cs : List ℕ} {b : code.Board} (w : WroteDrawing s ds bs b es cs) where
   -- its first bytes, one for each cell
-  module _ {n : ℕ} (e : n ≡ size g) where
+  module _ {n : ℕ} (e : n ≡ size b.grid) where
     many : n ≡ length (solution_drawing s)
     many = e ∙ ap size w.grid ∙ sym (drawing_long s)
 

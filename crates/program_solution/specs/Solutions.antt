@@ -1,7 +1,7 @@
 -- A record's solution under program 2's limits and budget: the drawing, or the line that is printed where there is none.
 use Rattle.std.specs.Prelude.{ℕ, ◌≡◌, List}
 use Rattle.answers.specs.Lent.{Wrote, filled}
-use Rattle.rules.specs.declared.Grid.{Grid}
+use Rattle.rules.specs.declared.board.Board as code
 use Rattle.rules.specs.Record.{grid_of, IsAccepted}
 use Rattle.rules.specs.Board.{board_of}
 use Rattle.program_text.specs.Programs.{searched, drawing_at, solution_text}
@@ -21,15 +21,16 @@ module _ (s ds bs : List ℕ) where
     pub wrote : Wrote bs 0 line cs n
     pub kept : es ≡ ds
 
-  -- the text of a drawing is printed: the drawing of the record's grid was written
-  pub record WroteDrawing (g : Grid) (es cs : List ℕ) : Type 0 where
+  -- the text of a drawing is printed: the drawing of the record's grid, on the board that was read, was written
+  pub record WroteDrawing (b : code.Board) (es cs : List ℕ) : Type 0 where
     pub accepted : IsAccepted s
     pub prints : (text : List ℕ) → solution_text s text ≡ text
-    pub grid : g ≡ grid_of s
+    pub grid : b.grid ≡ grid_of s
+    pub same_record : b.record.now ≡ s
     pub wrote : es ≡ filled ds (solution_drawing s)
     pub kept : cs ≡ bs
 
   -- the contract of `solve_record`
   abbrev pub Solves : ToPrint → List ℕ → List ℕ → Type 0
   Solves (Line n) es cs = WroteLine n es cs
-  Solves (Drawing g) es cs = WroteDrawing g es cs
+  Solves (Drawing b) es cs = WroteDrawing b es cs

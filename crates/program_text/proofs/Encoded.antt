@@ -35,8 +35,8 @@ pub record Encodes (s : List ℕ) (t : Outcome) (new : List ℤ) : Type 0 where
   pub outcome : t ≡ encoder_answer s zeros
   pub left : new ≡ encoder_leaves s zeros
 
-pub outcome_as : {s : List ℕ} {t u : Outcome} {new : List ℤ} → t ≡ u → Encodes s t new → Encodes s u new
-outcome_as e w = record { outcome = sym e ∙ w.outcome; left = w.left }
+pub encodes : (s : List ℕ) {t : Outcome} {new : List ℤ} → t ≡ encoder_answer s zeros → new ≡ encoder_leaves s zeros → Encodes s t new
+encodes s told leaves = record { outcome = told; left = leaves }
 
 module _ (s : List ℕ) where
   abbrev list : List ℤ

@@ -8,7 +8,7 @@ use lib.Seq.{length-take-le}
 use borrow.Author.Tests.{eq-eqb, ne_eqb, eqb-true, ltb-false}
 use mathlib.Core.Path.{◌≡◌, refl, sym, ◌∙◌, ap}
 use mathlib.Core.Bool.{Bool, true, false, cond}
-use mathlib.Core.Option.{Option, none, some}
+use Rattle.std.specs.Prelude.{Option, None, Some}
 use mathlib.Core.List.{List, [], ◌∷◌, ◌++◌}
 use Rattle.answers.specs.declared.Outcome.{Outcome}
 use Rattle.answers.specs.Outcome.{answer, Row, row, cause, unless, first_refusal}
@@ -36,8 +36,8 @@ same_rows (r ∷ rs) qs ps t u h = by r.beside refl (same_rows rs qs ps t u)
     by : (o : Option ℕ) → r.beside ≡ o
         → ((Clear rs → (first_refusal qs t).number ≡ (first_refusal ps u).number) → (first_refusal (rs ++ qs) t).number ≡ (first_refusal (rs ++ ps) u).number)
         → (unless r.number o (first_refusal (rs ++ qs) t)).number ≡ (unless r.number o (first_refusal (rs ++ ps) u)).number
-    by none e go = go (λ c. h (e, c))
-    by (some v) e go = refl
+    by None e go = go (λ c. h (e, c))
+    by (Some v) e go = refl
 
 -- the number that row 6 gives
 abbrev pub limited : Bool → ℕ
@@ -76,8 +76,8 @@ rows_most [] t a h = h
 rows_most (r ∷ rs) t a h = by r.beside (rows_most rs t a.1 h)
   where
     by : (o : Option ℕ) → (first_refusal rs t).number ≤ 6 → (unless r.number o (first_refusal rs t)).number ≤ 6
-    by none i = i
-    by (some v) i = a.0
+    by None i = i
+    by (Some v) i = a.0
 
 line_short : (s : List ℕ) → length (refused_line (program_number s)) ≤ 10
 line_short s =

@@ -6,7 +6,7 @@ use mathlib.Core.Path.{◌≡◌}
 use mathlib.Core.List.{List}
 use Rattle.answers.specs.Lent.{Wrote}
 use Rattle.answers.proofs.Lent.{wrote_recast}
-use Rattle.rules.specs.declared.Grid.{Grid}
+use Rattle.rules.specs.declared.board.Board as code
 use Rattle.rules.specs.Record.{grid_of, size}
 use Rattle.rules.proofs.Records.{accepted_fits}
 use Rattle.program_text.specs.Lines.{drawing_text}
@@ -23,8 +23,8 @@ text s = drawing_text (grid_of s).columns (solution_drawing s)
 pub ends-line : {s ds bs es cs : List ℕ} {n : ℕ} → WroteLine s ds bs n es cs → Wrote bs 0 (printed_solution s) cs n
 ends-line {s} w = printing.ends-line (text s) w
 
-pub ends-drawn : {s ds bs es cs out : List ℕ} {g : Grid} {n r : ℕ} → WroteDrawing s ds bs g es cs → n ≡ size g
-    → Wrote cs 0 (drawing_text g.columns (take n es)) out r → Wrote bs 0 (printed_solution s) out r
+pub ends-drawn : {s ds bs es cs out : List ℕ} {b : code.Board} {n r : ℕ} → WroteDrawing s ds bs b es cs → n ≡ size b.grid
+    → Wrote cs 0 (drawing_text b.grid.columns (take n es)) out r → Wrote bs 0 (printed_solution s) out r
 ends-drawn w e p = printing.ends-drawn w (wrote_recast (λ i. drawing_text (w.grid i).columns (drawn_cells w e i)) p)
 
 -- what the program prints fits 65,536 bytes

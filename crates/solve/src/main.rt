@@ -19,12 +19,11 @@ fn solution_text(record: &[u8], text: &mut [u8; 65536]) -> usize
     ensures prefix_len { IsPrefixLen result text.new }
 {
     let mut drawing = [0u8; MOST_CELLS];
-    let to_print = solve_record(record, &mut drawing, text);
-    match to_print {
+    match solve_record(record, &mut drawing, text) {
         ToPrint::Line(n) => n,
-        ToPrint::Drawing(g) => {
-            let n = g.size();
-            put_drawing(text, g.columns, &drawing[..n])
+        ToPrint::Drawing(board) => {
+            let g = board.grid;
+            put_drawing(text, g.columns, &drawing[..g.size()])
         }
     }
 }

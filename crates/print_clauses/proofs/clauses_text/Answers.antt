@@ -1,55 +1,42 @@
 -- `print_clauses::clauses_text` meets its contract. Assumes nothing.
+use borrow.Author.Rules.{rules}
 use native.Mathlib.Omega.{arith}
-use Prim.Native.Nat.{ℕ}
-use mathlib.Core.List.{List}
-use mathlib.Core.Path.{refl, sym, ap}
-use Rattle.encoder_call.specs.Answer.{counts_outcome, encoded_outcome}
+use mathlib.Core.Path.{◌≡◌, refl, sym, ◌∙◌, ap}
+use Rattle.answers.specs.declared.Outcome.{Outcome}
 use Rattle.encoder_call.proofs.Ends.{refused-number}
 use Rattle.program_text.proofs.Limits.{whole}
-use Rattle.program_text.proofs.Encoded.{Encodes, outcome_as, ends-refused, ends_large}
+use Rattle.program_text.proofs.Encoded.{encodes, ends-refused, ends_large}
 use Rattle.print_clauses.proofs.Ends.{listed_fits, ends-listed}
 use Rattle.print_clauses.proofs.Fits.{clauses_fit}
-use borrow.Author.Rules.{rules}
 use Rattle.print_clauses.proofs.clauses_text.Goals as goal
 
-pub returns-in_default-clause-wrote : goal.returns-in_default-clause-wrote
-returns-in_default-clause-wrote c =
-    let s : List ℕ = c.args.«record».now in
-    let call : Encodes s (encoded_outcome c.encode-e.result) c.encode-e.new.list = record { outcome = c.encode-e.ensures.result_value; left = c.encode-e.ensures.list_after } in
-    let refused = refused-number c.in_default.is c.outcome.ensures in
-    (whole (search rules) (clauses_fit s) (ends-refused (outcome_as (sym c.outcome.ensures) call) _ refused c.put_refused.ensures)).0
+pub returns-in-Err : goal.returns-in-Err
+returns-in-Err c =
+    let s = c.args.record.now in
+    let e = c.in-Err.ensures in
+    let refused : c.from.result.number ≡ 0 → ⊥ = λ z. refused-number c.in-Err.refusal (sym (ap (λ (t : Outcome). t.number) c.from.ensures) ∙ z) in
+    let w =
+    whole (search rules) (clauses_fit s)
+    (ends-refused (encodes s (c.from.ensures ∙ e.result_value) e.list_after) _ refused c.put_refused.ensures) in
+    record { wrote = w.0; prefix_len = w.1 }
 
-pub returns-in_default-clause-prefix_len : goal.returns-in_default-clause-prefix_len
-returns-in_default-clause-prefix_len c =
-    let s : List ℕ = c.args.«record».now in
-    let call : Encodes s (encoded_outcome c.encode-e.result) c.encode-e.new.list = record { outcome = c.encode-e.ensures.result_value; left = c.encode-e.ensures.list_after } in
-    let refused = refused-number c.in_default.is c.outcome.ensures in
-    (whole (search rules) (clauses_fit s) (ends-refused (outcome_as (sym c.outcome.ensures) call) _ refused c.put_refused.ensures)).1
+pub returns-then-counts-gt-VARIABLE_LIMIT : goal.returns-then-counts-gt-VARIABLE_LIMIT
+returns-then-counts-gt-VARIABLE_LIMIT c =
+    let s = c.args.record.now in
+    let e = c.in-Ok.ensures in
+    let w =
+    whole (search rules) (clauses_fit s)
+    (ends_large (encodes s e.result_value e.list_after) refl _ (omega (arith, c.if-counts-gt-VARIABLE_LIMIT.true)) c.put_refused-then-counts-gt-VARIABLE_LIMIT.ensures) in
+    record { wrote = w.0; prefix_len = w.1 }
 
-pub returns-then-variables-gt-VARIABLE_LIMIT-clause-prefix_len : goal.returns-then-variables-gt-VARIABLE_LIMIT-clause-prefix_len
-returns-then-variables-gt-VARIABLE_LIMIT-clause-prefix_len c =
-    let s : List ℕ = c.args.«record».now in
-    let call : Encodes s (encoded_outcome c.encode-e.result) c.encode-e.new.list = record { outcome = c.encode-e.ensures.result_value; left = c.encode-e.ensures.list_after } in
-    let answered : Encodes s (counts_outcome c.in-Written.c) c.encode-e.new.list = outcome_as (ap encoded_outcome c.in-Written.is) call in
-    (whole (search rules) (clauses_fit s) (ends_large answered refl _ (omega (arith, c.if-variables-gt-VARIABLE_LIMIT.true)) c.put_refused-then-variables-gt-VARIABLE_LIMIT.ensures)).1
+pub write_text-requires : goal.write_text-requires
+write_text-requires c =
+    let e = c.in-Ok.ensures in
+    listed_fits (encodes c.args.record.now e.result_value e.list_after) (omega (arith, c.if-counts-gt-VARIABLE_LIMIT.false))
 
-pub put_text-requires : goal.put_text-requires
-put_text-requires c =
-    let s : List ℕ = c.args.«record».now in
-    let call : Encodes s (encoded_outcome c.encode-e.result) c.encode-e.new.list = record { outcome = c.encode-e.ensures.result_value; left = c.encode-e.ensures.list_after } in
-    let answered : Encodes s (counts_outcome c.in-Written.c) c.encode-e.new.list = outcome_as (ap encoded_outcome c.in-Written.is) call in
-    listed_fits answered (omega (arith, c.if-variables-gt-VARIABLE_LIMIT.false))
-
-pub returns-clause-wrote : goal.returns-clause-wrote
-returns-clause-wrote c =
-    let s : List ℕ = c.args.«record».now in
-    let call : Encodes s (encoded_outcome c.encode-e.result) c.encode-e.new.list = record { outcome = c.encode-e.ensures.result_value; left = c.encode-e.ensures.list_after } in
-    let answered : Encodes s (counts_outcome c.in-Written.c) c.encode-e.new.list = outcome_as (ap encoded_outcome c.in-Written.is) call in
-    (whole (search rules) (clauses_fit s) (ends-listed answered (omega (arith, c.if-variables-gt-VARIABLE_LIMIT.false)) c.put_text.ensures)).0
-
-pub returns-clause-prefix_len : goal.returns-clause-prefix_len
-returns-clause-prefix_len c =
-    let s : List ℕ = c.args.«record».now in
-    let call : Encodes s (encoded_outcome c.encode-e.result) c.encode-e.new.list = record { outcome = c.encode-e.ensures.result_value; left = c.encode-e.ensures.list_after } in
-    let answered : Encodes s (counts_outcome c.in-Written.c) c.encode-e.new.list = outcome_as (ap encoded_outcome c.in-Written.is) call in
-    (whole (search rules) (clauses_fit s) (ends-listed answered (omega (arith, c.if-variables-gt-VARIABLE_LIMIT.false)) c.put_text.ensures)).1
+pub returns : goal.returns
+returns c =
+    let s = c.args.record.now in
+    let e = c.in-Ok.ensures in
+    let w = whole (search rules) (clauses_fit s) (ends-listed (encodes s e.result_value e.list_after) (omega (arith, c.if-counts-gt-VARIABLE_LIMIT.false)) c.write_text.ensures) in
+    record { wrote = w.0; prefix_len = w.1 }

@@ -1,60 +1,26 @@
 -- `solve::solution_text` meets its contract. Assumes nothing.
 use borrow.Author.Rules.{rules}
 use native.Mathlib.Omega.{arith}
-use lib.ListN.{replicate}
-use Prim.Native.Nat.{ℕ}
-use mathlib.Core.List.{List}
-use Rattle.rules.specs.Record.{most_cells}
 use Rattle.program_text.proofs.Limits.{whole}
-use Rattle.program_solution.specs.Solutions.{WroteDrawing}
-use Rattle.program_solution.proofs.Printing.{drawn_fits, drawn-inside, drawn_long}
+use Rattle.program_solution.proofs.Printing.{drawn-inside, drawn_long}
 use Rattle.solve.proofs.Ends.{ends-line, ends-drawn, solution_fits}
 use Rattle.solve.proofs.solution_text.Goals as goal
 
-pub size-n-requires : goal.size-n-requires
-size-n-requires c =
-    let s : List ℕ = c.args.«record».now in
-    let drawn : WroteDrawing s (replicate most_cells 0) c.args.text.now c.in-Drawing.g c.solve_record-to_print.new.drawing c.solve_record-to_print.new.text = rw c.in-Drawing.is at c.solve_record-to_print.ensures in
-    (drawn_fits drawn).sides
-
 pub slice_bounds-drawing-end : goal.slice_bounds-drawing-end
-slice_bounds-drawing-end c =
-    let s : List ℕ = c.args.«record».now in
-    let drawn : WroteDrawing s (replicate most_cells 0) c.args.text.now c.in-Drawing.g c.solve_record-to_print.new.drawing c.solve_record-to_print.new.text = rw c.in-Drawing.is at c.solve_record-to_print.ensures in
-    drawn-inside drawn c.size-n.ensures
+slice_bounds-drawing-end c = drawn-inside c.in-Drawing.ensures c.size.ensures
 
 pub slice_bounds-put_drawing-end-in-Drawing : goal.slice_bounds-put_drawing-end-in-Drawing
-slice_bounds-put_drawing-end-in-Drawing c =
-    let s : List ℕ = c.args.«record».now in
-    let drawn : WroteDrawing s (replicate most_cells 0) c.args.text.now c.in-Drawing.g c.solve_record-to_print.new.drawing c.solve_record-to_print.new.text = rw c.in-Drawing.is at c.solve_record-to_print.ensures in
-    drawn_long drawn c.size-n.ensures
+slice_bounds-put_drawing-end-in-Drawing c = drawn_long c.in-Drawing.ensures c.size.ensures
 
 pub put_drawing-requires : goal.put_drawing-requires
 put_drawing-requires c =
-    let s : List ℕ = c.args.«record».now in
-    let drawn : WroteDrawing s (replicate most_cells 0) c.args.text.now c.in-Drawing.g c.solve_record-to_print.new.drawing c.solve_record-to_print.new.text = rw c.in-Drawing.is at c.solve_record-to_print.ensures in
-    let w = drawn in
-    let sides = (drawn_fits w).sides in
-    (sides.wide, omega (arith, sides.few, drawn_long w c.size-n.ensures, c.size-n.ensures))
+    let sides = c.in-Drawing.board.fits.sides in (sides.wide, omega (arith, sides.few, drawn_long c.in-Drawing.ensures c.size.ensures, c.size.ensures))
 
-pub returns-in-Line-clause-wrote : goal.returns-in-Line-clause-wrote
-returns-in-Line-clause-wrote c =
-    let s : List ℕ = c.args.«record».now in
-    (whole (search rules) (solution_fits s) (ends-line (rw c.in-Line.is at c.solve_record-to_print.ensures))).0
+pub returns-in-Line : goal.returns-in-Line
+returns-in-Line c =
+    let w = whole (search rules) (solution_fits c.args.record.now) (ends-line c.in-Line.ensures) in record { wrote = w.0; prefix_len = w.1 }
 
-pub returns-in-Line-clause-prefix_len : goal.returns-in-Line-clause-prefix_len
-returns-in-Line-clause-prefix_len c =
-    let s : List ℕ = c.args.«record».now in
-    (whole (search rules) (solution_fits s) (ends-line (rw c.in-Line.is at c.solve_record-to_print.ensures))).1
-
-pub returns-in-Drawing-clause-wrote : goal.returns-in-Drawing-clause-wrote
-returns-in-Drawing-clause-wrote c =
-    let s : List ℕ = c.args.«record».now in
-    let drawn : WroteDrawing s (replicate most_cells 0) c.args.text.now c.in-Drawing.g c.solve_record-to_print.new.drawing c.solve_record-to_print.new.text = rw c.in-Drawing.is at c.solve_record-to_print.ensures in
-    (whole (search rules) (solution_fits s) (ends-drawn drawn c.size-n.ensures c.put_drawing.ensures)).0
-
-pub returns-in-Drawing-clause-prefix_len : goal.returns-in-Drawing-clause-prefix_len
-returns-in-Drawing-clause-prefix_len c =
-    let s : List ℕ = c.args.«record».now in
-    let drawn : WroteDrawing s (replicate most_cells 0) c.args.text.now c.in-Drawing.g c.solve_record-to_print.new.drawing c.solve_record-to_print.new.text = rw c.in-Drawing.is at c.solve_record-to_print.ensures in
-    (whole (search rules) (solution_fits s) (ends-drawn drawn c.size-n.ensures c.put_drawing.ensures)).1
+pub returns-in-Drawing : goal.returns-in-Drawing
+returns-in-Drawing c =
+    let w = whole (search rules) (solution_fits c.args.record.now) (ends-drawn c.in-Drawing.ensures c.size.ensures c.put_drawing.ensures) in
+    record { wrote = w.0; prefix_len = w.1 }
