@@ -7,17 +7,16 @@ use lib.ListN.{length, replicate}
 use borrow.Author.Tests.{eq-eqb, ne_eqb, le-ltb}
 use mathlib.Core.Path.{◌≡◌, refl, sym, ◌∙◌, ap}
 use mathlib.Core.Bool.{Bool, true, false, cond}
-use mathlib.Core.List.{List, [], ◌∷◌}
+use mathlib.Core.List.{List}
 use Rattle.std.specs.Prelude.{Result, Err, Ok}
 use Rattle.answers.specs.declared.Outcome.{Outcome}
-use Rattle.answers.specs.Outcome.{answer, row, cause, first_refusal}
+use Rattle.answers.specs.Outcome.{first_refusal}
 use Rattle.answers.specs.Lent.{Wrote, filled}
 use Rattle.answers.proofs.Rows.{answered_clear, clear_answered}
 use Rattle.rules.specs.declared.board.Board as code
-use Rattle.rules.specs.declared.RecordRefusal.{RecordRefusal}
-use Rattle.rules.specs.Record.{grid_of, size, most_cells, record_answer, record_refusal_outcome}
+use Rattle.rules.specs.Record.{grid_of, size, most_cells}
 use Rattle.rules.specs.Board.{board_of}
-use Rattle.rules.proofs.Records.{accepted_fits, clear_accepted, refusal-number, passes_up}
+use Rattle.rules.proofs.Records.{accepted_fits, clear_accepted, refusal-number}
 use Rattle.encoder.specs.Variables.{variable_count}
 use Rattle.encoder.specs.Clauses.{clause_list}
 use Rattle.search.specs.Trail.{slices}
@@ -36,18 +35,6 @@ use Rattle.program_text.specs.Programs.{element_limit, variable_limit, needs_mor
 use Rattle.program_text.proofs.Limits.{limited, unrefused, same_number}
 use Rattle.program_solution.specs.Solutions.{solution_drawing, WroteLine, WroteDrawing}
 use Rattle.program_solution.proofs.Printing.{text_refused, text_ended}
-
--- a record that is turned down
-pub ends_unread : (s ds : List ℕ) (u : RecordRefusal) {t : Outcome} {bs cs : List ℕ} {n : ℕ} → record_refusal_outcome u ≡ record_answer s
-    → t ≡ record_refusal_outcome u → Wrote bs 0 (refused_line t.number) cs n → WroteLine s ds bs n ds cs
-ends_unread s ds u e h wrote =
-    let n = ap (λ (t : Outcome). t.number) (passes_up s (row 6 (cause (needs_more (board_of s))) ∷ []) (answer 0 0 0) u e) in
-    record {
-      line = _;
-      prints = λ text. text_refused s text (ap (λ (t : Outcome). t.number) h ∙ n) (λ z. refusal-number u (n ∙ z));
-      wrote = wrote;
-      kept = refl;
-    }
 
 -- the buffers that are lent to the solver
 abbrev lent : List ℕ → Lent

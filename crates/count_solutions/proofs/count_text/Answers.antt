@@ -13,7 +13,8 @@ pub returns-in-Err : goal.returns-in-Err
 returns-in-Err c =
     let s = c.args.record.now in
     let e = c.in-Err.ensures in
-    let refused : c.from.result.number ≡ 0 → ⊥ = λ z. refused-number c.in-Err.refusal (sym (ap (λ (t : Outcome). t.number) c.from.ensures) ∙ z) in
+    let told = ap (λ (t : Outcome). t.number) c.from.ensures in
+    let refused : c.from.result.number ≡ 0 → ⊥ = λ z. refused-number c.in-Err.refusal (sym told ∙ z) in
     let w =
     whole (search rules) (count_fits s)
     (ends-refused (encodes s (c.from.ensures ∙ e.result_value) e.list_after) _ refused c.put_refused.ensures) in
@@ -39,5 +40,6 @@ returns c =
     let e = c.in-Ok.ensures in
     let w =
     whole (search rules) (count_fits s)
-    (ends-counted (encodes s e.result_value e.list_after) (omega (arith, c.if-v-gt-VARIABLE_LIMIT.false)) c.count_solutions-many.ensures.result_value c.put_count.ensures) in
+    (ends-counted (encodes s e.result_value e.list_after) (omega (arith, c.if-v-gt-VARIABLE_LIMIT.false))
+    c.count_solutions-many.ensures.result_value c.put_count.ensures) in
     record { wrote = w.0; prefix_len = w.1 }

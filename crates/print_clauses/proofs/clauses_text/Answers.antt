@@ -14,7 +14,8 @@ pub returns-in-Err : goal.returns-in-Err
 returns-in-Err c =
     let s = c.args.record.now in
     let e = c.in-Err.ensures in
-    let refused : c.from.result.number ≡ 0 → ⊥ = λ z. refused-number c.in-Err.refusal (sym (ap (λ (t : Outcome). t.number) c.from.ensures) ∙ z) in
+    let told = ap (λ (t : Outcome). t.number) c.from.ensures in
+    let refused : c.from.result.number ≡ 0 → ⊥ = λ z. refused-number c.in-Err.refusal (sym told ∙ z) in
     let w =
     whole (search rules) (clauses_fit s)
     (ends-refused (encodes s (c.from.ensures ∙ e.result_value) e.list_after) _ refused c.put_refused.ensures) in
@@ -26,7 +27,8 @@ returns-then-counts-gt-VARIABLE_LIMIT c =
     let e = c.in-Ok.ensures in
     let w =
     whole (search rules) (clauses_fit s)
-    (ends_large (encodes s e.result_value e.list_after) refl _ (omega (arith, c.if-counts-gt-VARIABLE_LIMIT.true)) c.put_refused-then-counts-gt-VARIABLE_LIMIT.ensures) in
+    (ends_large (encodes s e.result_value e.list_after) refl _ (omega (arith, c.if-counts-gt-VARIABLE_LIMIT.true))
+    c.put_refused-then-counts-gt-VARIABLE_LIMIT.ensures) in
     record { wrote = w.0; prefix_len = w.1 }
 
 pub write_text-requires : goal.write_text-requires
@@ -38,5 +40,7 @@ pub returns : goal.returns
 returns c =
     let s = c.args.record.now in
     let e = c.in-Ok.ensures in
-    let w = whole (search rules) (clauses_fit s) (ends-listed (encodes s e.result_value e.list_after) (omega (arith, c.if-counts-gt-VARIABLE_LIMIT.false)) c.write_text.ensures) in
+    let w =
+    whole (search rules) (clauses_fit s)
+    (ends-listed (encodes s e.result_value e.list_after) (omega (arith, c.if-counts-gt-VARIABLE_LIMIT.false)) c.write_text.ensures) in
     record { wrote = w.0; prefix_len = w.1 }

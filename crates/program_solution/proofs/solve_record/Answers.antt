@@ -8,7 +8,8 @@ use Rattle.program_solution.proofs.solve_record.Goals as goal
 pub returns-in-Err-answer : goal.returns-in-Err-answer
 returns-in-Err-answer c =
     let e = c.solve_grid-answer.ensures in
-    ends-refused (called (search rules) c.in-Ok.ensures.same_record e.result_value e.drawing_after) c.in-Err-answer.is c.from-in-Err-answer.ensures c.put_refused-in-Err-answer.ensures
+    ends-refused (called (search rules) c.in-Ok.ensures.same_record e.result_value e.drawing_after) c.in-Err-answer.is
+    c.from-in-Err-answer.ensures c.put_refused-in-Err-answer.ensures
 
 pub returns-in-Found : goal.returns-in-Found
 returns-in-Found c =
