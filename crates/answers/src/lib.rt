@@ -1,9 +1,11 @@
-// How a call answers: what it tells in document 01's numbers.
+// How a call answers: what it tells in document 01's numbers, and the writer into a lent buffer.
 #![tactic(auto)]
 
 ghost use Rattle.std.specs.Prelude.{◌≡◌, ◌+◌, ◌<◌, ◌^◌, [], ◌∷◌, length, MatchResult};
 ghost use Rattle.answers.specs.Writer.{Puts};
 ghost use Rattle.answers.specs.Outcome.{refusal, answer, words};
+
+use std::mem::replace;
 
 // What a call tells. Refused: document 01's number and the value beside it. Answered: 0 and the call's values.
 #[derive(Clone, Copy, Debug, PartialEq, Eq)]
@@ -99,6 +101,21 @@ impl<'a, T: Copy> Writer<'a, T> {
         Writer { buffer, place: 0 }
     }
 
+    // A writer that goes on at a place, which may be beyond the buffer's end.
+    pub fn at(buffer: &'a mut [T], place: usize) -> Self
+        ensures { result ≡ record { buffer = buffer.entry; place = place } }
+    {
+        Writer { buffer, place }
+    }
+
+    // Takes the writer out, to be put back: a loop holds its place in a variable of its own, which a store into the buffer can't change.
+    pub fn take(&mut self) -> Self
+        ensures taken { result ≡ self.old }
+        ensures left { (self.new.place ≡ 0) × (self.new.buffer.now ≡ []) }
+    {
+        replace(self, Writer::new(&mut []))
+    }
+
     // Where the next element goes: after all that were put.
     pub fn place(&self) -> usize
         ensures { result ≡ self.now.place }
@@ -116,11 +133,20 @@ impl<'a, T: Copy> Writer<'a, T> {
         self.place += 1;
     }
 
+    // A slice that fits is put without a test for each element.
     #[tactic(auto, using(crate::proofs::Putting::putting))]
     pub fn put_slice(&mut self, xs: &[T])
         requires { self.old.place + length xs.now < 2 ^ 64 }
         ensures { Puts self.old xs.now self.new }
     {
+        let at = self.place;
+        if at + xs.len() <= self.buffer.len() {
+            for i in 0..xs.len() {
+                self.buffer[at + i] = xs[i];
+            }
+            self.place += xs.len();
+            return;
+        }
         for x in xs {
             self.put(*x);
         }

@@ -26,12 +26,28 @@ pub fn closes_at(list: &[i32], i: usize) -> bool
     list[i] == 0
 }
 
+// A variable as a literal of a list; 0 closes a clause.
+pub fn literal(variable: usize) -> i32
+    requires { variable ≤ most_variables }
+    ensures { result ≡ pos variable }
+{
+    variable as i32
+}
+
+// "Not" a variable.
+pub fn negated(variable: usize) -> i32
+    requires { variable ≤ most_variables }
+    ensures { result ≡ neg_ℤ (pos variable) }
+{
+    -(variable as i32)
+}
+
 // Puts a variable, or the closing 0.
 pub fn put(out: &mut Writer<i32>, variable: usize)
     requires { (variable ≤ most_variables) × (out.old.place < 2 ^ 64 - 1) }
     ensures { Puts out.old (pos variable ∷ []) out.new }
 {
-    out.put(variable as i32);
+    out.put(literal(variable));
 }
 
 // Puts "not" a variable.
@@ -39,7 +55,7 @@ pub fn put_not(out: &mut Writer<i32>, variable: usize)
     requires { (variable ≤ most_variables) × (out.old.place < 2 ^ 64 - 1) }
     ensures { Puts out.old (neg_ℤ (pos variable) ∷ []) out.new }
 {
-    out.put(-(variable as i32));
+    out.put(negated(variable));
 }
 
 // 17, for V alone.

@@ -11,6 +11,8 @@ ghost use Rattle.dimacs.specs.Calls.{reader_answer, reader_leaves};
 ghost use Rattle.dimacs.specs.Answers.{reading_outcome};
 ghost use Rattle.dimacs_reader.specs.Lists.{list_at, listed, closed_after};
 
+use answers::Writer;
+use cnf::{put, put_not};
 use dimacs::{ListRead, ReadRefusal};
 use dimacs_cursor::{BadByte, Cursor};
 
@@ -26,11 +28,13 @@ fn put_literal(out: &mut [i32], at: usize, negative: bool, x: usize) -> usize
     requires { (x ≤ most_variables) × (at < 2 ^ 64 - 1) }
     ensures { Wrote out.old at (literal_of negative x ∷ []) out.new result }
 {
-    if at < out.len() {
-        let number = x as i32;
-        out[at] = if negative { -number } else { number };
+    let mut writer = Writer::at(out, at);
+    if negative {
+        put_not(&mut writer, x);
+    } else {
+        put(&mut writer, x);
     }
-    at + 1
+    writer.place()
 }
 
 // The list after the header, piece by piece: the count of its elements. Elements beyond the end of the buffer are counted and left out.

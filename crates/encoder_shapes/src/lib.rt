@@ -1,5 +1,6 @@
-// Writes clauses by the numbers of their variables: a function for each shape of clause, and one for each run of clauses.
-// Each returns the place after what it wrote; beyond the end of the list nothing is written, and the place is counted all the same.
+// Puts clauses by the numbers of their variables: a function for each shape of clause, and one for each run of clauses.
+// Beyond the end of the list nothing is written, and the writer's place is counted all the same. Each loop but that of
+// `at_most_one` holds the writer in a variable of its own.
 #![tactic(auto, using(crate::proofs::Turns::shapes))]
 
 ghost use Rattle.std.specs.Prelude.{◌+◌, ◌<◌, ◌^◌};
@@ -9,15 +10,14 @@ ghost use Rattle.encoder_shapes.specs.Shapes.{unit, unit_not, not_both, implies,
 ghost use Rattle.encoder_shapes.specs.Shapes.{each_unit_not, each_not_both, each_implies, each_both_imply, at_most_one};
 
 use answers::Writer;
-use cnf::{put, put_not};
+use cnf::{literal, negated, put};
 
 // [a]
 pub fn unit(out: &mut Writer<i32>, a: usize)
     requires { WithinLimits out.old.place (unit a) }
     ensures { Puts out.old (unit a) out.new }
 {
-    put(out, a);
-    put(out, 0);
+    out.put_slice(&[literal(a), 0]);
 }
 
 // [−a]
@@ -25,8 +25,7 @@ pub fn unit_not(out: &mut Writer<i32>, a: usize)
     requires { WithinLimits out.old.place (unit_not a) }
     ensures { Puts out.old (unit_not a) out.new }
 {
-    put_not(out, a);
-    put(out, 0);
+    out.put_slice(&[negated(a), 0]);
 }
 
 // [−a −b]
@@ -34,9 +33,7 @@ pub fn not_both(out: &mut Writer<i32>, a: usize, b: usize)
     requires { WithinLimits out.old.place (not_both a b) }
     ensures { Puts out.old (not_both a b) out.new }
 {
-    put_not(out, a);
-    put_not(out, b);
-    put(out, 0);
+    out.put_slice(&[negated(a), negated(b), 0]);
 }
 
 // [−a b]
@@ -44,9 +41,7 @@ pub fn implies(out: &mut Writer<i32>, a: usize, b: usize)
     requires { WithinLimits out.old.place (implies a b) }
     ensures { Puts out.old (implies a b) out.new }
 {
-    put_not(out, a);
-    put(out, b);
-    put(out, 0);
+    out.put_slice(&[negated(a), literal(b), 0]);
 }
 
 // [a −b]
@@ -54,9 +49,7 @@ pub fn or_not(out: &mut Writer<i32>, a: usize, b: usize)
     requires { WithinLimits out.old.place (or_not a b) }
     ensures { Puts out.old (or_not a b) out.new }
 {
-    put(out, a);
-    put_not(out, b);
-    put(out, 0);
+    out.put_slice(&[literal(a), negated(b), 0]);
 }
 
 // [−a b c]
@@ -64,10 +57,7 @@ pub fn implies_either(out: &mut Writer<i32>, a: usize, b: usize, c: usize)
     requires { WithinLimits out.old.place (implies_either a b c) }
     ensures { Puts out.old (implies_either a b c) out.new }
 {
-    put_not(out, a);
-    put(out, b);
-    put(out, c);
-    put(out, 0);
+    out.put_slice(&[negated(a), literal(b), literal(c), 0]);
 }
 
 // [−a −b c]
@@ -75,10 +65,7 @@ pub fn both_imply(out: &mut Writer<i32>, a: usize, b: usize, c: usize)
     requires { WithinLimits out.old.place (both_imply a b c) }
     ensures { Puts out.old (both_imply a b c) out.new }
 {
-    put_not(out, a);
-    put_not(out, b);
-    put(out, c);
-    put(out, 0);
+    out.put_slice(&[negated(a), negated(b), literal(c), 0]);
 }
 
 // The n numbers from the first on.
@@ -86,9 +73,11 @@ fn literals(out: &mut Writer<i32>, first: usize, n: usize)
     requires { WithinLimits out.old.place (literals first n) }
     ensures { Puts out.old (literals first n) out.new }
 {
+    let mut own = out.take();
     for k in 0..n {
-        put(out, first + k);
+        put(&mut own, first + k);
     }
+    *out = own;
 }
 
 // [the n numbers from the first on]
@@ -114,9 +103,11 @@ pub fn each_unit_not(out: &mut Writer<i32>, first: usize, n: usize)
     requires { WithinLimits out.old.place (each_unit_not first n) }
     ensures { Puts out.old (each_unit_not first n) out.new }
 {
+    let mut own = out.take();
     for k in 0..n {
-        unit_not(out, first + k);
+        unit_not(&mut own, first + k);
     }
+    *out = own;
 }
 
 // [−a −b], for the n numbers b from the first on.
@@ -124,9 +115,11 @@ pub fn each_not_both(out: &mut Writer<i32>, a: usize, first: usize, n: usize)
     requires { WithinLimits out.old.place (each_not_both a first n) }
     ensures { Puts out.old (each_not_both a first n) out.new }
 {
+    let mut own = out.take();
     for k in 0..n {
-        not_both(out, a, first + k);
+        not_both(&mut own, a, first + k);
     }
+    *out = own;
 }
 
 // [−a b], for the n numbers b from the first on.
@@ -134,9 +127,11 @@ pub fn each_implies(out: &mut Writer<i32>, a: usize, first: usize, n: usize)
     requires { WithinLimits out.old.place (each_implies a first n) }
     ensures { Puts out.old (each_implies a first n) out.new }
 {
+    let mut own = out.take();
     for k in 0..n {
-        implies(out, a, first + k);
+        implies(&mut own, a, first + k);
     }
+    *out = own;
 }
 
 // [−a −b c], for n numbers b and c that go on from these.
@@ -144,9 +139,11 @@ pub fn each_both_imply(out: &mut Writer<i32>, a: usize, b: usize, c: usize, n: u
     requires { WithinLimits out.old.place (each_both_imply a b c n) }
     ensures { Puts out.old (each_both_imply a b c n) out.new }
 {
+    let mut own = out.take();
     for k in 0..n {
-        both_imply(out, a, b + k, c + k);
+        both_imply(&mut own, a, b + k, c + k);
     }
+    *out = own;
 }
 
 // [−a −b], for each pair of the n numbers from the first on.
