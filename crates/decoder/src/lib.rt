@@ -35,7 +35,8 @@ pub enum DecodeRefusal {
     Rule(RuleRefusal),
 }
 
-// 9: the first value that is not 0 or 1.
+// 9: the first value that is not 0 or 1. (A function of its own as compiled too: its loop takes most of a call, and its speed depends on where it stands.)
+#[inline(never)]
 fn wrong_value(values: &[u8]) -> Option<usize>
     ensures { result ≡ first_where (λ i. ltb 1 (get_or values.now i 0)) (length values.now) }
 {

@@ -19,21 +19,25 @@ fn number(marks: &[u8], k: usize) -> usize
     (marks[k / 2 - 1] / 2) as usize
 }
 
-// The place after the clause that stands at i: after its closing 0, or the list's end.
+// The place after the clause that stands at i: after its closing 0, or the list's end. (It is kept in one variable for both: so the loop, where a step
+// spends much of its time, is compiled shorter than with two results.)
 fn after_clause(list: &[i32], i: usize) -> usize
     requires { i ≤ length list.now }
     ensures { result ≡ i + clause_length (drop i list.now) }
 {
+    let mut after = i;
     for j in i..list.len() {
+        after = j + 1;
         if closes_at(list, j) {
-            return j + 1;
+            return after;
         }
     }
-    list.len()
+    after
 }
 
 // Where the first failed clause begins. At the first literal that is not false the rest of its clause is passed over: so these are no `for`
-// loops.
+// loops. (A function of its own as compiled too: where its loops stand does not depend on what calls it.)
+#[inline(never)]
 pub fn first_failed(list: &[i32], marks: &[u8]) -> Option<usize>
     requires { Within (length marks.now) list.now }
     ensures { result ≡ failed_clause (packed_values marks.now) list.now }
@@ -98,7 +102,8 @@ fn is_forced(list: &[i32], marks: &[u8], place: usize, most: usize) -> bool
 
 // The place of the literal to append: of the clauses that force one, that with the lowest variable, and the earliest of those.
 // The variables up to `most` are lower than the lowest so far. At its first literal that is not false a clause is settled, and its rest passed over:
-// so this is no `for` loop.
+// so this is no `for` loop. (A function of its own as compiled too, as `first_failed` is.)
+#[inline(never)]
 pub fn forced_place(list: &[i32], marks: &[u8]) -> Option<usize>
     requires { Within (length marks.now) list.now }
     ensures { result ≡ forced_place (packed_values marks.now) list.now }

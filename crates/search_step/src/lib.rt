@@ -1,8 +1,7 @@
 // One step of the search: document 01's "Search", the first of its listed steps that applies.
 #![tactic(auto)]
 
-ghost use Rattle.std.specs.Prelude.{◌≡◌, ◌<◌, ◌≤◌, pos, negsuc, neg_ℤ, length, get_or, set};
-ghost use Rattle.cnf.specs.Literals.{most_variables};
+ghost use Rattle.std.specs.Prelude.{◌≡◌, pos, negsuc, length, get_or};
 ghost use Rattle.cnf.specs.Clauses.{clause_number};
 ghost use Rattle.search.specs.Trail.{slices, entry};
 ghost use Rattle.search.specs.Step.{undoes, step};
@@ -10,7 +9,7 @@ ghost use Rattle.search_trail.specs.Packed.{Running};
 ghost use Rattle.search_step.specs.Steps.{ListFits, Allows, appends, step_handed, hands_next};
 
 use search_scan::{clause_number, first_failed, forced_place, last_mark, lowest_unassigned};
-use search_trail::{assign, copy_at, negate_at, unassign};
+use search_trail::{assign, copy_at, negate_at, unassign, write_not};
 
 // After a step: the used count, or an answer.
 #[derive(Clone, Copy)]
@@ -57,14 +56,6 @@ fn append_forced(
     Stepped::MovedTo(used + 1)
 }
 
-// Writes "not" a variable at a place of the trail.
-fn put_not(trail: &mut [i32], i: usize, variable: usize)
-    requires { (i < length trail.old) × (variable ≤ most_variables) }
-    ensures { trail.new ≡ set trail.old i (neg_ℤ (pos variable)) }
-{
-    trail[i] = -(variable as i32);
-}
-
 // Appends a variable, by its index from 0, negated and marked 1, with the number 0.
 fn append_choice(
     trail: &mut [i32],
@@ -78,7 +69,7 @@ fn append_choice(
     ensures { step_handed result trail.new marks.new numbers.new
         ≡ hands_next (appends (entry (negsuc index) 1 0)) (slices trail.old marks.old numbers.old) used }
 {
-    put_not(trail, used, index + 1);
+    write_not(trail, used, index + 1);
     assign(trail, marks, used, 1);
     numbers[used] = 0;
     Stepped::MovedTo(used + 1)

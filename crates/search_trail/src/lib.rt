@@ -2,12 +2,12 @@
 #![tactic(auto)]
 
 ghost use Rattle.std.specs.Prelude.{◌≡◌, ◌++◌, ◌-◌, ◌<◌, ◌≤◌, ◌^◌, pos, neg_ℤ, nat_abs, length, get_or, set, take, replicate};
-ghost use Rattle.cnf.specs.Literals.{code_of};
+ghost use Rattle.cnf.specs.Literals.{code_of, most_variables};
 ghost use Rattle.search_theory.specs.Legal.{Legal};
 ghost use Rattle.search_scan.specs.PackedValues.{bare_marks};
 ghost use Rattle.search_trail.specs.Packed.{packed_trail, packed_marks, Packed, HasByte, with_value, made_true, assigned};
 
-use cnf::code_at;
+use cnf::{code_at, negated};
 
 // Copies a literal of the list to a place of the trail.
 pub fn copy_at(trail: &mut [i32], i: usize, list: &[i32], k: usize)
@@ -26,6 +26,14 @@ pub fn negate_at(trail: &mut [i32], i: usize)
     let l = trail[i];
     let m = -l;
     trail[i] = m;
+}
+
+// Writes "not" a variable at a place of the trail.
+pub fn write_not(trail: &mut [i32], i: usize, variable: usize)
+    requires { (i < length trail.old) × (variable ≤ most_variables) }
+    ensures { trail.new ≡ set trail.old i (neg_ℤ (pos variable)) }
+{
+    trail[i] = negated(variable);
 }
 
 // Puts the number of a value above the mark in the byte of a code's variable.

@@ -6,8 +6,8 @@ use Rattle.cnf.specs.Literals.{most_variables}
 use Rattle.search_step.proofs.Append.{choice_small, choice_put, append_room, append-inside, append-numbered, append_assign, append_steps}
 use Rattle.search_step.proofs.append_choice.Goals as goal
 
-pub put_not-requires : goal.put_not-requires
-put_not-requires c = (append-inside c.requires.running c.requires.allows, choice_small c.requires.running c.requires.allows)
+pub write_not-requires : goal.write_not-requires
+write_not-requires c = (append-inside c.requires.running c.requires.allows, choice_small c.requires.running c.requires.allows)
 
 pub overflow_add-result : goal.overflow_add-result
 overflow_add-result c =
@@ -16,12 +16,12 @@ overflow_add-result c =
 
 pub assign-requires-clause-i_in_bounds : goal.assign-requires-clause-i_in_bounds
 assign-requires-clause-i_in_bounds c =
-    let h = append_assign c.requires.running c.requires.allows (choice_put c.args.trail.now c.args.used c.args.index c.put_not.ensures) in
+    let h = append_assign c.requires.running c.requires.allows (choice_put c.args.trail.now c.args.used c.args.index c.write_not.ensures) in
     (h.0, h.1, omega arith)
 
 pub assign-requires-clause-has_byte : goal.assign-requires-clause-has_byte
 assign-requires-clause-has_byte c =
-    let h = append_assign c.requires.running c.requires.allows (choice_put c.args.trail.now c.args.used c.args.index c.put_not.ensures) in
+    let h = append_assign c.requires.running c.requires.allows (choice_put c.args.trail.now c.args.used c.args.index c.write_not.ensures) in
     h.2
 
 pub offset_bounds-numbers-used : goal.offset_bounds-numbers-used
@@ -34,5 +34,5 @@ bounds-numbers-used c = append-numbered c.requires.running c.requires.allows
 
 pub returns : goal.returns
 returns c =
-    append_steps c.requires.running c.requires.allows (choice_put c.args.trail.now c.args.used c.args.index c.put_not.ensures) (omega arith)
+    append_steps c.requires.running c.requires.allows (choice_put c.args.trail.now c.args.used c.args.index c.write_not.ensures) (omega arith)
     c.assign.ensures refl
