@@ -5,13 +5,14 @@ use mathlib.Core.Path.{◌≡◌, refl, sym, ◌∙◌, ap}
 use mathlib.Core.Bool.{Bool, true, false}
 use mathlib.Core.Logic.{◌↔◌, ◌⊎◌}
 use lib.ListN.{length}
-use Rattle.std.specs.Prelude.{Option, None, Some, Result}
+use Rattle.std.specs.Prelude.{Option, None, Some, Result, Ok, Err}
 use mathlib.Core.List.{List}
 use Rattle.answers.specs.declared.Outcome.{Outcome}
 use Rattle.answers.specs.First.{Least}
 use Rattle.answers.specs.Outcome.{refusal, first_refusal}
 use Rattle.answers.proofs.Rows.{refusals_append, answered_clear, clear_answered}
 use Rattle.rules.specs.declared.Grid.{Grid}
+use Rattle.rules.specs.declared.board.Board as code
 use Rattle.rules.specs.declared.RecordRefusal.{RecordRefusal}
 use Rattle.rules.specs.declared.JudgeRefusal.{JudgeRefusal}
 use Rattle.rules.specs.declared.Direction.{Direction}
@@ -19,6 +20,7 @@ use Rattle.rules.specs.declared.Direction.TheVariants.{North as north, East as e
 use Rattle.rules.specs.declared.Kind.{Kind}
 use Rattle.rules.specs.declared.Kind.TheVariants.{One, Two, Three}
 use Rattle.rules.specs.Record.{grid_of, puzzle, record_rows, record_answer, IsAccepted, parsed_outcome}
+use Rattle.rules.specs.Read.{read_outcome, grid_read}
 use Rattle.rules.specs.Board.{Board, board_of, stops_before_clues}
 use Rattle.rules.specs.Drawing.{Drawing, white, Links, Solution, SolutionBytes}
 use Rattle.rules.specs.Judge.{wrong_byte, clue_not_met, link_unmatched, not_two_links, not_one_loop, judge_rows, judge_answer, says_yes, verdict_outcome}
@@ -89,10 +91,19 @@ module _ {b : Board} (law : Laws b) {D : Drawing} (sol : Solution b D) where
     pub walk_steps : (m : ℕ) × Looped b.size b.next D.link s m
     walk_steps = whole.looped law.wired sol.links first
 
--- Document 01's numbers and values tell the answers apart: two verdicts with the same outcome are the same, and so are two readings of a record.
+-- Document 01's numbers and values tell the answers apart: two verdicts with the same outcome are the same, and so are two grids that were read, or two
+-- refusals; of `rules::record::read`, whose boards also have the record's bytes as they were handed in, the same grids and refusals.
 pub outcome_one_to_one : ((v w : Result Unit JudgeRefusal) → verdict_outcome v ≡ verdict_outcome w → v ≡ w)
     × ((p q : Result Grid RecordRefusal) → parsed_outcome p ≡ parsed_outcome q → p ≡ q)
-outcome_one_to_one = (one_to_one verdicts, one_to_one readings)
+    × ((p q : Result code.Board RecordRefusal) → read_outcome p ≡ read_outcome q → grid_read p ≡ grid_read q)
+outcome_one_to_one = (one_to_one verdicts, one_to_one readings, reads)
+  where
+    told : (p : Result code.Board RecordRefusal) → parsed_outcome (grid_read p) ≡ read_outcome p
+    told (Ok b) = refl
+    told (Err r) = refl
+
+    reads : (p q : Result code.Board RecordRefusal) → read_outcome p ≡ read_outcome q → grid_read p ≡ grid_read q
+    reads p q e = one_to_one readings (grid_read p) (grid_read q) (told p ∙ e ∙ sym (told q))
 
 -- What the reader tells of a record, in the documents' words (document 02, E4 and E12). Of a record of each kind: when it is accepted, and refusals 3 to 5;
 -- that no other is accepted; and refusal 2.
