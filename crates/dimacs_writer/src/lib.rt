@@ -58,22 +58,15 @@ pub fn put_header(out: &mut Writer<u8>, variables: usize, clauses: usize)
     put_field(out, clauses, b'\n');
 }
 
-#[tactic(auto, using(answers::proofs::Putting::putting))]
-fn put_text(out: &mut Writer<u8>, variables: usize, clauses: usize, list: &[i32])
-    requires { out.old.place + (length (header_line variables clauses) + length (lines list.now)) < 2 ^ 64 }
-    ensures { Puts out.old (header_line variables clauses ++ lines list.now) out.new }
-{
-    put_header(out, variables, clauses);
-    put_lines(out, list);
-}
-
 // The header, then one clause a line.
+#[tactic(auto, using(answers::proofs::Putting::putting))]
 pub fn write_text(text: &mut [u8], variables: usize, clauses: usize, list: &[i32]) -> usize
     requires { length (header_line variables clauses) + length (lines list.now) < 2 ^ 64 }
     ensures { Wrote text.old 0 (header_line variables clauses ++ lines list.now) text.new result }
 {
     let mut out = Writer::new(text);
-    put_text(&mut out, variables, clauses, list);
+    put_header(&mut out, variables, clauses);
+    put_lines(&mut out, list);
     out.place()
 }
 

@@ -63,7 +63,7 @@ fn touches_at(drawn: &Drawn, x: usize) -> bool
 }
 
 // The black cells among the j cells of a line that are nearest its far end, counted cell by cell from there towards the clue.
-// The record and x are there to say which line it is.
+// x and d are there to say which line it is.
 fn blacks_nearest(drawn: &Drawn, x: usize, d: Direction, end: End, j: usize) -> usize
     requires cell_value { end.cell ≡ get_or (line (puzzle_on drawn.now.board) d x) 0 x }
     requires j_in_bounds { j ≤ length (line (puzzle_on drawn.now.board) d x) }

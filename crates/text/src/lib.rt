@@ -1,4 +1,4 @@
-// Text in a lent buffer: bytes, words and decimal numbers. What is beyond the buffer's end is left out and counted all the same.
+// Decimal numbers: their widths, and how a writer is given one. What is beyond the buffer's end is left out and counted all the same.
 #![tactic(auto)]
 
 ghost use Rattle.std.specs.Prelude.{◌≡◌, [], ◌∷◌, ◌++◌, ◌+◌, ◌<◌, ◌^◌, length};
